@@ -1,0 +1,52 @@
+// Whole numbers held in 64 bits: sums of weight times value, and the nearest code, exact over ℤ.
+ghost use mathlib.Core.Path.{_≡_};
+ghost use Prim.Native.Nat.{_+_, _*_, _≤_, _<_};
+ghost use lib.IntN.{pos, natAbs, _+ℤ_, _*ℤ_};
+ghost use Rattle.whole.specs.Integers.{up};
+ghost use Rattle.whole.specs.Nearest.{code};
+
+pub struct Whole(pub i64);
+
+impl Whole {
+    // A number that is not negative.
+    pub fn of(n: u64) -> Whole
+        requires { ⌜ n < 9_223_372_036_854_775_808 ⌝ }
+        ensures { λ r. ⌜ r .0 ≡ pos n ⌝ }
+    {
+        Whole(n as i64)
+    }
+
+    // A weight times a value.
+    pub fn times(self, value: Whole) -> Whole
+        requires { ⌜ natAbs (self .0) * natAbs (value .0) < 9_223_372_036_854_775_808 ⌝ }
+        ensures { λ r. ⌜ r .0 ≡ self .0 *ℤ value .0 ⌝ }
+    {
+        Whole(self.0 * value.0)
+    }
+
+    pub fn plus(self, other: Whole) -> Whole
+        requires { ⌜ natAbs (self .0) + natAbs (other .0) < 9_223_372_036_854_775_808 ⌝ }
+        ensures { λ r. ⌜ r .0 ≡ self .0 +ℤ other .0 ⌝ }
+    {
+        Whole(self.0 + other.0)
+    }
+
+    // How far it is above 0.
+    pub fn above(self) -> u64
+        ensures { λ r. ⌜ r ≡ up (self .0) ⌝ }
+    {
+        let s = self.0;
+        if s < 0 { 0 } else { s as u64 }
+    }
+
+    // The code from 0 to m that is nearest to self / den, the greater of two equally near.
+    pub fn nearest(self, den: u64, m: u64) -> u64
+        requires { ⌜ 0 < den ⌝ }
+        requires { ⌜ 2 * natAbs (self .0) + 2 * den ≤ 18_446_744_073_709_551_615 ⌝ }
+        ensures { λ r. ⌜ r ≡ code (self .0) den m ⌝ }
+    {
+        let n = self.above();
+        let q = (2 * n + den) / (2 * den);
+        if q < m { q } else { m }
+    }
+}
