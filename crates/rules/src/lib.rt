@@ -1,1 +1,190 @@
-// The types of document 01.
+// The types of document 01. What the calls answer and promise over them is in specs/, the theorems are in proofs/.
+ghost use mathlib.Core.Path.{_≡_};
+ghost use Rattle.rules.specs.Units.{depthOf};
+
+// ---- units and depths
+
+// A domain bound, in thousandths.
+pub struct Thousandths(pub i64);
+
+// A sample, in ten-millionths.
+pub struct TenMillionths(pub i64);
+
+// A depth, held as its greatest code M.
+pub struct Depth {
+    pub greatest: u16,
+}
+
+pub enum DepthFound {
+    Known(Depth),
+    Unknown,
+}
+
+impl Depth {
+    pub const BITS_8: u16 = 255;
+
+    pub const BITS_10: u16 = 1023;
+
+    pub const BITS_12: u16 = 4095;
+
+    pub const BITS_16: u16 = 65535;
+
+    // The depth of a width in bits; four widths are known.
+    pub fn of(bits: u32) -> DepthFound
+        ensures { λ r. ⌜ r ≡ depthOf bits ⌝ }
+    {
+        match bits {
+            8 => DepthFound::Known(Depth {
+                greatest: Depth::BITS_8,
+            }),
+            10 => DepthFound::Known(Depth {
+                greatest: Depth::BITS_10,
+            }),
+            12 => DepthFound::Known(Depth {
+                greatest: Depth::BITS_12,
+            }),
+            16 => DepthFound::Known(Depth {
+                greatest: Depth::BITS_16,
+            }),
+            _ => DepthFound::Unknown,
+        }
+    }
+}
+
+// ---- a table's description
+
+pub enum Colour {
+    Red,
+    Green,
+    Blue,
+}
+
+pub enum Kind {
+    OneD,
+    ThreeD,
+}
+
+// What a size line gives.
+pub struct Size {
+    pub kind: Kind,
+    pub n: usize,
+}
+
+// One colour's domain.
+pub struct Domain {
+    pub lower: Thousandths,
+    pub upper: Thousandths,
+}
+
+// Whether there is a title, its first byte's place in the file, counted from 0, and its length.
+pub struct Title {
+    pub there: bool,
+    pub place: usize,
+    pub length: usize,
+}
+
+pub struct Description {
+    pub kind: Kind,
+    pub n: usize,
+    pub red: Domain,
+    pub green: Domain,
+    pub blue: Domain,
+    pub title: Title,
+}
+
+// ---- what words and lines give
+
+// What a word says as a number, in units, within a limit.
+pub enum Number {
+    Value(i64),
+    Malformed,
+    Beyond,
+    Finer,
+}
+
+// The three numbers of a DOMAIN_MIN or DOMAIN_MAX line.
+pub struct Bounds {
+    pub red: Thousandths,
+    pub green: Thousandths,
+    pub blue: Thousandths,
+}
+
+// The three numbers of a data line.
+pub struct Row {
+    pub red: TenMillionths,
+    pub green: TenMillionths,
+    pub blue: TenMillionths,
+}
+
+// ---- pixels, rows and weights
+
+// One code of each colour: a pixel, and its answer.
+pub struct Codes {
+    pub red: u16,
+    pub green: u16,
+    pub blue: u16,
+}
+
+// A row of the table, and the weight that it carries.
+pub struct Share {
+    pub row: usize,
+    pub weight: i64,
+}
+
+// The six rows and weights of a look: in 1D two for each colour, in 3D four for the pixel and two of zeros.
+pub struct Shares {
+    pub first: Share,
+    pub second: Share,
+    pub third: Share,
+    pub fourth: Share,
+    pub fifth: Share,
+    pub sixth: Share,
+}
+
+// ---- answers
+
+// Why a call refuses, in the order of document 01's numbers.
+pub enum Refusal {
+    LineTooLong,
+    ByteNotPermitted,
+    NeitherDataNorKeyword,
+    KeywordAfterData,
+    KeywordRepeated,
+    ParametersWrong,
+    SizeOutOfRange,
+    DomainNumberWrong,
+    NoSize,
+    LowerNotBelowUpper,
+    DomainTooWide,
+    DomainsDiffer,
+    TableTooShort,
+    TooManyRows,
+    NotThreeNumbers,
+    SampleBeyond,
+    SampleTooFine,
+    TooFewRows,
+    DepthUnknown,
+    PictureNotPixels,
+    OutputTooShort,
+    CodeTooGreat,
+    CouldNotBeRead,
+    InputTooLong,
+}
+
+// What reading answers.
+pub enum Read {
+    Accepted(Description),
+    Refused { reason: Refusal, line: usize },
+}
+
+// What look answers.
+pub enum Look {
+    Accepted { codes: Codes, shares: Shares },
+    Refused(Refusal),
+}
+
+// What picture answers; the corrected codes stand in the lent output.
+pub enum Picture {
+    Accepted,
+    Refused(Refusal),
+}

@@ -1,0 +1,90 @@
+-- Document 01, "Answers by number": for each case of each answer, the paper's number and values.
+use Prim.Native.Nat.{ℕ}
+use mathlib.Core.List.{List, [], _∷_, map}
+use lib.IntN.{ℤ}
+use Rattle.rules.specs.Descriptions.{zeros}
+use Rattle.rules.specs.Looking.{six}
+use Rattle.rules.specs.declared.Codes.{Codes}
+use Rattle.rules.specs.declared.Description.{Description}
+use Rattle.rules.specs.declared.Look.{Look}
+use Rattle.rules.specs.declared.Look.the-variants as L
+use Rattle.rules.specs.declared.Picture.{Picture}
+use Rattle.rules.specs.declared.Picture.the-variants as P
+use Rattle.rules.specs.declared.Read.{Read}
+use Rattle.rules.specs.declared.Read.the-variants as R
+use Rattle.rules.specs.declared.Refusal.{Refusal}
+use Rattle.rules.specs.declared.Refusal.the-variants.{LineTooLong, ByteNotPermitted, NeitherDataNorKeyword, KeywordAfterData, KeywordRepeated, ParametersWrong, SizeOutOfRange, DomainNumberWrong, NoSize, LowerNotBelowUpper, DomainTooWide, DomainsDiffer, TableTooShort, TooManyRows, NotThreeNumbers, SampleBeyond, SampleTooFine, TooFewRows, DepthUnknown, PictureNotPixels, OutputTooShort, CodeTooGreat, CouldNotBeRead, InputTooLong}
+use Rattle.rules.specs.declared.Share.{Share}
+use Rattle.rules.specs.declared.Shares.{Shares}
+
+unfoldable pub refusalNumber : Refusal → ℕ
+refusalNumber LineTooLong = 1
+refusalNumber ByteNotPermitted = 2
+refusalNumber NeitherDataNorKeyword = 3
+refusalNumber KeywordAfterData = 4
+refusalNumber KeywordRepeated = 5
+refusalNumber ParametersWrong = 6
+refusalNumber SizeOutOfRange = 7
+refusalNumber DomainNumberWrong = 8
+refusalNumber NoSize = 9
+refusalNumber LowerNotBelowUpper = 10
+refusalNumber DomainTooWide = 11
+refusalNumber DomainsDiffer = 12
+refusalNumber TableTooShort = 13
+refusalNumber TooManyRows = 14
+refusalNumber NotThreeNumbers = 15
+refusalNumber SampleBeyond = 16
+refusalNumber SampleTooFine = 17
+refusalNumber TooFewRows = 18
+refusalNumber DepthUnknown = 20
+refusalNumber PictureNotPixels = 21
+refusalNumber OutputTooShort = 22
+refusalNumber CodeTooGreat = 23
+refusalNumber CouldNotBeRead = 24
+refusalNumber InputTooLong = 30
+
+-- ---- reading: number, line, description
+
+abbrev pub readNumber : Read → ℕ
+readNumber (R.Accepted d) = 0
+readNumber (R.Refused r n) = refusalNumber r
+
+abbrev pub readLine : Read → ℕ
+readLine (R.Accepted d) = 0
+readLine (R.Refused r n) = n
+
+abbrev pub readDescription : Read → Description
+readDescription (R.Accepted d) = d
+readDescription (R.Refused r n) = zeros
+
+-- ---- look: number, three codes, six rows, six weights; a refusal gives zeros
+
+abbrev pub lookNumber : Look → ℕ
+lookNumber (L.Accepted c s) = 0
+lookNumber (L.Refused r) = refusalNumber r
+
+abbrev pub codesOf : Codes → List ℕ
+codesOf c = c .red ∷ c .green ∷ c .blue ∷ []
+
+abbrev pub sharesOf : Shares → List Share
+sharesOf s = s .first ∷ s .second ∷ s .third ∷ s .fourth ∷ s .fifth ∷ s .sixth ∷ []
+
+abbrev pub lookCodes : Look → List ℕ
+lookCodes (L.Accepted c s) = codesOf c
+lookCodes (L.Refused r) = 0 ∷ 0 ∷ 0 ∷ []
+
+abbrev pub lookShares : Look → List Share
+lookShares (L.Accepted c s) = sharesOf s
+lookShares (L.Refused r) = sharesOf (six [])
+
+abbrev pub lookRows : Look → List ℕ
+lookRows a = map (λ (s : Share). s .row) (lookShares a)
+
+abbrev pub lookWeights : Look → List ℤ
+lookWeights a = map (λ (s : Share). s .weight) (lookShares a)
+
+-- ---- picture: number
+
+abbrev pub pictureNumber : Picture → ℕ
+pictureNumber P.Accepted = 0
+pictureNumber (P.Refused r) = refusalNumber r

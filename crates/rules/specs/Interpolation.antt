@@ -1,0 +1,155 @@
+-- Document 01, "Interpolation".
+use Prim.Native.Nat.{ℕ, _+_, _-_, _*_, _/_, min}
+use mathlib.Core.Bool.{cond}
+use mathlib.Core.List.{List, [], _∷_, map}
+use lib.Dec.{leb}
+use lib.IntN.{ℤ, pos, _-ℤ_, _*ℤ_}
+use Rattle.whole.specs.Integers.{up}
+use Rattle.whole.specs.Nearest.{code, weighedSum}
+use Rattle.rules.specs.Units.{sampleOne, boundOne, rowAt, stride, sampleAt, codeIn}
+use Rattle.rules.specs.Descriptions.{domain, width}
+use Rattle.rules.specs.declared.Codes.{Codes}
+use Rattle.rules.specs.declared.Colour.{Colour}
+use Rattle.rules.specs.declared.Colour.the-variants.{Red, Green, Blue}
+use Rattle.rules.specs.declared.Description.{Description}
+use Rattle.rules.specs.declared.Domain.{Domain}
+use Rattle.rules.specs.declared.Kind.{Kind}
+use Rattle.rules.specs.declared.Kind.the-variants.{OneD, ThreeD}
+use Rattle.rules.specs.declared.Share.{Share}
+
+-- ---- the position of one colour with code c; m is M, den is D
+
+module _ (m : ℕ) (dom : Domain) where
+  -- D = M·w
+  abbrev pub den : ℕ
+  den = m * width dom
+
+  -- a: 1000·c − lo·M, moved to 0 if less and to D if more
+  unfoldable pub offset : ℕ → ℕ
+  offset c = min den (up (pos (boundOne * c) -ℤ (pos m *ℤ dom .lower .0)))
+
+  -- p = a·(N−1)
+  unfoldable pub position : ℕ → ℕ → ℕ
+  position n c = offset c * (n - 1)
+
+  -- i: the smaller of p div D and N−2
+  unfoldable pub index : ℕ → ℕ → ℕ
+  index n c = min (position n c / den) (n - 2)
+
+  -- f = p − i·D
+  unfoldable pub fraction : ℕ → ℕ → ℕ
+  fraction n c = position n c - index n c * den
+
+-- ---- rows and weights
+
+abbrev pub share : ℕ → ℕ → Share
+share row weight = record { row = row; weight = pos weight }
+
+-- 1D: rows i and i+1, weights D−f and f
+unfoldable pub pairBy : ℕ → ℕ → ℕ → List Share
+pairBy den i f = share i (den - f) ∷ share (i + 1) f ∷ []
+
+-- 3D: an order of the axes
+pub data Order : Type 0 where
+  rgb rbg brg grb gbr bgr : Order
+
+abbrev pub 1st : Order → Colour
+1st rgb = Red
+1st rbg = Red
+1st brg = Blue
+1st grb = Green
+1st gbr = Green
+1st bgr = Blue
+
+abbrev pub 2nd : Order → Colour
+2nd rgb = Green
+2nd rbg = Blue
+2nd brg = Red
+2nd grb = Red
+2nd gbr = Blue
+2nd bgr = Green
+
+abbrev pub 3rd : Order → Colour
+3rd rgb = Blue
+3rd rbg = Green
+3rd brg = Green
+3rd grb = Blue
+3rd gbr = Red
+3rd bgr = Red
+
+-- the greatest fraction first; equal ones stand red, green, blue
+unfoldable pub order : (Colour → ℕ) → Order
+order f =
+    cond (leb (f Green) (f Red))
+    (cond (leb (f Blue) (f Green)) rgb
+    (cond (leb (f Blue) (f Red)) rbg
+    brg))
+    (cond (leb (f Blue) (f Red)) grb
+    (cond (leb (f Blue) (f Green)) gbr
+    bgr))
+
+-- four rows from a start, by three steps: weights D − f1, f1 − f2, f2 − f3, f3
+unfoldable pub climb : ℕ → ℕ → ℕ → ℕ → ℕ → ℕ → ℕ → ℕ → List Share
+climb start den f1 f2 f3 s1 s2 s3 =
+    share start (den - f1)
+    ∷ share (start + s1) (f1 - f2)
+    ∷ share (start + s1 + s2) (f2 - f3)
+    ∷ share (start + s1 + s2 + s3) f3
+    ∷ []
+
+-- from the row of the three i, one index up along each axis in that order
+unfoldable pub pathBy : ℕ → ℕ → (Colour → ℕ) → (Colour → ℕ) → Order → List Share
+pathBy n den i f o =
+    climb (rowAt n i) den (f (1st o)) (f (2nd o)) (f (3rd o)) (stride n (1st o)) (stride n (2nd o)) (stride n (3rd o))
+
+-- ---- what a pixel has by this rule; m is the M of the pixel's own codes
+
+-- the D of a colour, over which its fraction is
+abbrev pub denOf : Description → ℕ → Colour → ℕ
+denOf d m c = den m (domain d c)
+
+module _ (d : Description) (m : ℕ) (pixel : Codes) where
+  abbrev pub positionOf : Colour → ℕ
+  positionOf c = position m (domain d c) (d .n) (codeIn pixel c)
+
+  abbrev pub indexOf : Colour → ℕ
+  indexOf c = index m (domain d c) (d .n) (codeIn pixel c)
+
+  abbrev pub fractionOf : Colour → ℕ
+  fractionOf c = fraction m (domain d c) (d .n) (codeIn pixel c)
+
+  -- 1D: each colour has its own D
+  unfoldable pub pair : Colour → List Share
+  pair c = pairBy (denOf d m c) (indexOf c) (fractionOf c)
+
+  -- 3D: the three colours have one domain, so one D
+  unfoldable pub path : List Share
+  path = pathBy (d .n) (denOf d m Red) indexOf fractionOf (order fractionOf)
+
+  -- the rows and weights that make a colour's code
+  abbrev pub sharesFor : Kind → Colour → List Share
+  sharesFor OneD c = pair c
+  sharesFor ThreeD c = path
+
+-- ---- the exact value and its code
+
+-- the weights of shares, and their rows' samples of a colour
+abbrev pub weighed : List ℤ → Colour → List Share → List (ℤ × ℤ)
+weighed table c ss = map (λ (s : Share). (s .weight, sampleAt table (s .row) c)) ss
+
+-- S, the sum of weight times sample
+abbrev pub total : List ℤ → Colour → List Share → ℤ
+total table c ss = weighedSum (weighed table c ss)
+
+-- the exact value is S / (D·10,000,000)
+abbrev pub denominator : ℕ → ℕ
+denominator den = den * sampleOne
+
+-- as a code it is that times M; the code given is the nearest from 0 to M, the greater of two equally near.
+-- Here m is the M of the corrected codes, and den is what the weights add up to.
+unfoldable pub codeBy : ℕ → ℕ → List ℤ → Colour → List Share → ℕ
+codeBy m den table c ss = code (pos m *ℤ total table c ss) (denominator den) m
+
+-- a row's code is the code so given where that row alone carries the weight
+abbrev pub rowCode : ℕ → ℕ → List ℤ → Colour → ℕ → ℕ
+rowCode m den table c row = codeBy m den table c (share row den ∷ [])

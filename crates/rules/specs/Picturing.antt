@@ -1,0 +1,52 @@
+-- Document 01, "Answers by number": picture, a run of pixels to corrected codes.
+use Prim.Native.Nat.{ℕ, _%_}
+use mathlib.Core.Bool.{cond}
+use mathlib.Core.List.{List, [], _∷_, _++_}
+use lib.Dec.{eqb, leb}
+use lib.IntN.{ℤ}
+use lib.ListN.{length, drop}
+use Rattle.rules.specs.Units.{depthOf}
+use Rattle.rules.specs.Descriptions.{couldBeRead}
+use Rattle.rules.specs.Lines.{every}
+use Rattle.rules.specs.Looking.{look}
+use Rattle.rules.specs.Answers.{lookCodes}
+use Rattle.rules.specs.declared.Codes.{Codes}
+use Rattle.rules.specs.declared.DepthFound.{DepthFound}
+use Rattle.rules.specs.declared.DepthFound.the-variants.{Known, Unknown}
+use Rattle.rules.specs.declared.Description.{Description}
+use Rattle.rules.specs.declared.Picture.{Picture}
+use Rattle.rules.specs.declared.Picture.the-variants.{Accepted, Refused}
+use Rattle.rules.specs.declared.Refusal.the-variants.{DepthUnknown, PictureNotPixels, OutputTooShort, CodeTooGreat, CouldNotBeRead}
+
+abbrev pub pixelOf : ℕ → ℕ → ℕ → Codes
+pixelOf r g b = record { red = r; green = g; blue = b }
+
+-- the codes of look, pixel by pixel
+unfoldable pub corrected : Description → List ℤ → ℕ → List ℕ → List ℕ
+corrected d table bits [] = []
+corrected d table bits (r ∷ []) = []
+corrected d table bits (r ∷ g ∷ []) = []
+corrected d table bits (r ∷ g ∷ b ∷ rest) = lookCodes (look d table bits (pixelOf r g b)) ++ corrected d table bits rest
+
+-- 21, 22, 23 at a known depth with greatest code m, of a picture and the places of the output
+unfoldable pub pictureWith : ℕ → List ℕ → ℕ → Picture
+pictureWith m src places =
+    cond (eqb (length src % 3) 0)
+    (cond (leb (length src) places)
+    (cond (every (λ c. leb c m) src) Accepted
+    (Refused CodeTooGreat))
+    (Refused OutputTooShort))
+    (Refused PictureNotPixels)
+
+abbrev pub pictureAt : DepthFound → List ℕ → ℕ → Picture
+pictureAt Unknown src places = Refused DepthUnknown
+pictureAt (Known m) src places = pictureWith (m .greatest) src places
+
+-- the checks run 24, 20, 21, 22, 23
+unfoldable pub picture : Description → List ℤ → ℕ → List ℕ → ℕ → Picture
+picture d table bits src places = cond (couldBeRead d table) (pictureAt (depthOf bits) src places) (Refused CouldNotBeRead)
+
+-- the output afterwards: as many codes as the picture has, later places as they were; after a refusal as it was
+unfoldable pub outputAfter : Description → List ℤ → ℕ → List ℕ → List ℕ → Picture → List ℕ
+outputAfter d table bits src dst Accepted = corrected d table bits src ++ drop (length src) dst
+outputAfter d table bits src dst (Refused r) = dst

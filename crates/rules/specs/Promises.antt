@@ -1,0 +1,34 @@
+-- Document 01, "What the signature covers": the promises of reading, look and picture, over input, answer and lent memory.
+use Prim.Native.Nat.{ℕ}
+use mathlib.Core.Path.{_≡_}
+use mathlib.Core.List.{List}
+use lib.ListN.{length}
+use lib.IntN.{ℤ}
+use Rattle.rules.specs.Reading.{read, tableAfter}
+use Rattle.rules.specs.Looking.{look}
+use Rattle.rules.specs.Picturing.{picture, outputAfter}
+use Rattle.rules.specs.Answers.{readNumber, readLine, readDescription, lookNumber, lookCodes, lookRows, lookWeights, pictureNumber}
+use Rattle.rules.specs.declared.Codes.{Codes}
+use Rattle.rules.specs.declared.Description.{Description}
+use Rattle.rules.specs.declared.Look.{Look}
+use Rattle.rules.specs.declared.Picture.{Picture}
+use Rattle.rules.specs.declared.Read.{Read}
+
+-- reading the file into the table answers r, and the table is table′ afterwards
+pub record Reads (file : List ℕ) (table : List ℤ) (r : Read) (table′ : List ℤ) : Type 0 where
+  pub number : readNumber r ≡ readNumber (read file (length table))
+  pub line : readLine r ≡ readLine (read file (length table))
+  pub description : readDescription r ≡ readDescription (read file (length table))
+  pub memory : table′ ≡ tableAfter file table (read file (length table))
+
+-- looking at one pixel of a depth of so many bits answers r
+pub record Looks (d : Description) (table : List ℤ) (bits : ℕ) (pixel : Codes) (r : Look) : Type 0 where
+  pub number : lookNumber r ≡ lookNumber (look d table bits pixel)
+  pub codes : lookCodes r ≡ lookCodes (look d table bits pixel)
+  pub rows : lookRows r ≡ lookRows (look d table bits pixel)
+  pub weights : lookWeights r ≡ lookWeights (look d table bits pixel)
+
+-- correcting the picture src into dst answers r, and the output is dst′ afterwards
+pub record Pictures (d : Description) (table : List ℤ) (bits : ℕ) (src dst : List ℕ) (r : Picture) (dst′ : List ℕ) : Type 0 where
+  pub number : pictureNumber r ≡ pictureNumber (picture d table bits src (length dst))
+  pub memory : dst′ ≡ outputAfter d table bits src dst (picture d table bits src (length dst))
