@@ -1,0 +1,390 @@
+-- The order of the lines: what the judge admits, item by item, is what the property says of all items.
+use Prim.Native.Nat.{ℕ, _+_, _≤_, _<_}
+use mathlib.Core.Path.{_≡_, refl, sym, ap, _∙_}
+use mathlib.Core.Bool.{Bool, true, false, cond, not}
+use mathlib.Core.List.{List, [], _∷_}
+use mathlib.Core.Option.{Option, none, some}
+use native.Mathlib.Omega.{arith}
+use borrow.Author.Tests.{ltb-true, lt-ltb, eqb-true, eqb-false}
+use lib.Dec.{eqb}
+use lib.ListN.{length}
+use Rattle.rules.specs.Descriptions.{description, highest, lowest, noTitle, rows}
+use Rattle.rules.specs.Items.{Item, aLower as kLower, aSize as kSize, aTitle as kTitle, anUpper as kUpper, lower, lowerIn, nothing, row, rowIn, size, sizeIn, title, titleIn, upper, upperIn}
+use Rattle.rules.specs.Grammar.{AtMostOne, KeywordsFirst, NoKeyword, gather, isKeyword, isRow, put}
+use Rattle.rules.specs.Content.{Form, data-line, idle, keyword}
+use Rattle.rules.specs.Judge.{State, add, counted, describe, domainFault, given, headFault, need, newer, noSize, orElse, orderFault, repeats}
+use Rattle.rules.specs.declared.Description.{Description}
+use Rattle.rules.specs.declared.Title.{Title}
+use Rattle.rules.specs.declared.Bounds.{Bounds}
+use Rattle.rules.specs.declared.Size.{Size}
+use Rattle.rules.specs.declared.Row.{Row}
+use Rattle.rules.specs.declared.Refusal.the-variants.{NoSize}
+use Rattle.rules.proofs.Tests.{no-some, no-true, need-none, none-need, first-none, none-first}
+
+-- the form of a line that gives an item
+abbrev pub formFor : Item → Form
+formFor nothing = idle
+formFor (title t) = keyword kTitle
+formFor (lower b) = keyword kLower
+formFor (upper b) = keyword kUpper
+formFor (size s) = keyword (kSize (s .kind))
+formFor (row r) = data-line
+
+abbrev pub Admits : ℕ → State → Item → Type 0
+Admits places st i = orderFault places st (formFor i) ≡ none
+
+abbrev pub Admitted : ℕ → State → List Item → Type 0
+Admitted places st [] = Unit
+Admitted places st (i ∷ is) = Admits places st i × Admitted places (add st i) is
+
+abbrev pub final : State → List Item → State
+final st [] = st
+final st (i ∷ is) = final (add st i) is
+
+-- ---- at most once, of one sort of item and the state's field for it
+
+abbrev pub Once : {A : Type 0} → Option A → List A → Option A → Type 0
+Once s [] r = r ≡ s
+Once s (a ∷ xs) r = (s ≡ none) × Once (some a) xs r
+
+pub given-once : {A : Type 0} (default : A) (xs : List A) (o : Option A) → Once none xs o → AtMostOne xs default (orElse default o)
+given-once default [] o h = rw h
+given-once default (a ∷ []) o h = rw (h .1)
+given-once default (a ∷ b ∷ more) o h = absurd (no-some a (h .1 .0))
+
+pub once-given : {A : Type 0} (default : A) (xs : List A) (x : A) → AtMostOne xs default x → (o : Option A) × Once none xs o × (x ≡ orElse default o)
+once-given default [] x h = (none, refl, h)
+once-given default (a ∷ []) x h = (some a, (refl, refl), h)
+once-given default (a ∷ b ∷ more) x h = absurd h
+
+module _ {A : Type 0} (pick : Item → Option A) (slot : State → Option A)
+    (adds : (st : State) (i : Item) → slot (add st i) ≡ newer (pick i) (slot st))
+    (once : (places : ℕ) (st : State) (i : Item) (a : A) → Admits places st i → pick i ≡ some a → slot st ≡ none)
+    (sort : (i : Item) → isKeyword i ≡ false → pick i ≡ none) where
+  pub filled : (places : ℕ) (st : State) (is : List Item) → Admitted places st is → Once (slot st) (gather pick is) (slot (final st is))
+  unfolding gather
+  filled places st [] h = refl
+  filled places st (i ∷ is) h = split (pick i) refl (rw (adds st i) at (filled places (add st i) is (h .1)))
+    where
+      split : (o : Option A) → pick i ≡ o → Once (newer (pick i) (slot st)) (gather pick is) (slot (final st (i ∷ is)))
+          → Once (slot st) (put o (gather pick is)) (slot (final st (i ∷ is)))
+      split none e r = rw e at r
+      split (some a) e r = (once places st i a (h .0) e, rw e at r)
+
+  -- an item taken in leaves what the rest must give
+  pub passed : (st : State) (i : Item) (is : List Item) (r : Option A) → Once (slot st) (gather pick (i ∷ is)) r → Once (slot (add st i)) (gather pick is) r
+  unfolding gather
+  passed st i is r h = rw (adds st i) (split (pick i) h)
+    where
+      split : (o : Option A) → Once (slot st) (put o (gather pick is)) r → Once (newer o (slot st)) (gather pick is) r
+      split none g = g
+      split (some a) g = g .1
+
+  pub open-slot : (st : State) (i : Item) (is : List Item) (r : Option A) (a : A) → Once (slot st) (gather pick (i ∷ is)) r → pick i ≡ some a → slot st ≡ none
+  unfolding gather
+  open-slot st i is r a h e = (rw e at h) .0
+
+  -- with no keyword left the field is what it was
+  pub settled : (st : State) (is : List Item) (r : Option A) → NoKeyword is → Once (slot st) (gather pick is) r → r ≡ slot st
+  unfolding gather
+  settled st [] r k h = h
+  settled st (i ∷ is) r k h = settled st is r (k .1) (rw (sort i (k .0)) at h)
+
+-- ---- the four sorts
+
+keyword-once : (places : ℕ) (st : State) (i : Item) → Admits places st i → isKeyword i ≡ true → st .rows ≡ 0
+unfolding orderFault
+keyword-once places st nothing h k = absurd (no-true (sym k))
+keyword-once places st (title t) h k = eqb-true (st .rows) 0 (need-none _ _ _ h .0)
+keyword-once places st (lower b) h k = eqb-true (st .rows) 0 (need-none _ _ _ h .0)
+keyword-once places st (upper b) h k = eqb-true (st .rows) 0 (need-none _ _ _ h .0)
+keyword-once places st (size s) h k = eqb-true (st .rows) 0 (need-none _ _ _ h .0)
+keyword-once places st (row r) h k = absurd (no-true (sym k))
+
+not-given : {A : Type 0} (o : Option A) → not (given o) ≡ true → o ≡ none
+not-given none h = refl
+not-given (some a) h = absurd (no-true (sym h))
+
+none-picked : {A : Type 0} (a : A) (X : Type 0) → _≡_ {A = Option A} none (some a) → X
+none-picked a X e = absurd (no-some a (sym e))
+
+title-adds : (st : State) (i : Item) → (add st i) .title ≡ newer (titleIn i) (st .title)
+unfolding add
+title-adds st i = refl
+
+title-once : (places : ℕ) (st : State) (i : Item) (a : Title) → Admits places st i → titleIn i ≡ some a → st .title ≡ none
+unfolding orderFault repeats
+title-once places st nothing a h e = none-picked a _ e
+title-once places st (title t) a h e = not-given (st .title) (need-none _ _ _ (need-none _ _ _ h .1) .0)
+title-once places st (lower b) a h e = none-picked a _ e
+title-once places st (upper b) a h e = none-picked a _ e
+title-once places st (size s) a h e = none-picked a _ e
+title-once places st (row r) a h e = none-picked a _ e
+
+title-sort : (i : Item) → isKeyword i ≡ false → titleIn i ≡ none
+title-sort nothing h = refl
+title-sort (title t) h = absurd (no-true h)
+title-sort (lower b) h = refl
+title-sort (upper b) h = refl
+title-sort (size s) h = refl
+title-sort (row r) h = refl
+
+lower-adds : (st : State) (i : Item) → (add st i) .lower ≡ newer (lowerIn i) (st .lower)
+unfolding add
+lower-adds st i = refl
+
+lower-once : (places : ℕ) (st : State) (i : Item) (a : Bounds) → Admits places st i → lowerIn i ≡ some a → st .lower ≡ none
+unfolding orderFault repeats
+lower-once places st nothing a h e = none-picked a _ e
+lower-once places st (title t) a h e = none-picked a _ e
+lower-once places st (lower b) a h e = not-given (st .lower) (need-none _ _ _ (need-none _ _ _ h .1) .0)
+lower-once places st (upper b) a h e = none-picked a _ e
+lower-once places st (size s) a h e = none-picked a _ e
+lower-once places st (row r) a h e = none-picked a _ e
+
+lower-sort : (i : Item) → isKeyword i ≡ false → lowerIn i ≡ none
+lower-sort nothing h = refl
+lower-sort (title t) h = refl
+lower-sort (lower b) h = absurd (no-true h)
+lower-sort (upper b) h = refl
+lower-sort (size s) h = refl
+lower-sort (row r) h = refl
+
+upper-adds : (st : State) (i : Item) → (add st i) .upper ≡ newer (upperIn i) (st .upper)
+unfolding add
+upper-adds st i = refl
+
+upper-once : (places : ℕ) (st : State) (i : Item) (a : Bounds) → Admits places st i → upperIn i ≡ some a → st .upper ≡ none
+unfolding orderFault repeats
+upper-once places st nothing a h e = none-picked a _ e
+upper-once places st (title t) a h e = none-picked a _ e
+upper-once places st (lower b) a h e = none-picked a _ e
+upper-once places st (upper b) a h e = not-given (st .upper) (need-none _ _ _ (need-none _ _ _ h .1) .0)
+upper-once places st (size s) a h e = none-picked a _ e
+upper-once places st (row r) a h e = none-picked a _ e
+
+upper-sort : (i : Item) → isKeyword i ≡ false → upperIn i ≡ none
+upper-sort nothing h = refl
+upper-sort (title t) h = refl
+upper-sort (lower b) h = refl
+upper-sort (upper b) h = absurd (no-true h)
+upper-sort (size s) h = refl
+upper-sort (row r) h = refl
+
+size-adds : (st : State) (i : Item) → (add st i) .size ≡ newer (sizeIn i) (st .size)
+unfolding add
+size-adds st i = refl
+
+size-once : (places : ℕ) (st : State) (i : Item) (a : Size) → Admits places st i → sizeIn i ≡ some a → st .size ≡ none
+unfolding orderFault repeats
+size-once places st nothing a h e = none-picked a _ e
+size-once places st (title t) a h e = none-picked a _ e
+size-once places st (lower b) a h e = none-picked a _ e
+size-once places st (upper b) a h e = none-picked a _ e
+size-once places st (size s) a h e = not-given (st .size) (need-none _ _ _ (need-none _ _ _ h .1) .0)
+size-once places st (row r) a h e = none-picked a _ e
+
+size-sort : (i : Item) → isKeyword i ≡ false → sizeIn i ≡ none
+size-sort nothing h = refl
+size-sort (title t) h = refl
+size-sort (lower b) h = refl
+size-sort (upper b) h = refl
+size-sort (size s) h = absurd (no-true h)
+size-sort (row r) h = refl
+
+-- ---- keywords before data
+
+admits-keywords : (places : ℕ) (st : State) (i : Item) → Admits places st i → 0 < st .rows → isKeyword i ≡ false
+admits-keywords places st i h p = split (isKeyword i) refl
+  where
+    split : (t : Bool) → isKeyword i ≡ t → isKeyword i ≡ false
+    split true e = absurd (omega (arith, keyword-once places st i h e))
+    split false e = e
+
+-- data lines are counted
+rows-add : (st : State) (i : Item) → (add st i) .rows ≡ st .rows + length (put (rowIn i) [])
+unfolding add
+rows-add st i = split (rowIn i)
+  where
+    split : (o : Option Row) → counted o (st .rows) ≡ st .rows + length (put o [])
+    split none = omega arith
+    split (some r) = omega arith
+
+length-put : (o : Option Row) (xs : List Row) → length (put o xs) ≡ length (put o []) + length xs
+length-put none xs = omega arith
+length-put (some a) xs = omega arith
+
+pub rows-final : (st : State) (is : List Item) → (final st is) .rows ≡ st .rows + length (gather rowIn is)
+unfolding gather
+rows-final st [] = omega arith
+rows-final st (i ∷ is) = omega (arith, rows-final (add st i) is, rows-add st i, length-put (rowIn i) (gather rowIn is))
+
+row-there : (i : Item) → isRow i ≡ true → length (put (rowIn i) []) ≡ 1
+row-there nothing h = absurd (no-true (sym h))
+row-there (title t) h = absurd (no-true (sym h))
+row-there (lower b) h = absurd (no-true (sym h))
+row-there (upper b) h = absurd (no-true (sym h))
+row-there (size s) h = absurd (no-true (sym h))
+row-there (row r) h = refl
+
+pub no-keyword-after : (places : ℕ) (st : State) (is : List Item) → Admitted places st is → 0 < st .rows → NoKeyword is
+no-keyword-after places st [] h p = tt
+no-keyword-after places st (i ∷ is) h p = (admits-keywords places st i (h .0) p, no-keyword-after places (add st i) is (h .1) (omega (arith, rows-add st i)))
+
+pub keywords-first : (places : ℕ) (st : State) (is : List Item) → Admitted places st is → KeywordsFirst is
+keywords-first places st [] h = tt
+keywords-first places st (i ∷ is) h =
+    (λ r. no-keyword-after places (add st i) is (h .1) (omega (arith, rows-add st i, row-there i r)), keywords-first places (add st i) is (h .1))
+
+-- ---- 9 to 14
+
+-- where there was a row, 9 to 13 were passed, and there are no more rows than the description has
+pub record HeadOk (places : ℕ) (st : State) : Type 0 where
+  pub sized : given (st .size) ≡ true
+  pub sound : domainFault places (describe st) ≡ none
+
+pub record Inv (places : ℕ) (st : State) : Type 0 where
+  pub head : 0 < st .rows → HeadOk places st
+  pub count : st .rows ≤ rows (describe st)
+
+pub head-ok : (places : ℕ) (st : State) → headFault places st ≡ none → (0 < st .rows → HeadOk places st) → HeadOk places st
+unfolding headFault
+head-ok places st h k = split (eqb (st .rows) 0) refl h
+  where
+    split : (t : Bool) → eqb (st .rows) 0 ≡ t → cond t (need (given (st .size)) NoSize (domainFault places (describe st))) none ≡ none → HeadOk places st
+    split true e g = record { sized = need-none _ _ _ g .0; sound = need-none _ _ _ g .1 }
+    split false e g = k (omega (arith, eqb-false (st .rows) 0 e))
+
+pub ok-head : (places : ℕ) (st : State) → HeadOk places st → headFault places st ≡ none
+unfolding headFault need
+ok-head places st h = split (eqb (st .rows) 0)
+  where
+    split : (t : Bool) → cond t (need (given (st .size)) NoSize (domainFault places (describe st))) none ≡ none
+    split true = rw (h .sized, h .sound)
+    split false = refl
+
+-- a line that is no row, and came before any
+before-rows : (places : ℕ) (st : State) (i : Item) → Admits places st i → isKeyword i ≡ true → Inv places (add st i)
+before-rows places st i h k =
+    let z : st .rows ≡ 0 = keyword-once places st i h k in
+    let y : (add st i) .rows ≡ 0 = rows-add st i ∙ rw (z, no-row i k) in
+    record { head = λ p. absurd (omega arith); count = omega arith }
+  where
+    no-row : (i : Item) → isKeyword i ≡ true → length (put (rowIn i) []) ≡ 0
+    no-row nothing h = refl
+    no-row (title t) h = refl
+    no-row (lower b) h = refl
+    no-row (upper b) h = refl
+    no-row (size s) h = refl
+    no-row (row r) h = absurd (no-true (sym h))
+
+inv-add : (places : ℕ) (st : State) (i : Item) → Admits places st i → Inv places st → Inv places (add st i)
+unfolding add orderFault describe
+inv-add places st nothing h v = v
+inv-add places st (title t) h v = before-rows places st (title t) h refl
+inv-add places st (lower b) h v = before-rows places st (lower b) h refl
+inv-add places st (upper b) h v = before-rows places st (upper b) h refl
+inv-add places st (size s) h v = before-rows places st (size s) h refl
+inv-add places st (row r) h v =
+    let k : HeadOk places st = head-ok places st (first-none _ _ h .0) (v .head) in
+    let q : st .rows < rows (describe st) = ltb-true _ _ (need-none _ _ _ (first-none _ _ h .1) .0) in
+    record { head = λ p. record { sized = k .sized; sound = k .sound }; count = omega arith }
+
+pub inv-final : (places : ℕ) (st : State) (is : List Item) → Admitted places st is → Inv places st → Inv places (final st is)
+inv-final places st [] h v = v
+inv-final places st (i ∷ is) h v = inv-final places (add st i) is (h .1) (inv-add places st i (h .0) v)
+
+-- ---- all that the judge admits, and what the end asks
+
+-- what the items say, from a state on: what each field is to be, and as many rows as the description has
+pub record Due (places : ℕ) (st : State) (is : List Item) (t : Option Title) (lo up : Option Bounds) (s : Option Size) : Type 0 where
+  pub late : 0 < st .rows → NoKeyword is
+  pub order : KeywordsFirst is
+  pub title : Once (st .title) (gather titleIn is) t
+  pub lower : Once (st .lower) (gather lowerIn is) lo
+  pub upper : Once (st .upper) (gather upperIn is) up
+  pub size : Once (st .size) (gather sizeIn is) s
+
+abbrev pub told : Option Title → Option Bounds → Option Bounds → Option Size → Description
+told t lo up s = description (orElse noTitle t) (orElse lowest lo) (orElse highest up) (orElse noSize s)
+
+pub admitted-due : (places : ℕ) (st : State) (is : List Item) → Admitted places st is
+    → Due places st is ((final st is) .title) ((final st is) .lower) ((final st is) .upper) ((final st is) .size)
+admitted-due places st is h = record {
+  late = no-keyword-after places st is h;
+  order = keywords-first places st is h;
+  title = filled titleIn (λ st. st .title) title-adds title-once title-sort places st is h;
+  lower = filled lowerIn (λ st. st .lower) lower-adds lower-once lower-sort places st is h;
+  upper = filled upperIn (λ st. st .upper) upper-adds upper-once upper-sort places st is h;
+  size = filled sizeIn (λ st. st .size) size-adds size-once size-sort places st is h;
+}
+
+module _ (places : ℕ) (t : Option Title) (lo up : Option Bounds) (s : Option Size)
+    (sized : given s ≡ true) (sound : domainFault places (told t lo up s) ≡ none) where
+  due-next : (st : State) (i : Item) (is : List Item) → Due places st (i ∷ is) t lo up s → Due places (add st i) is t lo up s
+  due-next st i is h = record {
+    late = λ p. later (isRow i) refl p;
+    order = h .order .1;
+    title = passed titleIn (λ st. st .title) title-adds title-once title-sort st i is t (h .title);
+    lower = passed lowerIn (λ st. st .lower) lower-adds lower-once lower-sort st i is lo (h .lower);
+    upper = passed upperIn (λ st. st .upper) upper-adds upper-once upper-sort st i is up (h .upper);
+    size = passed sizeIn (λ st. st .size) size-adds size-once size-sort st i is s (h .size);
+  }
+    where
+      same-rows : (i : Item) → isRow i ≡ false → length (put (rowIn i) []) ≡ 0
+      same-rows nothing e = refl
+      same-rows (title t) e = refl
+      same-rows (lower b) e = refl
+      same-rows (upper b) e = refl
+      same-rows (size s) e = refl
+      same-rows (row r) e = absurd (no-true e)
+
+      later : (b : Bool) → isRow i ≡ b → 0 < (add st i) .rows → NoKeyword is
+      later true e p = h .order .0 e
+      later false e p = h .late (omega (arith, rows-add st i, same-rows i e)) .1
+
+  -- a state at which no keyword is left describes the whole
+  due-described : (st : State) (is : List Item) → NoKeyword is → Due places st is t lo up s → (describe st ≡ told t lo up s) × (st .size ≡ s)
+  unfolding describe
+  due-described st is k h =
+      let a : t ≡ st .title = settled titleIn (λ st. st .title) title-adds title-once title-sort st is t k (h .title) in
+      let b : lo ≡ st .lower = settled lowerIn (λ st. st .lower) lower-adds lower-once lower-sort st is lo k (h .lower) in
+      let c : up ≡ st .upper = settled upperIn (λ st. st .upper) upper-adds upper-once upper-sort st is up k (h .upper) in
+      let d : s ≡ st .size = settled sizeIn (λ st. st .size) size-adds size-once size-sort st is s k (h .size) in
+      (rw (a, b, c, d), sym d)
+
+  not-late : (st : State) (i : Item) (is : List Item) → Due places st (i ∷ is) t lo up s → isKeyword i ≡ true → eqb (st .rows) 0 ≡ true
+  not-late st i is h k = split (eqb (st .rows) 0) refl
+    where
+      split : (b : Bool) → eqb (st .rows) 0 ≡ b → b ≡ true
+      split true e = refl
+      split false e = absurd (no-true (sym k ∙ h .late (omega (arith, eqb-false (st .rows) 0 e)) .0))
+
+  due-admits : (st : State) (i : Item) (is : List Item) → Due places st (i ∷ is) t lo up s
+      → st .rows + length (gather rowIn (i ∷ is)) ≡ rows (told t lo up s) → Admits places st i
+  unfolding orderFault repeats gather
+  due-admits st nothing is h n = refl
+  due-admits st (title x) is h n =
+      none-need _ _ _ (not-late st (title x) is h refl) (none-need _ _ _ (ap (λ o. not (given o)) (open-slot titleIn (λ st. st .title) title-adds title-once title-sort st (title x) is t x (h .title) refl)) refl)
+  due-admits st (lower x) is h n =
+      none-need _ _ _ (not-late st (lower x) is h refl) (none-need _ _ _ (ap (λ o. not (given o)) (open-slot lowerIn (λ st. st .lower) lower-adds lower-once lower-sort st (lower x) is lo x (h .lower) refl)) refl)
+  due-admits st (upper x) is h n =
+      none-need _ _ _ (not-late st (upper x) is h refl) (none-need _ _ _ (ap (λ o. not (given o)) (open-slot upperIn (λ st. st .upper) upper-adds upper-once upper-sort st (upper x) is up x (h .upper) refl)) refl)
+  due-admits st (size x) is h n =
+      none-need _ _ _ (not-late st (size x) is h refl) (none-need _ _ _ (ap (λ o. not (given o)) (open-slot sizeIn (λ st. st .size) size-adds size-once size-sort st (size x) is s x (h .size) refl)) refl)
+  due-admits st (row x) is h n =
+      let k = due-described st (row x ∷ is) (refl, h .order .0 refl) h in
+      none-first _ _
+      (ok-head places st (record { sized = rw (k .1) sized; sound = rw (k .0) sound }))
+      (none-need _ _ _ (lt-ltb (st .rows) (rows (describe st)) (rw (k .0) (omega arith))) refl)
+
+  pub due-admitted : (st : State) (is : List Item) → Due places st is t lo up s
+      → st .rows + length (gather rowIn is) ≡ rows (told t lo up s) → Admitted places st is
+  unfolding gather
+  due-admitted st [] h n = tt
+  due-admitted st (i ∷ is) h n =
+      (due-admits st i is h n, due-admitted (add st i) is (due-next st i is h) (omega (arith, rows-add st i, length-put (rowIn i) (gather rowIn is))))
+
+  pub due-final : (st : State) (is : List Item) → Due places st is t lo up s → (describe (final st is) ≡ told t lo up s) × ((final st is) .size ≡ s)
+  due-final st [] h = due-described st [] tt h
+  due-final st (i ∷ is) h = due-final (add st i) is (due-next st i is h)
