@@ -7,6 +7,7 @@ pub mod Runs
 pub mod Numbers
 pub mod Wordings
 pub mod Threes
+pub mod Sorts
 pub mod Order
 pub mod Walk
 pub mod OneLine
@@ -14,3 +15,6 @@ pub mod Acceptance
 pub mod Refusals
 pub mod Faults
 pub mod Nines
+pub mod Places
+pub mod Titles
+pub mod Bridge

@@ -19,6 +19,7 @@ use Rattle.rules.specs.declared.Bounds.{Bounds}
 use Rattle.rules.specs.declared.Size.{Size}
 use Rattle.rules.specs.declared.Row.{Row}
 use Rattle.rules.specs.declared.Refusal.the-variants.{NoSize}
+use Rattle.rules.proofs.Sorts.{none-picked}
 use Rattle.rules.proofs.Tests.{no-some, no-true, need-none, none-need, first-none, none-first}
 
 -- the form of a line that gives an item
@@ -104,9 +105,6 @@ keyword-once places st (row r) h k = absurd (no-true (sym k))
 not-given : {A : Type 0} (o : Option A) → not (given o) ≡ true → o ≡ none
 not-given none h = refl
 not-given (some a) h = absurd (no-true (sym h))
-
-none-picked : {A : Type 0} (a : A) (X : Type 0) → _≡_ {A = Option A} none (some a) → X
-none-picked a X e = absurd (no-some a (sym e))
 
 title-adds : (st : State) (i : Item) → (add st i) .title ≡ newer (titleIn i) (st .title)
 unfolding add

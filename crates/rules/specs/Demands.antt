@@ -1,12 +1,19 @@
--- Demand 3: what is asked of an accepted look, colour by colour.
+-- Demands 2 and 3: where an accepted file's numbers and title stand, and what is asked of an accepted look, colour by colour.
 use Prim.Native.Nat.{ℕ, _≤_, _<_}
 use mathlib.Core.Path.{_≡_}
-use mathlib.Core.List.{List, [], _∷_}
+use mathlib.Core.Logic.{_⊎_}
+use mathlib.Core.Bool.{Bool, true, false, cond}
+use mathlib.Core.List.{List, [], _∷_, _++_}
+use lib.ListN.{length, take, drop, getD}
 use lib.IntN.{ℤ, pos, _*ℤ_}
 use lib.Signed.{_<ℤ_, _≤ℤ_}
 use Rattle.whole.specs.Nearest.{Nearest, weights}
-use Rattle.rules.specs.Units.{codeIn}
+use Rattle.rules.specs.Units.{samplePlaces, sampleLimit, colourPlace, codeIn}
 use Rattle.rules.specs.Descriptions.{rows}
+use Rattle.rules.specs.Lines.{linesOf, wordsOf}
+use Rattle.rules.specs.Numerals.{Exact}
+use Rattle.rules.specs.Grammar.{TitleLine}
+use Rattle.rules.specs.Content.{Form, idle, keyword, data-line, neither, formOf}
 use Rattle.rules.specs.Interpolation.{Order, denOf, positionOf, pairBy, pathBy, denominator, weighed, total, rowCode}
 use Rattle.rules.specs.Readings.{Reading, Descends}
 use Rattle.rules.specs.declared.Codes.{Codes}
@@ -17,6 +24,45 @@ use Rattle.rules.specs.declared.Kind.{Kind}
 use Rattle.rules.specs.declared.Kind.the-variants.{OneD, ThreeD}
 use Rattle.rules.specs.declared.Share.{Share}
 use Rattle.rules.specs.declared.Shares.{Shares}
+use Rattle.rules.specs.declared.Title.{Title}
+
+-- ---- demand 2
+
+abbrev pub isData : Form → Bool
+isData idle = false
+isData (keyword k) = false
+isData data-line = true
+isData neither = false
+
+-- the data lines among lines, in order
+unfoldable pub dataLines : List (List ℕ) → List (List ℕ)
+dataLines [] = []
+dataLines (l ∷ ls) = cond (isData (formOf l)) (l ∷ dataLines ls) (dataLines ls)
+
+-- the word of a colour on data line k of a file has exactly the value v, in ten-millionths
+abbrev pub Written : List ℕ → ℕ → Colour → ℤ → Type 0
+Written file k c v = Exact samplePlaces sampleLimit (getD (wordsOf (getD (dataLines (linesOf file)) k [])) (colourPlace c) []) v
+
+-- a line begins at the start of the file or after a newline
+abbrev pub Begins : List ℕ → Type 0
+Begins before = (before ≡ []) ⊎ ((x : List ℕ) × (before ≡ x ++ (10 ∷ [])))
+
+-- and ends at its end or at a newline
+abbrev pub Ends : List ℕ → Type 0
+Ends rest = (rest ≡ []) ⊎ ((x : List ℕ) × (rest ≡ 10 ∷ x))
+
+-- the title's line stands in the file, and the title's bytes are the text between its quotes
+pub record Titled (file : List ℕ) (t : Title) : Type 0 where
+  pub before : List ℕ
+  pub line : List ℕ
+  pub rest : List ℕ
+  pub file-so : file ≡ before ++ (line ++ rest)
+  pub begins : Begins before
+  pub ends : Ends rest
+  pub line-so : TitleLine (length before) line t
+  pub bytes-so : take (t .length) (drop (t .place) file) ≡ line-so .text
+
+-- ---- demand 3
 
 -- the rows and weights, of the six, that a colour's code is made of
 abbrev pub used : Kind → Colour → Shares → List Share
