@@ -18,3 +18,4 @@ pub mod Nines
 pub mod Places
 pub mod Titles
 pub mod Bridge
+pub mod Cases
