@@ -2,3 +2,12 @@
 
 -- tests and their parts
 pub mod Tests
+-- the test of 24 is the property `Sound`
+pub mod Judged
+-- a known depth's M
+pub mod Depths
+-- demand 3: either reading; the rule's own; weights and rows
+pub mod Layers
+pub mod EitherReading
+pub mod Rule
+pub mod RowsAndWeights
