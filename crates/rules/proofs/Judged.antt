@@ -131,10 +131,7 @@ module _ (good : Domain → Bool) (d : Description) where
 
 pub fit-each : (xs : List ℤ) → samplesFit xs ≡ true → (k : ℕ) → k < length xs → natAbs (getD xs k (pos 0)) ≤ sampleLimit
 unfolding samplesFit
-fit-each [] e k h = absurd (none k h)
-  where
-    none : (k : ℕ) → k < 0 → ⊥
-    none k h = omega arith
+fit-each [] e k h = absurd (omega arith)
 fit-each (x ∷ xs) e zero h = leb-true _ _ (and-both _ _ e .0)
 fit-each (x ∷ xs) e (suc k) h = fit-each xs (and-both (leb (natAbs x) sampleLimit) _ e .1) k (omega arith)
 

@@ -11,3 +11,5 @@ pub mod Layers
 pub mod EitherReading
 pub mod Rule
 pub mod RowsAndWeights
+pub mod Unique
+pub mod Checks
