@@ -2,20 +2,36 @@
 
 -- tests and their parts
 pub mod Tests
--- reading: a word as a number
+-- a word as a number, and what a word says that is none
 pub mod Runs
 pub mod Numbers
+pub mod Faults
+pub mod Nines
+-- a line, by its words
 pub mod Wordings
 pub mod Threes
 pub mod Sorts
+pub mod OneLine
+-- the lines in their order
 pub mod Order
 pub mod Walk
-pub mod OneLine
+-- demand 2: acceptance is the grammar; the first refused line decides; where numbers and title stand; what is accepted is not 24
 pub mod Acceptance
 pub mod Refusals
-pub mod Faults
-pub mod Nines
 pub mod Places
 pub mod Titles
 pub mod Bridge
+-- document 01's cases
 pub mod Cases
+-- the test of 24 is the property `Sound`
+pub mod Judged
+-- a known depth's M
+pub mod Depths
+-- demand 3: either reading; the rule's own; weights and rows
+pub mod Layers
+pub mod EitherReading
+pub mod Rule
+pub mod RowsAndWeights
+-- each promise decides its answer; the answers by their checks
+pub mod Unique
+pub mod Checks
