@@ -35,3 +35,6 @@ pub mod RowsAndWeights
 -- each promise decides its answer; the answers by their checks
 pub mod Unique
 pub mod Checks
+-- what reading's promise decides, and the wrong programs that the promises rule out
+pub mod Promised
+pub mod WrongPrograms

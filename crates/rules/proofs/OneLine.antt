@@ -13,7 +13,7 @@ use Rattle.rules.specs.Units.{boundLimit, boundPlaces, sampleLimit, samp
 use Rattle.rules.specs.Lines.{hash, numberByte, after, blank, bytes, digit, every, inTitle, inWord, numberByte, permitted, quote, run, starts, wordsOf}
 use Rattle.rules.specs.Numerals.{Mantissa, Numeral, Sign, Spells, minus, plain, plus, pointed, unwritten}
 use Rattle.rules.specs.Items.{Keyword, named, Item, aLower, aSize, aTitle, anUpper, lower, nothing, row, size, title, upper}
-use Rattle.rules.specs.Grammar.{BoundsLine, IdleLine, Line, Says, ThreeNumbers, TitleLine, comment, empty}
+use Rattle.rules.specs.Grammar.{lineLimit, BoundsLine, IdleLine, Line, Says, ThreeNumbers, TitleLine, comment, empty}
 use Rattle.rules.specs.Content.{Form, boundsAt, boundsOf, closes, contentBy, contentOf, data-line, formOf, idle, keyword, neither, parameters, quoted, rowOf, samplesOn, says, titleOf, wordForm, wrong}
 use Rattle.rules.specs.Judge.{byteFault}
 use Rattle.rules.specs.declared.Title.{Title}
@@ -28,9 +28,9 @@ use Rattle.rules.proofs.Walk.{Found}
 
 -- ---- 1 and 2
 
-bytes-pass : (l : List ℕ) → length l ≤ 250 → every permitted l ≡ true → byteFault l ≡ none
+bytes-pass : (l : List ℕ) → length l ≤ lineLimit → every permitted l ≡ true → byteFault l ≡ none
 unfolding byteFault
-bytes-pass l s p = none-need _ _ _ (le-leb (length l) 250 s) (none-need _ _ _ p refl)
+bytes-pass l s p = none-need _ _ _ (le-leb (length l) lineLimit s) (none-need _ _ _ p refl)
 
 -- ---- TITLE
 
@@ -254,7 +254,7 @@ unfolding byteFault
 find p l i b c =
     let a = need-none _ _ _ b in
     record {
-      short = leb-true (length l) 250 (a .0);
+      short = leb-true (length l) lineLimit (a .0);
       permitted-so = need-none _ _ _ (a .1) .0;
       says = speaks p l i (formOf l) refl c;
     }
