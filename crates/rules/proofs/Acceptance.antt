@@ -11,11 +11,14 @@ use lib.ListN.{length}
 use lib.IntN.{ℤ}
 use Rattle.rules.specs.Descriptions.{everyColour, ordered, narrow, agree, roomy, description, highest, lowest, noTitle, rows}
 use Rattle.rules.specs.Lines.{after, blank, inTitle, inWord, linesOf, quote}
-use Rattle.rules.specs.Items.{Item, lower, lowerIn, nothing, numbersOf, row, rowIn, size, sizeIn, title, titleIn, upper, upperIn}
+use Rattle.rules.specs.Items.{lowerIn, numbersOf, rowIn, sizeIn, titleIn, upperIn}
 use Rattle.rules.specs.Grammar.{Keeps, Lines, gather, lowers, put, uppers}
-use Rattle.rules.specs.Content.{closes, contentBy, contentOf, quoted, says, titleOf, wrong}
+use Rattle.rules.specs.Content.{closes, contentBy, contentOf, quoted, titleOf}
 use Rattle.rules.specs.Judge.{State, describe, domainFault, endFault, given, noSize, orElse, start}
 use Rattle.rules.specs.Reading.{read, samplesIn, samplesOf}
+use Rattle.rules.specs.declared.Content.the-variants.{Says, Wrong}
+use Rattle.rules.specs.declared.Item.{Item}
+use Rattle.rules.specs.declared.Item.the-variants.{Nothing, OfTitle, OfLower, OfUpper, OfSize, OfRow}
 use Rattle.rules.specs.declared.Description.{Description}
 use Rattle.rules.specs.declared.Title.{Title}
 use Rattle.rules.specs.declared.Size.{Size}
@@ -34,18 +37,18 @@ unfolding samplesIn quoted
 quoted-none end [] = refl
 quoted-none end (b ∷ rest) = split (quote b && closes (after inTitle rest)) _
   where
-    split : (t : Bool) (i : Title) → samplesIn (cond t (says (title i)) (wrong ParametersWrong)) ≡ []
+    split : (t : Bool) (i : Title) → samplesIn (cond t (Says (OfTitle i)) (Wrong ParametersWrong)) ≡ []
     split true i = refl
     split false i = refl
 
 line-samples : (p : ℕ) (l : List ℕ) (i : Item) → Found p l i → samplesIn (contentOf 0 l) ≡ flatten (map numbersOf (put (rowIn i) []))
 unfolding samplesIn contentBy flatten titleOf
-line-samples p l nothing f = rw (f .form)
-line-samples p l (title t) f = rw (f .form) (quoted-none (0 + length l) (after blank (after inWord (after blank l))))
-line-samples p l (lower b) f = rw (f .form, f .content)
-line-samples p l (upper b) f = rw (f .form, f .content)
-line-samples p l (size s) f = rw (f .form, f .content)
-line-samples p l (row r) f = rw (f .form, f .content)
+line-samples p l Nothing f = rw (f .form)
+line-samples p l (OfTitle t) f = rw (f .form) (quoted-none (0 + length l) (after blank (after inWord (after blank l))))
+line-samples p l (OfLower b) f = rw (f .form, f .content)
+line-samples p l (OfUpper b) f = rw (f .form, f .content)
+line-samples p l (OfSize s) f = rw (f .form, f .content)
+line-samples p l (OfRow r) f = rw (f .form, f .content)
 
 put-samples : (o : Option Row) (rs : List Row) → flatten (map numbersOf (put o rs)) ≡ flatten (map numbersOf (put o [])) ++ flatten (map numbersOf rs)
 unfolding flatten

@@ -13,9 +13,10 @@ use lib.Seq.{take-at}
 use Rattle.rules.specs.Units.{sampleLimit, boundLimit, inRange}
 use Rattle.rules.specs.Descriptions.{lowest, highest, rows, everyColour, boundsFit, roomy, samplesFit, couldBeRead}
 use Rattle.rules.specs.Lines.{linesOf}
-use Rattle.rules.specs.Items.{Item, lower, upper, size, lowerIn, upperIn, sizeIn, rowIn, numbersOf}
+use Rattle.rules.specs.Items.{lowerIn, upperIn, sizeIn, rowIn, numbersOf}
 use Rattle.rules.specs.Grammar.{ThreeNumbers, Line, Lines, put, gather, AtMostOne, lowers, uppers, Keeps}
 use Rattle.rules.specs.Reading.{read, samplesOf, tableAfter}
+use Rattle.rules.specs.declared.Item.{Item}
 use Rattle.rules.specs.declared.Bounds.{Bounds}
 use Rattle.rules.specs.declared.Description.{Description}
 use Rattle.rules.specs.declared.Read.the-variants.{Accepted}
@@ -53,7 +54,7 @@ only-one P (y ∷ z ∷ more) default x d a e = absurd e
 -- ---- a size in range, bounds and samples within their limits
 
 sized : (p : ℕ) (l : List ℕ) (i : Item) (s : Size) → sizeIn i ≡ some s → Line p l i → inRange (s .kind) (s .n) ≡ true
-sized p l i s e h = subst (λ (j : Item). Line p l j) (size-item i s e) h .says .range
+sized p l i s e h = subst (λ (j : Item). Line p l j) (size-item i s e) h .gives .range
 
 abbrev WithinBounds : Bounds → Type 0
 WithinBounds b = (natAbs (b .red .0) ≤ boundLimit) × ((natAbs (b .green .0) ≤ boundLimit) × (natAbs (b .blue .0) ≤ boundLimit))
@@ -65,13 +66,13 @@ three-within : {places limit : ℕ} {ws : List (List ℕ)} {x y z : ℤ} → Thr
 three-within t = (t .red .within, (t .green .within, t .blue .within))
 
 low : (p : ℕ) (l : List ℕ) (i : Item) (b : Bounds) → lowerIn i ≡ some b → Line p l i → WithinBounds b
-low p l i b e h = three-within (subst (λ (j : Item). Line p l j) (lower-item i b e) h .says .numbers)
+low p l i b e h = three-within (subst (λ (j : Item). Line p l j) (lower-item i b e) h .gives .numbers)
 
 high : (p : ℕ) (l : List ℕ) (i : Item) (b : Bounds) → upperIn i ≡ some b → Line p l i → WithinBounds b
-high p l i b e h = three-within (subst (λ (j : Item). Line p l j) (upper-item i b e) h .says .numbers)
+high p l i b e h = three-within (subst (λ (j : Item). Line p l j) (upper-item i b e) h .gives .numbers)
 
 sampled : (p : ℕ) (l : List ℕ) (i : Item) (r : Row) → rowIn i ≡ some r → Line p l i → WithinSamples r
-sampled p l i r e h = three-within (subst (λ (j : Item). Line p l j) (row-item i r e) h .says)
+sampled p l i r e h = three-within (subst (λ (j : Item). Line p l j) (row-item i r e) h .gives)
 
 rows-fit : (rs : List Row) → All WithinSamples rs → samplesFit (flatten (map numbersOf rs)) ≡ true
 unfolding samplesFit flatten

@@ -9,10 +9,14 @@ use borrow.Author.Tests.{ltb-true, lt-ltb, eqb-true, eqb-false}
 use lib.Dec.{eqb}
 use lib.ListN.{length}
 use Rattle.rules.specs.Descriptions.{description, highest, lowest, noTitle, rows}
-use Rattle.rules.specs.Items.{Item, aLower as kLower, aSize as kSize, aTitle as kTitle, anUpper as kUpper, lower, lowerIn, nothing, row, rowIn, size, sizeIn, title, titleIn, upper, upperIn}
+use Rattle.rules.specs.Items.{lowerIn, rowIn, sizeIn, titleIn, upperIn}
 use Rattle.rules.specs.Grammar.{AtMostOne, KeywordsFirst, NoKeyword, gather, isKeyword, isRow, put}
-use Rattle.rules.specs.Content.{Form, data-line, idle, keyword}
 use Rattle.rules.specs.Judge.{State, add, counted, describe, domainFault, given, headFault, need, newer, noSize, orElse, orderFault, repeats}
+use Rattle.rules.specs.declared.Form.{Form}
+use Rattle.rules.specs.declared.Form.the-variants.{Idle, Keyed, Data}
+use Rattle.rules.specs.declared.Item.{Item}
+use Rattle.rules.specs.declared.Item.the-variants.{Nothing, OfTitle, OfLower, OfUpper, OfSize, OfRow}
+use Rattle.rules.specs.declared.Keyword.the-variants.{ATitle, ALower, AnUpper, ASize}
 use Rattle.rules.specs.declared.Description.{Description}
 use Rattle.rules.specs.declared.Title.{Title}
 use Rattle.rules.specs.declared.Bounds.{Bounds}
@@ -24,12 +28,12 @@ use Rattle.rules.proofs.Tests.{no-some, no-true, need-none, none-need, 
 
 -- the form of a line that gives an item
 abbrev pub formFor : Item → Form
-formFor nothing = idle
-formFor (title t) = keyword kTitle
-formFor (lower b) = keyword kLower
-formFor (upper b) = keyword kUpper
-formFor (size s) = keyword (kSize (s .kind))
-formFor (row r) = data-line
+formFor Nothing = Idle
+formFor (OfTitle t) = Keyed ATitle
+formFor (OfLower b) = Keyed ALower
+formFor (OfUpper b) = Keyed AnUpper
+formFor (OfSize s) = Keyed (ASize (s .kind))
+formFor (OfRow r) = Data
 
 abbrev pub Admits : ℕ → State → Item → Type 0
 Admits places st i = orderFault places st (formFor i) ≡ none
@@ -95,12 +99,12 @@ module _ {A : Type 0} (pick : Item → Option A) (slot : State → Option A)
 
 keyword-once : (places : ℕ) (st : State) (i : Item) → Admits places st i → isKeyword i ≡ true → st .rows ≡ 0
 unfolding orderFault
-keyword-once places st nothing h k = absurd (no-true (sym k))
-keyword-once places st (title t) h k = eqb-true (st .rows) 0 (need-none _ _ _ h .0)
-keyword-once places st (lower b) h k = eqb-true (st .rows) 0 (need-none _ _ _ h .0)
-keyword-once places st (upper b) h k = eqb-true (st .rows) 0 (need-none _ _ _ h .0)
-keyword-once places st (size s) h k = eqb-true (st .rows) 0 (need-none _ _ _ h .0)
-keyword-once places st (row r) h k = absurd (no-true (sym k))
+keyword-once places st Nothing h k = absurd (no-true (sym k))
+keyword-once places st (OfTitle t) h k = eqb-true (st .rows) 0 (need-none _ _ _ h .0)
+keyword-once places st (OfLower b) h k = eqb-true (st .rows) 0 (need-none _ _ _ h .0)
+keyword-once places st (OfUpper b) h k = eqb-true (st .rows) 0 (need-none _ _ _ h .0)
+keyword-once places st (OfSize s) h k = eqb-true (st .rows) 0 (need-none _ _ _ h .0)
+keyword-once places st (OfRow r) h k = absurd (no-true (sym k))
 
 not-given : {A : Type 0} (o : Option A) → not (given o) ≡ true → o ≡ none
 not-given none h = refl
@@ -112,20 +116,20 @@ title-adds st i = refl
 
 title-once : (places : ℕ) (st : State) (i : Item) (a : Title) → Admits places st i → titleIn i ≡ some a → st .title ≡ none
 unfolding orderFault repeats
-title-once places st nothing a h e = none-picked a _ e
-title-once places st (title t) a h e = not-given (st .title) (need-none _ _ _ (need-none _ _ _ h .1) .0)
-title-once places st (lower b) a h e = none-picked a _ e
-title-once places st (upper b) a h e = none-picked a _ e
-title-once places st (size s) a h e = none-picked a _ e
-title-once places st (row r) a h e = none-picked a _ e
+title-once places st Nothing a h e = none-picked a _ e
+title-once places st (OfTitle t) a h e = not-given (st .title) (need-none _ _ _ (need-none _ _ _ h .1) .0)
+title-once places st (OfLower b) a h e = none-picked a _ e
+title-once places st (OfUpper b) a h e = none-picked a _ e
+title-once places st (OfSize s) a h e = none-picked a _ e
+title-once places st (OfRow r) a h e = none-picked a _ e
 
 title-sort : (i : Item) → isKeyword i ≡ false → titleIn i ≡ none
-title-sort nothing h = refl
-title-sort (title t) h = absurd (no-true h)
-title-sort (lower b) h = refl
-title-sort (upper b) h = refl
-title-sort (size s) h = refl
-title-sort (row r) h = refl
+title-sort Nothing h = refl
+title-sort (OfTitle t) h = absurd (no-true h)
+title-sort (OfLower b) h = refl
+title-sort (OfUpper b) h = refl
+title-sort (OfSize s) h = refl
+title-sort (OfRow r) h = refl
 
 lower-adds : (st : State) (i : Item) → (add st i) .lower ≡ newer (lowerIn i) (st .lower)
 unfolding add
@@ -133,20 +137,20 @@ lower-adds st i = refl
 
 lower-once : (places : ℕ) (st : State) (i : Item) (a : Bounds) → Admits places st i → lowerIn i ≡ some a → st .lower ≡ none
 unfolding orderFault repeats
-lower-once places st nothing a h e = none-picked a _ e
-lower-once places st (title t) a h e = none-picked a _ e
-lower-once places st (lower b) a h e = not-given (st .lower) (need-none _ _ _ (need-none _ _ _ h .1) .0)
-lower-once places st (upper b) a h e = none-picked a _ e
-lower-once places st (size s) a h e = none-picked a _ e
-lower-once places st (row r) a h e = none-picked a _ e
+lower-once places st Nothing a h e = none-picked a _ e
+lower-once places st (OfTitle t) a h e = none-picked a _ e
+lower-once places st (OfLower b) a h e = not-given (st .lower) (need-none _ _ _ (need-none _ _ _ h .1) .0)
+lower-once places st (OfUpper b) a h e = none-picked a _ e
+lower-once places st (OfSize s) a h e = none-picked a _ e
+lower-once places st (OfRow r) a h e = none-picked a _ e
 
 lower-sort : (i : Item) → isKeyword i ≡ false → lowerIn i ≡ none
-lower-sort nothing h = refl
-lower-sort (title t) h = refl
-lower-sort (lower b) h = absurd (no-true h)
-lower-sort (upper b) h = refl
-lower-sort (size s) h = refl
-lower-sort (row r) h = refl
+lower-sort Nothing h = refl
+lower-sort (OfTitle t) h = refl
+lower-sort (OfLower b) h = absurd (no-true h)
+lower-sort (OfUpper b) h = refl
+lower-sort (OfSize s) h = refl
+lower-sort (OfRow r) h = refl
 
 upper-adds : (st : State) (i : Item) → (add st i) .upper ≡ newer (upperIn i) (st .upper)
 unfolding add
@@ -154,20 +158,20 @@ upper-adds st i = refl
 
 upper-once : (places : ℕ) (st : State) (i : Item) (a : Bounds) → Admits places st i → upperIn i ≡ some a → st .upper ≡ none
 unfolding orderFault repeats
-upper-once places st nothing a h e = none-picked a _ e
-upper-once places st (title t) a h e = none-picked a _ e
-upper-once places st (lower b) a h e = none-picked a _ e
-upper-once places st (upper b) a h e = not-given (st .upper) (need-none _ _ _ (need-none _ _ _ h .1) .0)
-upper-once places st (size s) a h e = none-picked a _ e
-upper-once places st (row r) a h e = none-picked a _ e
+upper-once places st Nothing a h e = none-picked a _ e
+upper-once places st (OfTitle t) a h e = none-picked a _ e
+upper-once places st (OfLower b) a h e = none-picked a _ e
+upper-once places st (OfUpper b) a h e = not-given (st .upper) (need-none _ _ _ (need-none _ _ _ h .1) .0)
+upper-once places st (OfSize s) a h e = none-picked a _ e
+upper-once places st (OfRow r) a h e = none-picked a _ e
 
 upper-sort : (i : Item) → isKeyword i ≡ false → upperIn i ≡ none
-upper-sort nothing h = refl
-upper-sort (title t) h = refl
-upper-sort (lower b) h = refl
-upper-sort (upper b) h = absurd (no-true h)
-upper-sort (size s) h = refl
-upper-sort (row r) h = refl
+upper-sort Nothing h = refl
+upper-sort (OfTitle t) h = refl
+upper-sort (OfLower b) h = refl
+upper-sort (OfUpper b) h = absurd (no-true h)
+upper-sort (OfSize s) h = refl
+upper-sort (OfRow r) h = refl
 
 size-adds : (st : State) (i : Item) → (add st i) .size ≡ newer (sizeIn i) (st .size)
 unfolding add
@@ -175,20 +179,20 @@ size-adds st i = refl
 
 size-once : (places : ℕ) (st : State) (i : Item) (a : Size) → Admits places st i → sizeIn i ≡ some a → st .size ≡ none
 unfolding orderFault repeats
-size-once places st nothing a h e = none-picked a _ e
-size-once places st (title t) a h e = none-picked a _ e
-size-once places st (lower b) a h e = none-picked a _ e
-size-once places st (upper b) a h e = none-picked a _ e
-size-once places st (size s) a h e = not-given (st .size) (need-none _ _ _ (need-none _ _ _ h .1) .0)
-size-once places st (row r) a h e = none-picked a _ e
+size-once places st Nothing a h e = none-picked a _ e
+size-once places st (OfTitle t) a h e = none-picked a _ e
+size-once places st (OfLower b) a h e = none-picked a _ e
+size-once places st (OfUpper b) a h e = none-picked a _ e
+size-once places st (OfSize s) a h e = not-given (st .size) (need-none _ _ _ (need-none _ _ _ h .1) .0)
+size-once places st (OfRow r) a h e = none-picked a _ e
 
 size-sort : (i : Item) → isKeyword i ≡ false → sizeIn i ≡ none
-size-sort nothing h = refl
-size-sort (title t) h = refl
-size-sort (lower b) h = refl
-size-sort (upper b) h = refl
-size-sort (size s) h = absurd (no-true h)
-size-sort (row r) h = refl
+size-sort Nothing h = refl
+size-sort (OfTitle t) h = refl
+size-sort (OfLower b) h = refl
+size-sort (OfUpper b) h = refl
+size-sort (OfSize s) h = absurd (no-true h)
+size-sort (OfRow r) h = refl
 
 -- ---- keywords before data
 
@@ -218,12 +222,12 @@ rows-final st [] = omega arith
 rows-final st (i ∷ is) = omega (arith, rows-final (add st i) is, rows-add st i, length-put (rowIn i) (gather rowIn is))
 
 row-there : (i : Item) → isRow i ≡ true → length (put (rowIn i) []) ≡ 1
-row-there nothing h = absurd (no-true (sym h))
-row-there (title t) h = absurd (no-true (sym h))
-row-there (lower b) h = absurd (no-true (sym h))
-row-there (upper b) h = absurd (no-true (sym h))
-row-there (size s) h = absurd (no-true (sym h))
-row-there (row r) h = refl
+row-there Nothing h = absurd (no-true (sym h))
+row-there (OfTitle t) h = absurd (no-true (sym h))
+row-there (OfLower b) h = absurd (no-true (sym h))
+row-there (OfUpper b) h = absurd (no-true (sym h))
+row-there (OfSize s) h = absurd (no-true (sym h))
+row-there (OfRow r) h = refl
 
 pub no-keyword-after : (places : ℕ) (st : State) (is : List Item) → Admitted places st is → 0 < st .rows → NoKeyword is
 no-keyword-after places st [] h p = tt
@@ -269,21 +273,21 @@ before-rows places st i h k =
     record { head = λ p. absurd (omega arith); count = omega arith }
   where
     no-row : (i : Item) → isKeyword i ≡ true → length (put (rowIn i) []) ≡ 0
-    no-row nothing h = refl
-    no-row (title t) h = refl
-    no-row (lower b) h = refl
-    no-row (upper b) h = refl
-    no-row (size s) h = refl
-    no-row (row r) h = absurd (no-true (sym h))
+    no-row Nothing h = refl
+    no-row (OfTitle t) h = refl
+    no-row (OfLower b) h = refl
+    no-row (OfUpper b) h = refl
+    no-row (OfSize s) h = refl
+    no-row (OfRow r) h = absurd (no-true (sym h))
 
 inv-add : (places : ℕ) (st : State) (i : Item) → Admits places st i → Inv places st → Inv places (add st i)
 unfolding add orderFault describe
-inv-add places st nothing h v = v
-inv-add places st (title t) h v = before-rows places st (title t) h refl
-inv-add places st (lower b) h v = before-rows places st (lower b) h refl
-inv-add places st (upper b) h v = before-rows places st (upper b) h refl
-inv-add places st (size s) h v = before-rows places st (size s) h refl
-inv-add places st (row r) h v =
+inv-add places st Nothing h v = v
+inv-add places st (OfTitle t) h v = before-rows places st (OfTitle t) h refl
+inv-add places st (OfLower b) h v = before-rows places st (OfLower b) h refl
+inv-add places st (OfUpper b) h v = before-rows places st (OfUpper b) h refl
+inv-add places st (OfSize s) h v = before-rows places st (OfSize s) h refl
+inv-add places st (OfRow r) h v =
     let k : HeadOk places st = head-ok places st (first-none _ _ h .0) (v .head) in
     let q : st .rows < rows (describe st) = ltb-true _ _ (need-none _ _ _ (first-none _ _ h .1) .0) in
     record { head = λ p. record { sized = k .sized; sound = k .sound }; count = omega arith }
@@ -330,12 +334,12 @@ module _ (places : ℕ) (t : Option Title) (lo up : Option Bounds) (s : Option S
   }
     where
       same-rows : (i : Item) → isRow i ≡ false → length (put (rowIn i) []) ≡ 0
-      same-rows nothing e = refl
-      same-rows (title t) e = refl
-      same-rows (lower b) e = refl
-      same-rows (upper b) e = refl
-      same-rows (size s) e = refl
-      same-rows (row r) e = absurd (no-true e)
+      same-rows Nothing e = refl
+      same-rows (OfTitle t) e = refl
+      same-rows (OfLower b) e = refl
+      same-rows (OfUpper b) e = refl
+      same-rows (OfSize s) e = refl
+      same-rows (OfRow r) e = absurd (no-true e)
 
       later : (b : Bool) → isRow i ≡ b → 0 < (add st i) .rows → NoKeyword is
       later true e p = h .order .0 e
@@ -361,17 +365,17 @@ module _ (places : ℕ) (t : Option Title) (lo up : Option Bounds) (s : Option S
   due-admits : (st : State) (i : Item) (is : List Item) → Due places st (i ∷ is) t lo up s
       → st .rows + length (gather rowIn (i ∷ is)) ≡ rows (told t lo up s) → Admits places st i
   unfolding orderFault repeats gather
-  due-admits st nothing is h n = refl
-  due-admits st (title x) is h n =
-      none-need _ _ _ (not-late st (title x) is h refl) (none-need _ _ _ (ap (λ o. not (given o)) (open-slot titleIn (λ st. st .title) title-adds title-once title-sort st (title x) is t x (h .title) refl)) refl)
-  due-admits st (lower x) is h n =
-      none-need _ _ _ (not-late st (lower x) is h refl) (none-need _ _ _ (ap (λ o. not (given o)) (open-slot lowerIn (λ st. st .lower) lower-adds lower-once lower-sort st (lower x) is lo x (h .lower) refl)) refl)
-  due-admits st (upper x) is h n =
-      none-need _ _ _ (not-late st (upper x) is h refl) (none-need _ _ _ (ap (λ o. not (given o)) (open-slot upperIn (λ st. st .upper) upper-adds upper-once upper-sort st (upper x) is up x (h .upper) refl)) refl)
-  due-admits st (size x) is h n =
-      none-need _ _ _ (not-late st (size x) is h refl) (none-need _ _ _ (ap (λ o. not (given o)) (open-slot sizeIn (λ st. st .size) size-adds size-once size-sort st (size x) is s x (h .size) refl)) refl)
-  due-admits st (row x) is h n =
-      let k = due-described st (row x ∷ is) (refl, h .order .0 refl) h in
+  due-admits st Nothing is h n = refl
+  due-admits st (OfTitle x) is h n =
+      none-need _ _ _ (not-late st (OfTitle x) is h refl) (none-need _ _ _ (ap (λ o. not (given o)) (open-slot titleIn (λ st. st .title) title-adds title-once title-sort st (OfTitle x) is t x (h .title) refl)) refl)
+  due-admits st (OfLower x) is h n =
+      none-need _ _ _ (not-late st (OfLower x) is h refl) (none-need _ _ _ (ap (λ o. not (given o)) (open-slot lowerIn (λ st. st .lower) lower-adds lower-once lower-sort st (OfLower x) is lo x (h .lower) refl)) refl)
+  due-admits st (OfUpper x) is h n =
+      none-need _ _ _ (not-late st (OfUpper x) is h refl) (none-need _ _ _ (ap (λ o. not (given o)) (open-slot upperIn (λ st. st .upper) upper-adds upper-once upper-sort st (OfUpper x) is up x (h .upper) refl)) refl)
+  due-admits st (OfSize x) is h n =
+      none-need _ _ _ (not-late st (OfSize x) is h refl) (none-need _ _ _ (ap (λ o. not (given o)) (open-slot sizeIn (λ st. st .size) size-adds size-once size-sort st (OfSize x) is s x (h .size) refl)) refl)
+  due-admits st (OfRow x) is h n =
+      let k = due-described st (OfRow x ∷ is) (refl, h .order .0 refl) h in
       none-first _ _
       (ok-head places st (record { sized = rw (k .1) sized; sound = rw (k .0) sound }))
       (none-need _ _ _ (lt-ltb (st .rows) (rows (describe st)) (rw (k .0) (omega arith))) refl)

@@ -12,10 +12,12 @@ use Rattle.rules.specs.Units.{sampleLimit, samplePlaces, rowAt, colourPl
 use Rattle.rules.specs.Descriptions.{rows}
 use Rattle.rules.specs.Lines.{linesOf, wordsOf}
 use Rattle.rules.specs.Numerals.{Exact}
-use Rattle.rules.specs.Items.{Item, lower, nothing, numbersOf, row, rowIn, size, title, upper}
+use Rattle.rules.specs.Items.{numbersOf, rowIn}
 use Rattle.rules.specs.Grammar.{Keeps, Line, Lines, RowLine, gather, put}
 use Rattle.rules.specs.Reading.{read, samplesOf, tableAfter}
 use Rattle.rules.specs.Demands.{dataLines, isData, Written}
+use Rattle.rules.specs.declared.Item.{Item}
+use Rattle.rules.specs.declared.Item.the-variants.{Nothing, OfTitle, OfLower, OfUpper, OfSize, OfRow}
 use Rattle.rules.specs.declared.Colour.{Colour}
 use Rattle.rules.specs.declared.Colour.the-variants.{Red, Green, Blue}
 use Rattle.rules.specs.declared.Kind.the-variants.{OneD, ThreeD}
@@ -38,16 +40,16 @@ in-row l r rest Blue h = rw (h .words) (h .blue)
 
 -- a row's line is a data line, and no other is
 no-data : (i : Item) → rowIn i ≡ none → isData (formFor i) ≡ false
-no-data nothing e = refl
-no-data (title t) e = refl
-no-data (lower b) e = refl
-no-data (upper b) e = refl
-no-data (size x) e = refl
-no-data (row q) e = let z : _≡_ {A = ℕ} 0 1 = cc in absurd (omega arith)
+no-data Nothing e = refl
+no-data (OfTitle t) e = refl
+no-data (OfLower b) e = refl
+no-data (OfUpper b) e = refl
+no-data (OfSize x) e = refl
+no-data (OfRow q) e = let z : _≡_ {A = ℕ} 0 1 = cc in absurd (omega arith)
 
-data-row : (p : ℕ) (l : List ℕ) (ls : List (List ℕ)) (r : Row) → Line p l (row r) → dataLines (l ∷ ls) ≡ l ∷ dataLines ls
+data-row : (p : ℕ) (l : List ℕ) (ls : List (List ℕ)) (r : Row) → Line p l (OfRow r) → dataLines (l ∷ ls) ≡ l ∷ dataLines ls
 unfolding dataLines
-data-row p l ls r h = rw (found p l (row r) h .form)
+data-row p l ls r h = rw (found p l (OfRow r) h .form)
 
 data-other : (p : ℕ) (l : List ℕ) (ls : List (List ℕ)) (i : Item) → rowIn i ≡ none → Line p l i → dataLines (l ∷ ls) ≡ dataLines ls
 unfolding dataLines
@@ -71,10 +73,10 @@ one-more : (p : ℕ) (l : List ℕ) (ls : List (List ℕ)) (i : Item) (rs : List
     → ((k : ℕ) → Ordered (dataLines ls) rs k c) → Ordered (dataLines (l ∷ ls)) (put o rs) k c
 one-more p l ls i rs none k c e h ih = rw (data-other p l ls i e h) (ih k)
 one-more p l ls i rs (some r) zero c e h ih =
-    let q : Line p l (row r) = subst (λ (j : Item). Line p l j) (row-item i r e) h in
-    rw (data-row p l ls r q) (first-row l (dataLines ls) r rs c (q .says))
+    let q : Line p l (OfRow r) = subst (λ (j : Item). Line p l j) (row-item i r e) h in
+    rw (data-row p l ls r q) (first-row l (dataLines ls) r rs c (q .gives))
 one-more p l ls i rs (some r) (suc k) c e h ih =
-    let q : Line p l (row r) = subst (λ (j : Item). Line p l j) (row-item i r e) h in
+    let q : Line p l (OfRow r) = subst (λ (j : Item). Line p l j) (row-item i r e) h in
     rw (data-row p l ls r q) (next-row l (dataLines ls) r rs k c (ih k))
 
 in-order : (p : ℕ) (ls : List (List ℕ)) (is : List Item) → Lines p ls is → (k : ℕ) (c : Colour) → Ordered (dataLines ls) (gather rowIn is) k c

@@ -8,10 +8,10 @@ use native.Mathlib.Omega.{arith}
 use lib.Dec.{eqb}
 use lib.ListN.{length}
 use Rattle.rules.specs.Lines.{linesOf, newlines, onFirst}
-use Rattle.rules.specs.Items.{Item}
 use Rattle.rules.specs.Grammar.{Line, Lines}
 use Rattle.rules.specs.Judge.{Fault, Judged, State, add, endFault, go, judge, refuse, start}
 use Rattle.rules.specs.Reading.{finish, onward, read, readLines}
+use Rattle.rules.specs.declared.Item.{Item}
 use Rattle.rules.specs.declared.Refusal.{Refusal}
 use Rattle.rules.specs.declared.Read.the-variants.{Refused}
 use Rattle.rules.proofs.Order.{Admitted, final}

@@ -8,10 +8,13 @@ use native.Mathlib.Omega.{arith}
 use lib.IntN.{ℤ}
 use Rattle.rules.specs.Units.{inRange}
 use Rattle.rules.specs.Numerals.{digits, spell}
-use Rattle.rules.specs.Items.{Item, size}
 use Rattle.rules.specs.Grammar.{ThreeNumbers}
 use Rattle.rules.specs.Numbers.{numberOf}
-use Rattle.rules.specs.Content.{Content, Three, formed, says, sizeOf, threeOf, valued, values, wrong}
+use Rattle.rules.specs.Content.{Three, formed, sizeOf, threeOf, valued, values}
+use Rattle.rules.specs.declared.Content.{Content}
+use Rattle.rules.specs.declared.Content.the-variants.{Says, Wrong}
+use Rattle.rules.specs.declared.Item.{Item}
+use Rattle.rules.specs.declared.Item.the-variants.{OfSize}
 use Rattle.rules.specs.declared.Kind.{Kind}
 use Rattle.rules.specs.declared.Refusal.{Refusal}
 use Rattle.rules.specs.declared.Refusal.the-variants.{ParametersWrong, SizeOutOfRange}
@@ -19,10 +22,10 @@ use Rattle.rules.specs.declared.Number.{Number}
 use Rattle.rules.specs.declared.Number.the-variants.{Value, Malformed, Beyond, Finer}
 use Rattle.rules.proofs.Numbers.{exact-of, of-exact}
 
-pub no-wrong : (r : Refusal) (i : Item) → wrong r ≡ says i → ⊥
+pub no-wrong : (r : Refusal) (i : Item) → Wrong r ≡ Says i → ⊥
 no-wrong r i e = let z : _≡_ {A = ℕ} 0 1 = cc in omega arith
 
-valued-says : (unformed beyond finer : Refusal) (x : Number) (next : ℤ → Content) (i : Item) → valued unformed beyond finer x next ≡ says i → (v : ℤ) × (x ≡ Value v) × (next v ≡ says i)
+valued-says : (unformed beyond finer : Refusal) (x : Number) (next : ℤ → Content) (i : Item) → valued unformed beyond finer x next ≡ Says i → (v : ℤ) × (x ≡ Value v) × (next v ≡ Says i)
 valued-says unformed beyond finer (Value v) next i h = (v, refl, h)
 valued-says unformed beyond finer Malformed next i h = absurd (no-wrong unformed i h)
 valued-says unformed beyond finer Beyond next i h = absurd (no-wrong beyond i h)
@@ -33,10 +36,10 @@ pub record Tripled (places limit : ℕ) (ws : List (List ℕ)) (next : ℤ → �
   pub y : ℤ
   pub z : ℤ
   pub numbers : ThreeNumbers places limit ws x y z
-  pub said : next x y z ≡ says i
+  pub said : next x y z ≡ Says i
 
 module _ (unformed beyond finer : Refusal) (places limit : ℕ) (next : ℤ → ℤ → ℤ → Content) where
-  pub values-say : (ws : List (List ℕ)) (i : Item) → values unformed beyond finer (threeOf places limit ws) next ≡ says i → Tripled places limit ws next i
+  pub values-say : (ws : List (List ℕ)) (i : Item) → values unformed beyond finer (threeOf places limit ws) next ≡ Says i → Tripled places limit ws next i
   unfolding threeOf
   values-say [] i h = absurd (no-wrong unformed i h)
   values-say (a ∷ []) i h = absurd (no-wrong unformed i h)
@@ -46,7 +49,7 @@ module _ (unformed beyond finer : Refusal) (places limit : ℕ) (next : ℤ → 
       all : Option Three
       all = some (record { first = numberOf places limit a; second = numberOf places limit b; third = numberOf places limit c })
 
-      split : (t : Bool) → values unformed beyond finer (cond t all none) next ≡ says i → Tripled places limit (a ∷ b ∷ c ∷ []) next i
+      split : (t : Bool) → values unformed beyond finer (cond t all none) next ≡ Says i → Tripled places limit (a ∷ b ∷ c ∷ []) next i
       split true g =
           let p = valued-says unformed beyond finer (numberOf places limit a) _ i g in
           let q = valued-says unformed beyond finer (numberOf places limit b) _ i (p .2) in
@@ -81,21 +84,21 @@ pub record Sized (k : Kind) (ws : List (List ℕ)) (i : Item) : Type 0 where
   pub words : ws ≡ word ∷ []
   pub digits-so : digits word ≡ true
   pub range : inRange k (spell 0 word) ≡ true
-  pub item : i ≡ size (record { kind = k; n = spell 0 word })
+  pub item : i ≡ OfSize (record { kind = k; n = spell 0 word })
 
-pub size-says : (k : Kind) (ws : List (List ℕ)) (i : Item) → sizeOf k ws ≡ says i → Sized k ws i
+pub size-says : (k : Kind) (ws : List (List ℕ)) (i : Item) → sizeOf k ws ≡ Says i → Sized k ws i
 unfolding sizeOf
 size-says k [] i h = absurd (no-wrong _ i h)
 size-says k (w ∷ []) i h = split (digits w) refl (inRange k (spell 0 w)) refl h
   where
     split : (t : Bool) → digits w ≡ t → (u : Bool) → inRange k (spell 0 w) ≡ u
-        → cond t (cond u (says (size (record { kind = k; n = spell 0 w }))) (wrong SizeOutOfRange)) (wrong ParametersWrong) ≡ says i
+        → cond t (cond u (Says (OfSize (record { kind = k; n = spell 0 w }))) (Wrong SizeOutOfRange)) (Wrong ParametersWrong) ≡ Says i
         → Sized k (w ∷ []) i
     split false d u e g = absurd (no-wrong _ i g)
     split true d false e g = absurd (no-wrong _ i g)
     split true d true e g = record { word = w; words = refl; digits-so = d; range = e; item = cc }
 size-says k (w ∷ v ∷ more) i h = absurd (no-wrong _ i h)
 
-pub says-size : (k : Kind) (w : List ℕ) → digits w ≡ true → inRange k (spell 0 w) ≡ true → sizeOf k (w ∷ []) ≡ says (size (record { kind = k; n = spell 0 w }))
+pub says-size : (k : Kind) (w : List ℕ) → digits w ≡ true → inRange k (spell 0 w) ≡ true → sizeOf k (w ∷ []) ≡ Says (OfSize (record { kind = k; n = spell 0 w }))
 unfolding sizeOf
 says-size k w d r = rw (d, r)

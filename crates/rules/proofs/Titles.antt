@@ -13,9 +13,12 @@ use lib.Seq.{take-at, drop-at}
 use lib.IntN.{ℤ}
 use Rattle.rules.specs.Descriptions.{noTitle}
 use Rattle.rules.specs.Lines.{linesOf, onFirst}
-use Rattle.rules.specs.Items.{aTitle, named, Item, title, titleIn}
+use Rattle.rules.specs.Items.{named, titleIn}
 use Rattle.rules.specs.Grammar.{AtMostOne, Keeps, Line, Lines, TitleLine, gather, put}
 use Rattle.rules.specs.Demands.{Begins, Ends, Titled}
+use Rattle.rules.specs.declared.Item.{Item}
+use Rattle.rules.specs.declared.Item.the-variants.{OfTitle}
+use Rattle.rules.specs.declared.Keyword.the-variants.{ATitle}
 use Rattle.rules.specs.declared.Title.{Title}
 use Rattle.rules.specs.declared.Description.{Description}
 use Rattle.rules.proofs.Sorts.{title-item}
@@ -77,7 +80,7 @@ titled-line pre l rest t b e h = record {
 }
   where
     ahead : List ℕ
-    ahead = pre ++ (h .lead ++ (named aTitle ++ (h .gap ++ (34 ∷ []))))
+    ahead = pre ++ (h .lead ++ (named ATitle ++ (h .gap ++ (34 ∷ []))))
 
     parts : pre ++ (l ++ rest) ≡ ahead ++ (h .text ++ (34 ∷ (h .trail ++ rest)))
     parts = rw (h .line) (simp append-assoc)
@@ -108,7 +111,7 @@ titled-lines pre s (l ∷ ls) (i ∷ is) t ts b e h g = split (titleIn i) refl g
         r = cc
 
         k : TitleLine (length pre) l t
-        k = subst (λ (j : Item). Line (length pre) l j) (title-item i u a ∙ ap title r) (h .0) .says
+        k = subst (λ (j : Item). Line (length pre) l j) (title-item i u a ∙ ap OfTitle r) (h .0) .gives
 
         here : Cut s l ls → Titled (pre ++ s) t
         here (last x y) = rw y (titled-line pre l [] t b (inl refl) k)

@@ -5,11 +5,13 @@ use mathlib.Core.List.{List, [], _∷_}
 use mathlib.Core.Option.{none, some}
 use native.Mathlib.Omega.{arith}
 use lib.ListN.{length}
-use Rattle.rules.specs.Items.{Item}
 use Rattle.rules.specs.Grammar.{Line, Lines}
-use Rattle.rules.specs.Content.{Content, contentBy, contentOf, formOf, says, wrong}
+use Rattle.rules.specs.Content.{contentBy, contentOf, formOf}
 use Rattle.rules.specs.Judge.{Fault, Judged, State, add, byteFault, describe, endFault, go, judge, orderFault, refuse, take-in, unless}
 use Rattle.rules.specs.Reading.{finish, onward, readLines}
+use Rattle.rules.specs.declared.Content.{Content}
+use Rattle.rules.specs.declared.Content.the-variants.{Says, Wrong}
+use Rattle.rules.specs.declared.Item.{Item}
 use Rattle.rules.specs.declared.Description.{Description}
 use Rattle.rules.specs.declared.Refusal.{Refusal}
 use Rattle.rules.specs.declared.Read.the-variants.{Accepted, Refused}
@@ -19,7 +21,7 @@ use Rattle.rules.proofs.Order.{formFor, Admits, Admitted, final}
 pub record Found (p : ℕ) (l : List ℕ) (i : Item) : Type 0 where
   pub bytes-pass : byteFault l ≡ none
   pub form : formOf l ≡ formFor i
-  pub content : contentBy (formFor i) p l ≡ says i
+  pub content : contentBy (formFor i) p l ≡ Says i
 
 no-refuse : (r : Refusal) (st : State) → refuse r ≡ go st → ⊥
 no-refuse r st e = let z : _≡_ {A = ℕ} 0 1 = cc in omega arith
@@ -32,7 +34,7 @@ pub record Passed (places : ℕ) (st : State) (p : ℕ) (l : List ℕ) (st′ : 
   pub item : Item
   pub bytes-pass : byteFault l ≡ none
   pub placed : orderFault places st (formOf l) ≡ none
-  pub content : contentOf p l ≡ says item
+  pub content : contentOf p l ≡ Says item
   pub state : st′ ≡ add st item
 
 unless-go : (f : Fault) (j : Judged) (st : State) → unless f j ≡ go st → (f ≡ none) × (j ≡ go st)
@@ -40,10 +42,10 @@ unfolding unless
 unless-go none j st h = (refl, h)
 unless-go (some r) j st h = absurd (no-refuse r st h)
 
-taken : (st : State) (c : Content) (st′ : State) → take-in st c ≡ go st′ → (i : Item) × (c ≡ says i) × (st′ ≡ add st i)
+taken : (st : State) (c : Content) (st′ : State) → take-in st c ≡ go st′ → (i : Item) × (c ≡ Says i) × (st′ ≡ add st i)
 unfolding take-in
-taken st (says i) st′ h = (i, refl, cc)
-taken st (wrong r) st′ h = absurd (no-refuse r st′ h)
+taken st (Says i) st′ h = (i, refl, cc)
+taken st (Wrong r) st′ h = absurd (no-refuse r st′ h)
 
 pub passes : (places : ℕ) (st : State) (p : ℕ) (l : List ℕ) (st′ : State) → judge places st p l ≡ go st′ → Passed places st p l st′
 unfolding judge
@@ -59,7 +61,7 @@ let-pass places st p l i f a = rw (f .bytes-pass, f .form, a, f .content)
 
 -- ---- the lines of a file, given the law of one line
 
-module _ (find : (p : ℕ) (l : List ℕ) (i : Item) → byteFault l ≡ none → contentOf p l ≡ says i → Line p l i)
+module _ (find : (p : ℕ) (l : List ℕ) (i : Item) → byteFault l ≡ none → contentOf p l ≡ Says i → Line p l i)
     (found : (p : ℕ) (l : List ℕ) (i : Item) → Line p l i → Found p l i) where
   -- an accepted file's items
   pub record Walked (places p : ℕ) (st : State) (ls : List (List ℕ)) (d : Description) : Type 0 where

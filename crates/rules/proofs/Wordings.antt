@@ -7,9 +7,12 @@ use mathlib.Core.Option.{Option, none, some}
 use native.Mathlib.Omega.{arith}
 use borrow.Author.Tests.{eqb-true, not-true}
 use lib.Dec.{eqb}
-use Rattle.rules.specs.Lines.{after, blank, bytes, every, inWord, numberByte, onFirst, run, same, starts, wordsOf, hash, numberByte}
-use Rattle.rules.specs.Items.{named, Keyword, aLower, aSize, aTitle, anUpper}
-use Rattle.rules.specs.Content.{orElseTry, data-line, formOf, idle, keyword, keywordForm, keywordOf, neither, wordForm}
+use Rattle.rules.specs.Lines.{after, blank, bytes, every, inWord, numberByte, onFirst, run, same, starts, wordsOf, hash}
+use Rattle.rules.specs.Items.{named}
+use Rattle.rules.specs.Content.{orElseTry, formOf, keywordForm, keywordOf, wordForm}
+use Rattle.rules.specs.declared.Form.the-variants.{Idle, Keyed, Data, Neither}
+use Rattle.rules.specs.declared.Keyword.{Keyword}
+use Rattle.rules.specs.declared.Keyword.the-variants.{ATitle, ALower, AnUpper, ASize}
 use Rattle.rules.specs.declared.Kind.the-variants.{OneD, ThreeD}
 use Rattle.rules.proofs.Tests.{no-some, no-true, and-both}
 use Rattle.rules.proofs.Runs.{run-after, run-every, after-stops, run-starts}
@@ -85,7 +88,7 @@ unfolding formOf wordsOf
 form-words [] w ws h s = absurd (no-words w ws h)
 form-words (b ∷ rest) w ws h s = split (eqb b 35) refl
   where
-    split : (t : Bool) → eqb b 35 ≡ t → cond t idle (wordForm (wordsOf (b ∷ rest))) ≡ wordForm (w ∷ ws)
+    split : (t : Bool) → eqb b 35 ≡ t → cond t Idle (wordForm (wordsOf (b ∷ rest))) ≡ wordForm (w ∷ ws)
     split true e = absurd (no-true (sym e ∙ sym (first-byte b rest w ws (rw (eqb-true b 35 e)) h) ∙ s))
     split false e = ap wordForm h
 
@@ -113,7 +116,7 @@ tried w k k′ next h f = split (same w (named k)) refl h
 pub keyword-named : (w : List ℕ) (k : Keyword) → keywordOf w ≡ some k → w ≡ named k
 unfolding keywordOf
 keyword-named w k h =
-    tried w aTitle k _ h (λ h₁. tried w aLower k _ h₁ (λ h₂. tried w anUpper k _ h₂ (λ h₃. tried w (aSize OneD) k _ h₃ (λ h₄. tried w (aSize ThreeD) k none h₄ (λ h₅. absurd (no-some k (sym h₅)))))))
+    tried w ATitle k _ h (λ h₁. tried w ALower k _ h₁ (λ h₂. tried w AnUpper k _ h₂ (λ h₃. tried w (ASize OneD) k _ h₃ (λ h₄. tried w (ASize ThreeD) k none h₄ (λ h₅. absurd (no-some k (sym h₅)))))))
 
 pub record Named (k : Keyword) : Type 0 where
   pub known : keywordOf (named k) ≡ some k
@@ -122,56 +125,56 @@ pub record Named (k : Keyword) : Type 0 where
 
 pub named-known : (k : Keyword) → Named k
 unfolding keywordOf bytes same starts
-named-known aTitle = record { known = refl; no-number = refl; no-hash = refl }
-named-known aLower = record { known = refl; no-number = refl; no-hash = refl }
-named-known anUpper = record { known = refl; no-number = refl; no-hash = refl }
-named-known (aSize OneD) = record { known = refl; no-number = refl; no-hash = refl }
-named-known (aSize ThreeD) = record { known = refl; no-number = refl; no-hash = refl }
+named-known ATitle = record { known = refl; no-number = refl; no-hash = refl }
+named-known ALower = record { known = refl; no-number = refl; no-hash = refl }
+named-known AnUpper = record { known = refl; no-number = refl; no-hash = refl }
+named-known (ASize OneD) = record { known = refl; no-number = refl; no-hash = refl }
+named-known (ASize ThreeD) = record { known = refl; no-number = refl; no-hash = refl }
 
 -- a line whose first word is a keyword has that form, and back
-pub keyword-form : (l : List ℕ) (k : Keyword) (ws : List (List ℕ)) → wordsOf l ≡ named k ∷ ws → formOf l ≡ keyword k
+pub keyword-form : (l : List ℕ) (k : Keyword) (ws : List (List ℕ)) → wordsOf l ≡ named k ∷ ws → formOf l ≡ Keyed k
 unfolding wordForm
 keyword-form l k ws h =
     let n : Named k = named-known k in
     form-words l (named k) ws h (n .no-hash) ∙ rw (n .no-number, n .known)
 
-no-form : (k : Keyword) (X : Type 0) → neither ≡ keyword k → X
+no-form : (k : Keyword) (X : Type 0) → Neither ≡ Keyed k → X
 no-form k X e = let z : _≡_ {A = ℕ} 0 1 = cc in absurd (omega arith)
 
-form-named : (ws : List (List ℕ)) (k : Keyword) → wordForm ws ≡ keyword k → (vs : List (List ℕ)) × (ws ≡ named k ∷ vs)
+form-named : (ws : List (List ℕ)) (k : Keyword) → wordForm ws ≡ Keyed k → (vs : List (List ℕ)) × (ws ≡ named k ∷ vs)
 unfolding wordForm
 form-named [] k h = no-form k _ h
 form-named (w ∷ ws) k h = split (starts numberByte w) (keywordOf w) refl h
   where
-    split : (t : Bool) (o : Option Keyword) → keywordOf w ≡ o → cond t data-line (keywordForm o) ≡ keyword k → (vs : List (List ℕ)) × (w ∷ ws ≡ named k ∷ vs)
+    split : (t : Bool) (o : Option Keyword) → keywordOf w ≡ o → cond t Data (keywordForm o) ≡ Keyed k → (vs : List (List ℕ)) × (w ∷ ws ≡ named k ∷ vs)
     split true o e g = let z : _≡_ {A = ℕ} 0 1 = cc in absurd (omega arith)
     split false none e g = no-form k _ g
     split false (some k′) e g = let q : k′ ≡ k = cc in (ws, ap (λ (v : List ℕ). v ∷ ws) (keyword-named w k (e ∙ ap {B = Option Keyword} some q)))
 
-pub form-keyword : (l : List ℕ) (k : Keyword) → formOf l ≡ keyword k → (vs : List (List ℕ)) × (wordsOf l ≡ named k ∷ vs)
+pub form-keyword : (l : List ℕ) (k : Keyword) → formOf l ≡ Keyed k → (vs : List (List ℕ)) × (wordsOf l ≡ named k ∷ vs)
 unfolding formOf
 form-keyword [] k h = let z : _≡_ {A = ℕ} 0 1 = cc in absurd (omega arith)
 form-keyword (b ∷ rest) k h = split (eqb b 35) h
   where
-    split : (t : Bool) → cond t idle (wordForm (wordsOf (b ∷ rest))) ≡ keyword k → (vs : List (List ℕ)) × (wordsOf (b ∷ rest) ≡ named k ∷ vs)
+    split : (t : Bool) → cond t Idle (wordForm (wordsOf (b ∷ rest))) ≡ Keyed k → (vs : List (List ℕ)) × (wordsOf (b ∷ rest) ≡ named k ∷ vs)
     split true g = let z : _≡_ {A = ℕ} 0 1 = cc in absurd (omega arith)
     split false g = form-named (wordsOf (b ∷ rest)) k g
 
 -- no first word makes a line idle
-words-not-idle : (ws : List (List ℕ)) → wordForm ws ≡ idle → ⊥
+words-not-idle : (ws : List (List ℕ)) → wordForm ws ≡ Idle → ⊥
 unfolding wordForm
 words-not-idle [] h = let z : _≡_ {A = ℕ} 0 1 = cc in omega arith
 words-not-idle (w ∷ ws) h = split (starts numberByte w) (keywordOf w) h
   where
-    split : (t : Bool) (o : Option Keyword) → cond t data-line (keywordForm o) ≡ idle → ⊥
+    split : (t : Bool) (o : Option Keyword) → cond t Data (keywordForm o) ≡ Idle → ⊥
     split true o g = let z : _≡_ {A = ℕ} 0 1 = cc in omega arith
     split false none g = let z : _≡_ {A = ℕ} 0 1 = cc in omega arith
     split false (some k) g = let z : _≡_ {A = ℕ} 0 1 = cc in omega arith
 
-pub form-idle : (b : ℕ) (rest : List ℕ) → formOf (b ∷ rest) ≡ idle → b ≡ 35
+pub form-idle : (b : ℕ) (rest : List ℕ) → formOf (b ∷ rest) ≡ Idle → b ≡ 35
 unfolding formOf
 form-idle b rest h = split (eqb b 35) refl h
   where
-    split : (t : Bool) → eqb b 35 ≡ t → cond t idle (wordForm (wordsOf (b ∷ rest))) ≡ idle → b ≡ 35
+    split : (t : Bool) → eqb b 35 ≡ t → cond t Idle (wordForm (wordsOf (b ∷ rest))) ≡ Idle → b ≡ 35
     split true e g = eqb-true b 35 e
     split false e g = absurd (words-not-idle (wordsOf (b ∷ rest)) g)

@@ -9,7 +9,15 @@ use Rattle.rules.specs.Units.{samplePlaces, sampleLimit, boundPlaces, bo
 use Rattle.rules.specs.Lines.{blank, inWord, numberByte, hash, quote, inTitle, every, run, after, starts, same, wordsOf}
 use Rattle.rules.specs.Numerals.{digits, spell}
 use Rattle.rules.specs.Numbers.{numberOf}
-use Rattle.rules.specs.Items.{Keyword, aTitle, aLower, anUpper, aSize, named, Item, nothing, title, lower, upper, size, row}
+use Rattle.rules.specs.Items.{named}
+use Rattle.rules.specs.declared.Content.{Content}
+use Rattle.rules.specs.declared.Content.the-variants.{Says, Wrong}
+use Rattle.rules.specs.declared.Form.{Form}
+use Rattle.rules.specs.declared.Form.the-variants.{Idle, Keyed, Data, Neither}
+use Rattle.rules.specs.declared.Item.{Item}
+use Rattle.rules.specs.declared.Item.the-variants.{Nothing, OfTitle, OfLower, OfUpper, OfSize, OfRow}
+use Rattle.rules.specs.declared.Keyword.{Keyword}
+use Rattle.rules.specs.declared.Keyword.the-variants.{ATitle, ALower, AnUpper, ASize}
 use Rattle.rules.specs.declared.Bounds.{Bounds}
 use Rattle.rules.specs.declared.Kind.{Kind}
 use Rattle.rules.specs.declared.Kind.the-variants.{OneD, ThreeD}
@@ -19,18 +27,7 @@ use Rattle.rules.specs.declared.Refusal.{Refusal}
 use Rattle.rules.specs.declared.Refusal.the-variants.{NeitherDataNorKeyword, ParametersWrong, SizeOutOfRange, DomainNumberWrong, NotThreeNumbers, SampleBeyond, SampleTooFine}
 use Rattle.rules.specs.declared.Row.{Row}
 
--- an item, or why there is none
-pub data Content : Type 0 where
-  says : Item → Content
-  wrong : Refusal → Content
-
 -- ---- the form of a line
-
-pub data Form : Type 0 where
-  idle : Form
-  keyword : Keyword → Form
-  data-line : Form
-  neither : Form
 
 -- the word is this keyword, or what follows decides
 abbrev pub orElseTry : List ℕ → Keyword → Option Keyword → Option Keyword
@@ -38,21 +35,21 @@ orElseTry w k next = cond (same w (named k)) (some k) next
 
 -- compared byte for byte, capitals included
 unfoldable pub keywordOf : List ℕ → Option Keyword
-keywordOf w = orElseTry w aTitle (orElseTry w aLower (orElseTry w anUpper (orElseTry w (aSize OneD) (orElseTry w (aSize ThreeD) none))))
+keywordOf w = orElseTry w ATitle (orElseTry w ALower (orElseTry w AnUpper (orElseTry w (ASize OneD) (orElseTry w (ASize ThreeD) none))))
 
 abbrev pub keywordForm : Option Keyword → Form
-keywordForm none = neither
-keywordForm (some k) = keyword k
+keywordForm none = Neither
+keywordForm (some k) = Keyed k
 
 -- by the first word; blanks alone have none
 unfoldable pub wordForm : List (List ℕ) → Form
-wordForm [] = neither
-wordForm (w ∷ ws) = cond (starts numberByte w) data-line (keywordForm (keywordOf w))
+wordForm [] = Neither
+wordForm (w ∷ ws) = cond (starts numberByte w) Data (keywordForm (keywordOf w))
 
 -- an empty line, a comment, or by the first word
 unfoldable pub formOf : List ℕ → Form
-formOf [] = idle
-formOf (b ∷ rest) = cond (hash b) idle (wordForm (wordsOf (b ∷ rest)))
+formOf [] = Idle
+formOf (b ∷ rest) = cond (hash b) Idle (wordForm (wordsOf (b ∷ rest)))
 
 -- ---- TITLE, blanks, then a quote, text, a quote
 
@@ -63,11 +60,11 @@ closes (b ∷ trail) = quote b && every blank trail
 
 -- from the opening quote on, in a line that ends at place `end`
 unfoldable pub quoted : ℕ → List ℕ → Content
-quoted end [] = wrong ParametersWrong
+quoted end [] = Wrong ParametersWrong
 quoted end (b ∷ rest) =
     cond (quote b && closes (after inTitle rest))
-    (says (title (record { there = true; place = end - length rest; length = length (run inTitle rest) })))
-    (wrong ParametersWrong)
+    (Says (OfTitle (record { there = true; place = end - length rest; length = length (run inTitle rest) })))
+    (Wrong ParametersWrong)
 
 -- past the first word and the blanks after it; the line begins at place p
 unfoldable pub titleOf : ℕ → List ℕ → Content
@@ -100,13 +97,13 @@ threeOf places limit (a ∷ b ∷ c ∷ d ∷ more) = none
 -- a number's value, or its refusal: for its form, beyond the limit, or no multiple of the unit
 abbrev pub valued : Refusal → Refusal → Refusal → Number → (ℤ → Content) → Content
 valued unformed beyond finer (Value v) next = next v
-valued unformed beyond finer Malformed next = wrong unformed
-valued unformed beyond finer Beyond next = wrong beyond
-valued unformed beyond finer Finer next = wrong finer
+valued unformed beyond finer Malformed next = Wrong unformed
+valued unformed beyond finer Beyond next = Wrong beyond
+valued unformed beyond finer Finer next = Wrong finer
 
 -- the form of all three, then the values left to right
 abbrev pub values : Refusal → Refusal → Refusal → Option Three → (ℤ → ℤ → ℤ → Content) → Content
-values unformed beyond finer none next = wrong unformed
+values unformed beyond finer none next = Wrong unformed
 values unformed beyond finer (some t) next =
     valued unformed beyond finer (t .first) (λ x. valued unformed beyond finer (t .second) (λ y. valued unformed beyond finer (t .third) (λ z. next x y z)))
 
@@ -116,24 +113,24 @@ boundsAt x y z = record { red = record { 0 = x }; green = record { 0 = y }; blue
 
 unfoldable pub boundsOf : (Bounds → Item) → List (List ℕ) → Content
 boundsOf side ws =
-    values ParametersWrong DomainNumberWrong DomainNumberWrong (threeOf boundPlaces boundLimit ws) (λ x y z. says (side (boundsAt x y z)))
+    values ParametersWrong DomainNumberWrong DomainNumberWrong (threeOf boundPlaces boundLimit ws) (λ x y z. Says (side (boundsAt x y z)))
 
 -- three samples: 15, then 16 before 17 in each
 abbrev pub rowOf : ℤ → ℤ → ℤ → Row
 rowOf x y z = record { red = record { 0 = x }; green = record { 0 = y }; blue = record { 0 = z } }
 
 unfoldable pub samplesOn : List (List ℕ) → Content
-samplesOn ws = values NotThreeNumbers SampleBeyond SampleTooFine (threeOf samplePlaces sampleLimit ws) (λ x y z. says (row (rowOf x y z)))
+samplesOn ws = values NotThreeNumbers SampleBeyond SampleTooFine (threeOf samplePlaces sampleLimit ws) (λ x y z. Says (OfRow (rowOf x y z)))
 
 -- ---- N, digits alone: 6, 7
 
 abbrev pub sized : Kind → ℕ → Content
-sized k n = cond (inRange k n) (says (size (record { kind = k; n = n }))) (wrong SizeOutOfRange)
+sized k n = cond (inRange k n) (Says (OfSize (record { kind = k; n = n }))) (Wrong SizeOutOfRange)
 
 unfoldable pub sizeOf : Kind → List (List ℕ) → Content
-sizeOf k [] = wrong ParametersWrong
-sizeOf k (w ∷ []) = cond (digits w) (sized k (spell 0 w)) (wrong ParametersWrong)
-sizeOf k (w ∷ v ∷ more) = wrong ParametersWrong
+sizeOf k [] = Wrong ParametersWrong
+sizeOf k (w ∷ []) = cond (digits w) (sized k (spell 0 w)) (Wrong ParametersWrong)
+sizeOf k (w ∷ v ∷ more) = Wrong ParametersWrong
 
 -- ---- what a line says, by its form; it begins at place p
 
@@ -143,13 +140,13 @@ parameters [] = []
 parameters (w ∷ ws) = ws
 
 unfoldable pub contentBy : Form → ℕ → List ℕ → Content
-contentBy idle p l = says nothing
-contentBy (keyword aTitle) p l = titleOf p l
-contentBy (keyword aLower) p l = boundsOf lower (parameters (wordsOf l))
-contentBy (keyword anUpper) p l = boundsOf upper (parameters (wordsOf l))
-contentBy (keyword (aSize k)) p l = sizeOf k (parameters (wordsOf l))
-contentBy data-line p l = samplesOn (wordsOf l)
-contentBy neither p l = wrong NeitherDataNorKeyword
+contentBy Idle p l = Says Nothing
+contentBy (Keyed ATitle) p l = titleOf p l
+contentBy (Keyed ALower) p l = boundsOf OfLower (parameters (wordsOf l))
+contentBy (Keyed AnUpper) p l = boundsOf OfUpper (parameters (wordsOf l))
+contentBy (Keyed (ASize k)) p l = sizeOf k (parameters (wordsOf l))
+contentBy Data p l = samplesOn (wordsOf l)
+contentBy Neither p l = Wrong NeitherDataNorKeyword
 
 abbrev pub contentOf : ℕ → List ℕ → Content
 contentOf p l = contentBy (formOf l) p l

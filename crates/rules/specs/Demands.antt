@@ -13,9 +13,11 @@ use Rattle.rules.specs.Descriptions.{rows}
 use Rattle.rules.specs.Lines.{linesOf, wordsOf}
 use Rattle.rules.specs.Numerals.{Exact}
 use Rattle.rules.specs.Grammar.{TitleLine}
-use Rattle.rules.specs.Content.{Form, idle, keyword, data-line, neither, formOf}
+use Rattle.rules.specs.Content.{formOf}
 use Rattle.rules.specs.Interpolation.{Order, denOf, positionOf, pairBy, pathBy, denominator, weighed, total, rowCode}
 use Rattle.rules.specs.Readings.{Reading, Descends}
+use Rattle.rules.specs.declared.Form.{Form}
+use Rattle.rules.specs.declared.Form.the-variants.{Idle, Keyed, Data, Neither}
 use Rattle.rules.specs.declared.Codes.{Codes}
 use Rattle.rules.specs.declared.Colour.{Colour}
 use Rattle.rules.specs.declared.Colour.the-variants.{Red, Green, Blue}
@@ -29,10 +31,10 @@ use Rattle.rules.specs.declared.Title.{Title}
 -- ---- demand 2
 
 abbrev pub isData : Form → Bool
-isData idle = false
-isData (keyword k) = false
-isData data-line = true
-isData neither = false
+isData Idle = false
+isData (Keyed k) = false
+isData Data = true
+isData Neither = false
 
 -- the data lines among lines, in order
 unfoldable pub dataLines : List (List ℕ) → List (List ℕ)

@@ -10,7 +10,11 @@ use Rattle.rules.specs.Units.{samplePlaces, sampleLimit, boundPlaces, bo
 use Rattle.rules.specs.Descriptions.{lowest, highest, noTitle, rows, everyColour, ordered, narrow, agree}
 use Rattle.rules.specs.Lines.{permitted, blank, inTitle, every, linesOf, wordsOf}
 use Rattle.rules.specs.Numerals.{digits, spell, Exact}
-use Rattle.rules.specs.Items.{aTitle, aLower, anUpper, aSize, Keyword, named, Item, nothing, title, lower, upper, size, row, titleIn, lowerIn, upperIn, sizeIn, rowIn, numbersOf}
+use Rattle.rules.specs.Items.{named, titleIn, lowerIn, upperIn, sizeIn, rowIn, numbersOf}
+use Rattle.rules.specs.declared.Item.{Item}
+use Rattle.rules.specs.declared.Item.the-variants.{Nothing, OfTitle, OfLower, OfUpper, OfSize, OfRow}
+use Rattle.rules.specs.declared.Keyword.{Keyword}
+use Rattle.rules.specs.declared.Keyword.the-variants.{ATitle, ALower, AnUpper, ASize}
 use Rattle.rules.specs.declared.Bounds.{Bounds}
 use Rattle.rules.specs.declared.Description.{Description}
 use Rattle.rules.specs.declared.Row.{Row}
@@ -34,13 +38,13 @@ pub record TitleLine (p : ℕ) (l : List ℕ) (t : Title) : Type 0 where
   pub gap : List ℕ
   pub text : List ℕ
   pub trail : List ℕ
-  pub line : l ≡ lead ++ (named aTitle ++ (gap ++ (34 ∷ (text ++ (34 ∷ trail)))))
+  pub line : l ≡ lead ++ (named ATitle ++ (gap ++ (34 ∷ (text ++ (34 ∷ trail)))))
   pub lead-blank : every blank lead ≡ true
   pub gap-blank : every blank gap ≡ true
   pub gap-there : 1 ≤ length gap
   pub text-so : every inTitle text ≡ true
   pub trail-blank : every blank trail ≡ true
-  pub title-so : t ≡ record { there = true; place = p + length lead + length (named aTitle) + length gap + 1; length = length text }
+  pub title-so : t ≡ record { there = true; place = p + length lead + length (named ATitle) + length gap + 1; length = length text }
 
 -- three words whose values are x, y, z
 pub record ThreeNumbers (places limit : ℕ) (ws : List (List ℕ)) (x y z : ℤ) : Type 0 where
@@ -61,7 +65,7 @@ pub record BoundsLine (k : Keyword) (l : List ℕ) (b : Bounds) : Type 0 where
 -- a size word, and N in digits alone, in range
 pub record SizeLine (l : List ℕ) (s : Size) : Type 0 where
   pub word : List ℕ
-  pub words : wordsOf l ≡ named (aSize (s .kind)) ∷ word ∷ []
+  pub words : wordsOf l ≡ named (ASize (s .kind)) ∷ word ∷ []
   pub digits-so : digits word ≡ true
   pub n-so : s .n ≡ spell 0 word
   pub range : inRange (s .kind) (s .n) ≡ true
@@ -70,19 +74,20 @@ pub record SizeLine (l : List ℕ) (s : Size) : Type 0 where
 abbrev pub RowLine : List ℕ → Row → Type 0
 RowLine l r = ThreeNumbers samplePlaces sampleLimit (wordsOf l) (r .red .0) (r .green .0) (r .blue .0)
 
-abbrev pub Says : ℕ → List ℕ → Item → Type 0
-Says p l nothing = IdleLine l
-Says p l (title t) = TitleLine p l t
-Says p l (lower b) = BoundsLine aLower l b
-Says p l (upper b) = BoundsLine anUpper l b
-Says p l (size s) = SizeLine l s
-Says p l (row r) = RowLine l r
+-- what a line that gives an item is
+abbrev pub Gives : ℕ → List ℕ → Item → Type 0
+Gives p l Nothing = IdleLine l
+Gives p l (OfTitle t) = TitleLine p l t
+Gives p l (OfLower b) = BoundsLine ALower l b
+Gives p l (OfUpper b) = BoundsLine AnUpper l b
+Gives p l (OfSize s) = SizeLine l s
+Gives p l (OfRow r) = RowLine l r
 
 -- a line that keeps the rules by itself: short enough, each byte permitted, and of a kind
 pub record Line (p : ℕ) (l : List ℕ) (i : Item) : Type 0 where
   pub short : length l ≤ lineLimit
   pub permitted-so : every permitted l ≡ true
-  pub says : Says p l i
+  pub gives : Gives p l i
 
 -- each line keeps them; the next begins one byte past the end of the one before
 abbrev pub Lines : ℕ → List (List ℕ) → List Item → Type 0
@@ -103,20 +108,20 @@ gather pick [] = []
 gather pick (i ∷ is) = put (pick i) (gather pick is)
 
 abbrev pub isKeyword : Item → Bool
-isKeyword nothing = false
-isKeyword (title t) = true
-isKeyword (lower b) = true
-isKeyword (upper b) = true
-isKeyword (size s) = true
-isKeyword (row r) = false
+isKeyword Nothing = false
+isKeyword (OfTitle t) = true
+isKeyword (OfLower b) = true
+isKeyword (OfUpper b) = true
+isKeyword (OfSize s) = true
+isKeyword (OfRow r) = false
 
 abbrev pub isRow : Item → Bool
-isRow nothing = false
-isRow (title t) = false
-isRow (lower b) = false
-isRow (upper b) = false
-isRow (size s) = false
-isRow (row r) = true
+isRow Nothing = false
+isRow (OfTitle t) = false
+isRow (OfLower b) = false
+isRow (OfUpper b) = false
+isRow (OfSize s) = false
+isRow (OfRow r) = true
 
 abbrev pub NoKeyword : List Item → Type 0
 NoKeyword [] = Unit

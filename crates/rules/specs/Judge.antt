@@ -7,9 +7,16 @@ use lib.ListN.{length}
 use lib.Dec.{eqb, ltb, leb}
 use Rattle.rules.specs.Descriptions.{lowest, highest, noTitle, description, rows, everyColour, ordered, narrow, agree, roomy}
 use Rattle.rules.specs.Lines.{permitted, every}
-use Rattle.rules.specs.Items.{Keyword, aTitle, aLower, anUpper, aSize, Item, titleIn, lowerIn, upperIn, sizeIn, rowIn}
+use Rattle.rules.specs.Items.{titleIn, lowerIn, upperIn, sizeIn, rowIn}
 use Rattle.rules.specs.Grammar.{lineLimit}
-use Rattle.rules.specs.Content.{Content, says, wrong, Form, idle, keyword, data-line, neither, formOf, contentOf}
+use Rattle.rules.specs.Content.{formOf, contentOf}
+use Rattle.rules.specs.declared.Content.{Content}
+use Rattle.rules.specs.declared.Content.the-variants.{Says, Wrong}
+use Rattle.rules.specs.declared.Form.{Form}
+use Rattle.rules.specs.declared.Form.the-variants.{Idle, Keyed, Data, Neither}
+use Rattle.rules.specs.declared.Item.{Item}
+use Rattle.rules.specs.declared.Keyword.{Keyword}
+use Rattle.rules.specs.declared.Keyword.the-variants.{ATitle, ALower, AnUpper, ASize}
 use Rattle.rules.specs.declared.Bounds.{Bounds}
 use Rattle.rules.specs.declared.Description.{Description}
 use Rattle.rules.specs.declared.Kind.the-variants.{OneD}
@@ -69,10 +76,10 @@ describe st = description (orElse noTitle (st .title)) (orElse lowest (st .lower
 
 -- whether a keyword's line was there
 unfoldable pub repeats : Keyword → State → Bool
-repeats aTitle st = given (st .title)
-repeats aLower st = given (st .lower)
-repeats anUpper st = given (st .upper)
-repeats (aSize k) st = given (st .size)
+repeats ATitle st = given (st .title)
+repeats ALower st = given (st .lower)
+repeats AnUpper st = given (st .upper)
+repeats (ASize k) st = given (st .size)
 
 -- ---- a refusal, or none: the first decides
 
@@ -108,10 +115,10 @@ byteFault l = need (leb (length l) lineLimit) LineTooLong (need (every permitted
 
 -- a keyword: 4, 5; a data line: 9 to 13, 14
 unfoldable pub orderFault : ℕ → State → Form → Fault
-orderFault places st idle = none
-orderFault places st (keyword k) = need (eqb (st .rows) 0) KeywordAfterData (need (not (repeats k st)) KeywordRepeated none)
-orderFault places st data-line = first (headFault places st) (need (ltb (st .rows) (rows (describe st))) TooManyRows none)
-orderFault places st neither = none
+orderFault places st Idle = none
+orderFault places st (Keyed k) = need (eqb (st .rows) 0) KeywordAfterData (need (not (repeats k st)) KeywordRepeated none)
+orderFault places st Data = first (headFault places st) (need (ltb (st .rows) (rows (describe st))) TooManyRows none)
+orderFault places st Neither = none
 
 -- the state after a line, or a refusal
 pub data Judged : Type 0 where
@@ -119,8 +126,8 @@ pub data Judged : Type 0 where
   refuse : Refusal → Judged
 
 unfoldable pub take-in : State → Content → Judged
-take-in st (says i) = go (add st i)
-take-in st (wrong r) = refuse r
+take-in st (Says i) = go (add st i)
+take-in st (Wrong r) = refuse r
 
 unfoldable pub unless : Fault → Judged → Judged
 unless none j = j

@@ -6,9 +6,12 @@ use lib.ListN.{length, drop}
 use lib.IntN.{ℤ}
 use Rattle.rules.specs.Descriptions.{rows}
 use Rattle.rules.specs.Lines.{linesOf}
-use Rattle.rules.specs.Items.{nothing, title, lower, upper, size, row, numbersOf}
-use Rattle.rules.specs.Content.{Content, says, wrong, contentOf}
+use Rattle.rules.specs.Items.{numbersOf}
+use Rattle.rules.specs.Content.{contentOf}
 use Rattle.rules.specs.Judge.{State, start, describe, Fault, Judged, go, refuse, judge, endFault}
+use Rattle.rules.specs.declared.Content.{Content}
+use Rattle.rules.specs.declared.Content.the-variants.{Says, Wrong}
+use Rattle.rules.specs.declared.Item.the-variants.{Nothing, OfTitle, OfLower, OfUpper, OfSize, OfRow}
 use Rattle.rules.specs.declared.Read.{Read}
 use Rattle.rules.specs.declared.Read.the-variants.{Accepted, Refused}
 
@@ -33,13 +36,13 @@ read file places = readLines places 0 0 start (linesOf file)
 
 -- the samples of a line
 unfoldable pub samplesIn : Content → List ℤ
-samplesIn (says nothing) = []
-samplesIn (says (title t)) = []
-samplesIn (says (lower b)) = []
-samplesIn (says (upper b)) = []
-samplesIn (says (size s)) = []
-samplesIn (says (row r)) = numbersOf r
-samplesIn (wrong r) = []
+samplesIn (Says Nothing) = []
+samplesIn (Says (OfTitle t)) = []
+samplesIn (Says (OfLower b)) = []
+samplesIn (Says (OfUpper b)) = []
+samplesIn (Says (OfSize s)) = []
+samplesIn (Says (OfRow r)) = numbersOf r
+samplesIn (Wrong r) = []
 
 -- the samples of lines, in order
 unfoldable pub samplesOf : List (List ℕ) → List ℤ

@@ -116,6 +116,38 @@ pub struct Row {
     pub blue: TenMillionths,
 }
 
+// A keyword; the two size words count as one.
+pub enum Keyword {
+    ATitle,
+    ALower,
+    AnUpper,
+    ASize(Kind),
+}
+
+// The form of a line: empty or a comment, by its keyword, data, or none of these.
+pub enum Form {
+    Idle,
+    Keyed(Keyword),
+    Data,
+    Neither,
+}
+
+// What a line gives: nothing (empty, or a comment), a title, lower or upper bounds, a size, or a row.
+pub enum Item {
+    Nothing,
+    OfTitle(Title),
+    OfLower(Bounds),
+    OfUpper(Bounds),
+    OfSize(Size),
+    OfRow(Row),
+}
+
+// An item, or why there is none.
+pub enum Content {
+    Says(Item),
+    Wrong(Refusal),
+}
+
 // ---- pixels, rows and weights
 
 // One code of each colour: a pixel, and its answer.
