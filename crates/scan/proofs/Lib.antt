@@ -1,0 +1,3 @@
+-- Laws of tests and of runs.
+pub mod Tests
+pub mod Runs

@@ -1,0 +1,2 @@
+-- The kinds of bytes, by the rules.
+pub mod Kinds
