@@ -13,3 +13,5 @@ pub mod Rule
 pub mod RowsAndWeights
 pub mod Unique
 pub mod Checks
+pub mod Demand3
+pub mod Untitled
