@@ -10,14 +10,14 @@ use native.Mathlib.Omega.{arith}
 use borrow.Author.Tests.{eq-eqb, ne-eqb, le-leb, lt-leb}
 use lib.Dec.{leb}
 use lib.IntN.{ℤ}
-use lib.ListN.{length, getD, length-append, List·getD-append}
+use lib.ListN.{length, drop, getD, length-append, length-drop, List·getD-append}
 use lib.Seq.{getD-append-add}
 use Rattle.rules.specs.Units.{depthOf, colourPlace, codeIn}
 use Rattle.rules.specs.Descriptions.{couldBeRead}
 use Rattle.rules.specs.Lines.{every}
 use Rattle.rules.specs.Looking.{within, shown, correct, lookAt, look}
 use Rattle.rules.specs.Answers.{lookNumber, codesOf, lookCodes, pictureNumber}
-use Rattle.rules.specs.Picturing.{pixelOf, corrected, pictureWith, pictureAt, picture}
+use Rattle.rules.specs.Picturing.{pixelOf, corrected, pictureWith, pictureAt, picture, outputAfter}
 use Rattle.rules.specs.declared.Codes.{Codes}
 use Rattle.rules.specs.declared.Colour.{Colour}
 use Rattle.rules.specs.declared.Colour.the-variants.{Red, Green, Blue}
@@ -27,6 +27,7 @@ use Rattle.rules.specs.declared.DepthFound.the-variants.{Known, Unknown}
 use Rattle.rules.specs.declared.Description.{Description}
 use Rattle.rules.specs.declared.Look.{Look}
 use Rattle.rules.specs.declared.Look.the-variants as L
+use Rattle.rules.specs.declared.Picture.{Picture}
 use Rattle.rules.specs.declared.Picture.the-variants as P
 use Rattle.rules.specs.declared.Refusal.{Refusal}
 use Rattle.rules.specs.declared.Refusal.the-variants.{DepthUnknown, PictureNotPixels, OutputTooShort, CodeTooGreat, CouldNotBeRead}
@@ -221,6 +222,18 @@ module _ (d : Description) (table : List ℤ) (bits : ℕ) where
       ∙ getD-append-add codes (corrected d table bits rest) (3 * k + j) 0
       ∙ corrected-at rest k j l (omega arith)
       ∙ ap (λ p. getD (lookCodes (look d table bits p)) j 0) (sym (later-pixel r g b rest k))
+
+  -- the output keeps its length
+  pub output-length : (src dst : List ℕ) → length (outputAfter d table bits src dst (picture d table bits src (length dst))) ≡ length dst
+  unfolding outputAfter
+  output-length src dst = by (picture d table bits src (length dst)) refl
+    where
+      by : (r : Picture) → picture d table bits src (length dst) ≡ r → length (outputAfter d table bits src dst r) ≡ length dst
+      by P.Accepted e =
+          let p = picture-passed d table bits src (length dst) e in
+          length-append (corrected d table bits src) (drop (length src) dst)
+          ∙ omega (arith, corrected-length src (p .whole), length-drop (length src) dst, p .room)
+      by (P.Refused r) e = refl
 
   -- of an accepted picture look accepts every pixel, and the codes are those of look, pixel by pixel
   pub record PictureCodes (src : List ℕ) : Type 0 where
