@@ -109,7 +109,7 @@ module _ (d : Description) (table : List ℤ) (bits : ℕ) (src : List ℕ) (pla
 
     pub picture-21 : (length src % 3 ≡ 0 → ⊥) → picture d table bits src places ≡ P.Refused PictureNotPixels
     unfolding pictureWith
-    picture-21 odd = picture-passed-20 ∙ rw (ne-eqb (length src % 3) 0 odd)
+    picture-21 over = picture-passed-20 ∙ rw (ne-eqb (length src % 3) 0 over)
 
     module _ (whole : length src % 3 ≡ 0) where
       pub picture-22 : places < length src → picture d table bits src places ≡ P.Refused OutputTooShort
@@ -143,7 +143,7 @@ module _ (d : Description) (table : List ℤ) (bits : ℕ) (src : List ℕ) (pla
 
       by-23 : (m : Depth) → couldBeRead d table ≡ true → depthOf bits ≡ Known m
           → Dec (length src % 3 ≡ 0) → Dec (length src ≤ places) → (b : Bool) → within-all (m .greatest) src ≡ b → PicturePassed d table bits src places
-      by-23 m e k (no odd) room b w = absurd (not-refused (picture-21 d table bits src places m e k odd))
+      by-23 m e k (no over) room b w = absurd (not-refused (picture-21 d table bits src places m e k over))
       by-23 m e k (yes whole) (no short) b w = absurd (not-refused (picture-22 d table bits src places m e k whole (omega arith)))
       by-23 m e k (yes whole) (yes room) false w = absurd (not-refused (picture-23 d table bits src places m e k whole room w))
       by-23 m e k (yes whole) (yes room) true w = record { depth = m; could = e; known = k; whole = whole; room = room; inside = w }
