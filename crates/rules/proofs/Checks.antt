@@ -10,26 +10,27 @@ use native.Mathlib.Omega.{arith}
 use borrow.Author.Tests.{eq-eqb, ne-eqb, le-leb, lt-leb}
 use lib.Dec.{leb}
 use lib.IntN.{ℤ}
-use lib.ListN.{length, getD, length-append, List·getD-append}
+use lib.ListN.{length, drop, getD, length-append, length-drop, List·getD-append}
 use lib.Seq.{getD-append-add}
 use Rattle.rules.specs.Units.{depthOf, colourPlace, codeIn}
 use Rattle.rules.specs.Descriptions.{couldBeRead}
 use Rattle.rules.specs.Lines.{every}
 use Rattle.rules.specs.Looking.{within, shown, correct, lookAt, look}
-use Rattle.rules.specs.Answers.{lookNumber, codesOf, lookCodes, pictureNumber}
-use Rattle.rules.specs.Picturing.{pixelOf, corrected, pictureWith, pictureAt, picture}
+use Rattle.rules.specs.Answers.{lookNumber, lookCodes, pictureNumber}
+use Rattle.rules.specs.Picturing.{pixelOf, corrected, pictureWith, pictureAt, picture, outputAfter}
 use Rattle.rules.specs.declared.Codes.{Codes}
 use Rattle.rules.specs.declared.Colour.{Colour}
-use Rattle.rules.specs.declared.Colour.the-variants.{Red, Green, Blue}
 use Rattle.rules.specs.declared.Depth.{Depth}
 use Rattle.rules.specs.declared.DepthFound.{DepthFound}
 use Rattle.rules.specs.declared.DepthFound.the-variants.{Known, Unknown}
 use Rattle.rules.specs.declared.Description.{Description}
 use Rattle.rules.specs.declared.Look.{Look}
 use Rattle.rules.specs.declared.Look.the-variants as L
+use Rattle.rules.specs.declared.Picture.{Picture}
 use Rattle.rules.specs.declared.Picture.the-variants as P
 use Rattle.rules.specs.declared.Refusal.{Refusal}
 use Rattle.rules.specs.declared.Refusal.the-variants.{DepthUnknown, PictureNotPixels, OutputTooShort, CodeTooGreat, CouldNotBeRead}
+use Rattle.rules.proofs.Colours.{place-below, code-at-place}
 use Rattle.rules.proofs.Tests.{and-both, both-and}
 use Rattle.rules.proofs.Unique.{refused-not-0}
 
@@ -108,7 +109,7 @@ module _ (d : Description) (table : List ℤ) (bits : ℕ) (src : List ℕ) (pla
 
     pub picture-21 : (length src % 3 ≡ 0 → ⊥) → picture d table bits src places ≡ P.Refused PictureNotPixels
     unfolding pictureWith
-    picture-21 odd = picture-passed-20 ∙ rw (ne-eqb (length src % 3) 0 odd)
+    picture-21 over = picture-passed-20 ∙ rw (ne-eqb (length src % 3) 0 over)
 
     module _ (whole : length src % 3 ≡ 0) where
       pub picture-22 : places < length src → picture d table bits src places ≡ P.Refused OutputTooShort
@@ -142,7 +143,7 @@ module _ (d : Description) (table : List ℤ) (bits : ℕ) (src : List ℕ) (pla
 
       by-23 : (m : Depth) → couldBeRead d table ≡ true → depthOf bits ≡ Known m
           → Dec (length src % 3 ≡ 0) → Dec (length src ≤ places) → (b : Bool) → within-all (m .greatest) src ≡ b → PicturePassed d table bits src places
-      by-23 m e k (no odd) room b w = absurd (not-refused (picture-21 d table bits src places m e k odd))
+      by-23 m e k (no over) room b w = absurd (not-refused (picture-21 d table bits src places m e k over))
       by-23 m e k (yes whole) (no short) b w = absurd (not-refused (picture-22 d table bits src places m e k whole (omega arith)))
       by-23 m e k (yes whole) (yes room) false w = absurd (not-refused (picture-23 d table bits src places m e k whole room w))
       by-23 m e k (yes whole) (yes room) true w = record { depth = m; could = e; known = k; whole = whole; room = room; inside = w }
@@ -222,6 +223,18 @@ module _ (d : Description) (table : List ℤ) (bits : ℕ) where
       ∙ corrected-at rest k j l (omega arith)
       ∙ ap (λ p. getD (lookCodes (look d table bits p)) j 0) (sym (later-pixel r g b rest k))
 
+  -- the output keeps its length
+  pub output-length : (src dst : List ℕ) → length (outputAfter d table bits src dst (picture d table bits src (length dst))) ≡ length dst
+  unfolding outputAfter
+  output-length src dst = by (picture d table bits src (length dst)) refl
+    where
+      by : (r : Picture) → picture d table bits src (length dst) ≡ r → length (outputAfter d table bits src dst r) ≡ length dst
+      by P.Accepted e =
+          let p = picture-passed d table bits src (length dst) e in
+          length-append (corrected d table bits src) (drop (length src) dst)
+          ∙ omega (arith, corrected-length src (p .whole), length-drop (length src) dst, p .room)
+      by (P.Refused r) e = refl
+
   -- of an accepted picture look accepts every pixel, and the codes are those of look, pixel by pixel
   pub record PictureCodes (src : List ℕ) : Type 0 where
     pub m : ℕ
@@ -249,18 +262,8 @@ module _ (d : Description) (table : List ℤ) (bits : ℕ) where
           → look d table bits (pixelAt src k) ≡ L.Accepted (correct d table m m (pixelAt src k)) (shown d m (pixelAt src k) (d .kind))
       accepts k h = look-0 d table bits (pixelAt src k) (p .depth) (p .could) (p .known) (pixel-within m src (p .inside) k (whole-pixel k h))
 
-      code-of : (codes : Codes) (c : Colour) → getD (codesOf codes) (colourPlace c) 0 ≡ codeIn codes c
-      code-of codes Red = refl
-      code-of codes Green = refl
-      code-of codes Blue = refl
-
-      place-below : (c : Colour) → colourPlace c < 3
-      place-below Red = omega arith
-      place-below Green = omega arith
-      place-below Blue = omega arith
-
       the-same : (k : ℕ) → 3 * k < length src → (c : Colour) → getD (corrected d table bits src) (3 * k + colourPlace c) 0 ≡ codeIn (correct d table m m (pixelAt src k)) c
       the-same k h c =
           corrected-at src k (colourPlace c) (place-below c) (whole-pixel k h)
           ∙ ap (λ r. getD (lookCodes r) (colourPlace c) 0) (accepts k h)
-          ∙ code-of (correct d table m m (pixelAt src k)) c
+          ∙ code-at-place (correct d table m m (pixelAt src k)) c

@@ -11,7 +11,8 @@ use Rattle.rules.specs.Readings.{Reading, Descends}
 use Rattle.rules.specs.declared.Colour.{Colour}
 use Rattle.rules.proofs.Layers.{level, level-above, level-below, Stairs, ground, step}
 
--- ---- what readings there are: the paper's, and where its f is 0 the cell below with f = D. No others.
+-- ---- what readings there are: two of one position are in neighbouring cells, at the end of the one and at the start of the other
+
 pub cell-below : (n den p i : ℕ) → Reading n den p (i + 1) 0 → Reading n den p i den
 cell-below n den p i r =
     record { cell = omega (arith, r .cell); part = NatL.le-refl den; place = omega (arith, r .place, NatL.add-mul i 1 den) }
@@ -23,13 +24,10 @@ only-these {den = den} {i = i} {f = f} {j = j} {g = g} d r q h = by (decLe j (i 
     by (yes k) =
         let e : j ≡ i + 1 = omega arith in
         let m : j * den ≡ i * den + den = ap (λ x. x * den) e ∙ omega (arith, NatL.add-mul i 1 den) in
-        (e, (omega (arith, r .place, r .part, q .place), omega (arith, r .place, r .part, q .place)))
+        (e, omega (arith, r .place, r .part, q .place))
     by (no k) =
         let m : i * den + 2 * den ≤ j * den = omega (arith, NatL.mul-le-mul-right {m = i + 2} {n = j} den (omega arith), NatL.add-mul i 2 den) in
-        absurd (far m)
-      where
-        far : i * den + 2 * den ≤ j * den → ⊥
-        far m = omega (arith, r .place, r .part, q .place)
+        absurd (omega (arith, r .place, r .part, q .place))
 
 -- ---- 1D
 
@@ -68,15 +66,14 @@ pub cube-stairs : {n den : ℕ} {p i f : Colour → ℕ} {o : Order} → ((k : C
     → Stairs (rowIn n den p) den (pathBy n den i f o)
 unfolding pathBy climb
 cube-stairs {n} {den} {p} {i} {f} {o} r s =
-    let 1st-part = r (1st o) .part in
-    step (f (1st o)) (omega arith) (λ t l h. in-row t 0 0 0 (stay (1st o) t h l) (stay (2nd o) t h (omega arith)) (stay (3rd o) t h (omega arith)) (omega arith))
-    (step (f (2nd o)) (omega arith) (λ t l h. let k : t < den = omega arith in
-    in-row t 1 0 0 (up (1st o) t k h) (stay (2nd o) t k l) (stay (3rd o) t k (omega arith)) (omega arith))
-    (step (f (3rd o)) (omega arith) (λ t l h. let k : t < den = omega arith in
-    in-row t 1 1 0 (up (1st o) t k (omega arith)) (up (2nd o) t k h) (stay (3rd o) t k l) (omega arith))
-    (step 0 (omega arith) (λ t l h. let k : t < den = omega arith in
-    in-row t 1 1 1 (up (1st o) t k (omega arith)) (up (2nd o) t k (omega arith)) (up (3rd o) t k h) (omega arith)) ground)))
+    step (f (1st o)) (omega (arith, within)) none-up
+    (step (f (2nd o)) (omega arith) one-up
+    (step (f (3rd o)) (omega arith) two-up
+    (step 0 (omega arith) all-up ground)))
   where
+    within : f (1st o) ≤ den
+    within = r (1st o) .part
+
     up : (k : Colour) (t : ℕ) → t < den → t < f k → level (p k) den t ≡ i k + 1
     up k t h = level-above (r k) t h
 
@@ -86,3 +83,21 @@ cube-stairs {n} {den} {p} {i} {f} {o} r s =
     in-row : (t a b d : ℕ) {row : ℕ} → level (p (1st o)) den t ≡ i (1st o) + a → level (p (2nd o)) den t ≡ i (2nd o) + b → level (p (3rd o)) den t ≡ i (3rd o) + d
         → rowAt n i + stride n (1st o) * a + stride n (2nd o) * b + stride n (3rd o) * d ≡ row → rowIn n den p t ≡ row
     in-row t a b d e g h z = row-up n i (λ k. level (p k) den t) o a b d e g h ∙ z
+
+    none-up : (t : ℕ) → f (1st o) ≤ t → t < den → rowIn n den p t ≡ rowAt n i
+    none-up t l h = in-row t 0 0 0 (stay (1st o) t h l) (stay (2nd o) t h (omega arith)) (stay (3rd o) t h (omega arith)) (omega arith)
+
+    one-up : (t : ℕ) → f (2nd o) ≤ t → t < f (1st o) → rowIn n den p t ≡ rowAt n i + stride n (1st o)
+    one-up t l h =
+        let k : t < den = omega (arith, within) in
+        in-row t 1 0 0 (up (1st o) t k h) (stay (2nd o) t k l) (stay (3rd o) t k (omega arith)) (omega arith)
+
+    two-up : (t : ℕ) → f (3rd o) ≤ t → t < f (2nd o) → rowIn n den p t ≡ rowAt n i + stride n (1st o) + stride n (2nd o)
+    two-up t l h =
+        let k : t < den = omega (arith, within) in
+        in-row t 1 1 0 (up (1st o) t k (omega arith)) (up (2nd o) t k h) (stay (3rd o) t k l) (omega arith)
+
+    all-up : (t : ℕ) → 0 ≤ t → t < f (3rd o) → rowIn n den p t ≡ rowAt n i + stride n (1st o) + stride n (2nd o) + stride n (3rd o)
+    all-up t l h =
+        let k : t < den = omega (arith, within) in
+        in-row t 1 1 1 (up (1st o) t k (omega arith)) (up (2nd o) t k (omega arith)) (up (3rd o) t k h) (omega arith)

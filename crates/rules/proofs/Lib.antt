@@ -1,7 +1,8 @@
 -- The theorems about the rules. No code is in them.
 
--- tests and their parts
+-- tests and their parts; the three colours
 pub mod Tests
+pub mod Colours
 -- a word as a number, and what a word says that is none
 pub mod Runs
 pub mod Numbers
@@ -21,20 +22,20 @@ pub mod Refusals
 pub mod Places
 pub mod Titles
 pub mod Bridge
--- document 01's cases
-pub mod Cases
--- the test of 24 is the property `Sound`
+-- the test of 24 is the property `Sound`; a known depth's M
 pub mod Judged
--- a known depth's M
 pub mod Depths
--- demand 3: either reading; the rule's own; weights and rows
+-- demand 3: either reading; the rule's own; weights and rows; what is asked of an accepted look
 pub mod Layers
 pub mod EitherReading
 pub mod Rule
 pub mod RowsAndWeights
--- each promise decides its answer; the answers by their checks
+pub mod Demand3
+-- demand 1: each promise decides its answer; the answers by their checks; what reading's promise decides; titles change no answer
 pub mod Unique
 pub mod Checks
--- what reading's promise decides, and the wrong programs that the promises rule out
 pub mod Promised
+pub mod Untitled
+-- document 01's cases, and the wrong programs that the promises rule out
+pub mod Cases
 pub mod WrongPrograms

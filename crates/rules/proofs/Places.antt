@@ -1,10 +1,9 @@
 -- Where each number of the file stands in the table.
-use Prim.Native.Nat.{ℕ, zero, suc, _+_, _*_, _≤_, _<_}
+use Prim.Native.Nat.{ℕ, zero, suc, _+_, _*_, _<_}
 use mathlib.Core.Path.{_≡_, refl, ap, subst, _∙_}
 use mathlib.Core.Bool.{false}
 use mathlib.Core.List.{List, [], _∷_, _++_, map, flatten}
 use mathlib.Core.Option.{Option, none, some}
-use native.Mathlib.Nat.{mul-le-mul-left}
 use native.Mathlib.Omega.{arith}
 use lib.ListN.{length, getD, List·getD-append}
 use lib.IntN.{ℤ, pos}
@@ -24,7 +23,9 @@ use Rattle.rules.specs.declared.Kind.the-variants.{OneD, ThreeD}
 use Rattle.rules.specs.declared.Row.{Row}
 use Rattle.rules.specs.declared.Description.{Description}
 use Rattle.rules.specs.declared.Read.the-variants.{Accepted}
+use Rattle.rules.proofs.Colours.{place-below}
 use Rattle.rules.proofs.Order.{formFor}
+use Rattle.rules.proofs.RowsAndWeights.{row-below}
 use Rattle.rules.proofs.Sorts.{row-item}
 use Rattle.rules.proofs.OneLine.{found}
 use Rattle.rules.proofs.Acceptance.{accepted-keeps}
@@ -95,13 +96,6 @@ samples-length (r ∷ rs) = omega (arith, samples-length rs)
 pub keeps-length : (file : List ℕ) (places : ℕ) (d : Description) (samples : List ℤ) → Keeps file places d samples → length samples ≡ 3 * rows d
 keeps-length file places d samples k = ap length (k .values) ∙ samples-length (gather rowIn (k .items)) ∙ ap (λ (n : ℕ). 3 * n) (k .count)
 
--- the row of three indices is one of the cube's
-pub cube-row : (n r g b : ℕ) → r < n → g < n → b < n → r + n * g + n * n * b < n * n * n
-cube-row n r g b br bg bb =
-    let x : n * (g + 1) ≤ n * n = mul-le-mul-left n (omega arith) in
-    let y : n * n * (b + 1) ≤ n * n * n = mul-le-mul-left (n * n) (omega arith) in
-    omega arith
-
 module _ (file : List ℕ) (table : List ℤ) (d : Description) (h : read file (length table) ≡ Accepted d) where
   -- the number of colour c on data line k is the sample of row k
   pub place : (k : ℕ) (c : Colour) → k < rows d → Written file k c (sampleAt (tableAfter file table (Accepted d)) k c)
@@ -109,24 +103,20 @@ module _ (file : List ℕ) (table : List ℤ) (d : Description) (h : read file (
   place k c b =
       let q : Keeps file (length table) d (samplesOf (linesOf file)) = accepted-keeps file (length table) d h in
       let n : length (samplesOf (linesOf file)) ≡ 3 * rows d = keeps-length file (length table) d (samplesOf (linesOf file)) q in
-      rw (List·getD-append (samplesOf (linesOf file)) _ (pos 0) (3 * k + colourPlace c) (omega (arith, colour-below c)), q .values)
+      rw (List·getD-append (samplesOf (linesOf file)) _ (pos 0) (3 * k + colourPlace c) (omega (arith, place-below c)), q .values)
       (in-order 0 (linesOf file) (q .items) (q .lines) k c (omega (arith, q .count)))
-    where
-      colour-below : (c : Colour) → colourPlace c < 3
-      colour-below Red = omega arith
-      colour-below Green = omega arith
-      colour-below Blue = omega arith
 
   -- 1D: row r
   pub place-1D : d .kind ≡ OneD → (r : ℕ) (c : Colour) → r < d .n → Written file r c (getD (tableAfter file table (Accepted d)) (3 * r + colourPlace c) (pos 0))
   place-1D e r c b = place r c (rw e b)
 
   -- 3D: red index r, green g, blue b is row r + N·g + N·N·b
-  pub place-3D : d .kind ≡ ThreeD → (r g b : ℕ) (c : Colour) → r < d .n → g < d .n → b < d .n
-      → Written file (r + d .n * g + d .n * d .n * b) c (getD (tableAfter file table (Accepted d)) (3 * (r + d .n * g + d .n * d .n * b) + colourPlace c) (pos 0))
-  place-3D e r g b c br bg bb = place (r + d .n * g + d .n * d .n * b) c (rw e (cube-row (d .n) r g b br bg bb))
+  pub place-3D : d .kind ≡ ThreeD → (i : Colour → ℕ) (c : Colour) → ((k : Colour) → i k < d .n)
+      → Written file (i Red + d .n * i Green + d .n * d .n * i Blue) c
+      (getD (tableAfter file table (Accepted d)) (3 * (i Red + d .n * i Green + d .n * d .n * i Blue) + colourPlace c) (pos 0))
+  place-3D e i c b = place (i Red + d .n * i Green + d .n * d .n * i Blue) c (rw e (row-below (d .n) i b))
 
   -- and it is the sample that interpolation takes for these three indices
   pub looked-up-3D : d .kind ≡ ThreeD → (i : Colour → ℕ) (c : Colour) → ((k : Colour) → i k < d .n)
       → Written file (i Red + d .n * i Green + d .n * d .n * i Blue) c (sampleAt (tableAfter file table (Accepted d)) (rowAt (d .n) i) c)
-  looked-up-3D e i c b = place-3D e (i Red) (i Green) (i Blue) c (b Red) (b Green) (b Blue)
+  looked-up-3D e i c b = place-3D e i c b
