@@ -10,7 +10,7 @@ use Rattle.rules.specs.Units.{inRange}
 use Rattle.rules.specs.Numerals.{digits, spell}
 use Rattle.rules.specs.Grammar.{ThreeNumbers}
 use Rattle.rules.specs.Numbers.{numberOf}
-use Rattle.rules.specs.Content.{Three, formed, sizeOf, threeOf, valued, values}
+use Rattle.rules.specs.Content.{formed, sizeOf, threeOf, valued, values}
 use Rattle.rules.specs.declared.Content.{Content}
 use Rattle.rules.specs.declared.Content.the-variants.{Says, Wrong}
 use Rattle.rules.specs.declared.Item.{Item}
@@ -20,6 +20,7 @@ use Rattle.rules.specs.declared.Refusal.{Refusal}
 use Rattle.rules.specs.declared.Refusal.the-variants.{ParametersWrong, SizeOutOfRange}
 use Rattle.rules.specs.declared.Number.{Number}
 use Rattle.rules.specs.declared.Number.the-variants.{Value, Malformed, Beyond, Finer}
+use Rattle.rules.specs.declared.Three.{Three}
 use Rattle.rules.proofs.Numbers.{exact-of, of-exact}
 
 pub no-wrong : (r : Refusal) (i : Item) → Wrong r ≡ Says i → ⊥

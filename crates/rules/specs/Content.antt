@@ -26,6 +26,7 @@ use Rattle.rules.specs.declared.Number.the-variants.{Value, Malformed, B
 use Rattle.rules.specs.declared.Refusal.{Refusal}
 use Rattle.rules.specs.declared.Refusal.the-variants.{NeitherDataNorKeyword, ParametersWrong, SizeOutOfRange, DomainNumberWrong, NotThreeNumbers, SampleBeyond, SampleTooFine}
 use Rattle.rules.specs.declared.Row.{Row}
+use Rattle.rules.specs.declared.Three.{Three}
 
 -- ---- the form of a line
 
@@ -71,11 +72,6 @@ unfoldable pub titleOf : ℕ → List ℕ → Content
 titleOf p l = quoted (p + length l) (after blank (after inWord (after blank l)))
 
 -- ---- three numbers
-
-pub record Three : Type 0 where
-  pub first : Number
-  pub second : Number
-  pub third : Number
 
 abbrev pub formed : Number → Bool
 formed (Value v) = true

@@ -102,6 +102,13 @@ pub enum Number {
     Finer,
 }
 
+// What three words say as numbers.
+pub struct Three {
+    pub first: Number,
+    pub second: Number,
+    pub third: Number,
+}
+
 // The three numbers of a DOMAIN_MIN or DOMAIN_MAX line.
 pub struct Bounds {
     pub red: Thousandths,
