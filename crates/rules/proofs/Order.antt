@@ -16,6 +16,7 @@ use Rattle.rules.specs.declared.Form.{Form}
 use Rattle.rules.specs.declared.Form.the-variants.{Idle, Keyed, Data}
 use Rattle.rules.specs.declared.Item.{Item}
 use Rattle.rules.specs.declared.Item.the-variants.{Nothing, OfTitle, OfLower, OfUpper, OfSize, OfRow}
+use Rattle.rules.specs.declared.Keyword.{Keyword}
 use Rattle.rules.specs.declared.Keyword.the-variants.{ATitle, ALower, AnUpper, ASize}
 use Rattle.rules.specs.declared.Description.{Description}
 use Rattle.rules.specs.declared.Title.{Title}
@@ -23,7 +24,7 @@ use Rattle.rules.specs.declared.Bounds.{Bounds}
 use Rattle.rules.specs.declared.Size.{Size}
 use Rattle.rules.specs.declared.Row.{Row}
 use Rattle.rules.specs.declared.Refusal.the-variants.{NoSize}
-use Rattle.rules.proofs.Sorts.{none-picked}
+use Rattle.rules.proofs.Sorts.{title-item, lower-item, upper-item, size-item}
 use Rattle.rules.proofs.Tests.{no-some, no-true, need-none, none-need, first-none, none-first}
 
 -- the form of a line that gives an item
@@ -62,145 +63,99 @@ once-given default [] x h = (none, refl, h)
 once-given default (a ∷ []) x h = (some a, (refl, refl), h)
 once-given default (a ∷ b ∷ more) x h = absurd h
 
-module _ {A : Type 0} (pick : Item → Option A) (slot : State → Option A)
-    (adds : (st : State) (i : Item) → slot (add st i) ≡ newer (pick i) (slot st))
-    (once : (places : ℕ) (st : State) (i : Item) (a : A) → Admits places st i → pick i ≡ some a → slot st ≡ none)
-    (sort : (i : Item) → isKeyword i ≡ false → pick i ≡ none) where
-  pub filled : (places : ℕ) (st : State) (is : List Item) → Admitted places st is → Once (slot st) (gather pick is) (slot (final st is))
-  unfolding gather
-  filled places st [] h = refl
-  filled places st (i ∷ is) h = split (pick i) refl (rw (adds st i) at (filled places (add st i) is (h .1)))
-    where
-      split : (o : Option A) → pick i ≡ o → Once (newer (pick i) (slot st)) (gather pick is) (slot (final st (i ∷ is)))
-          → Once (slot st) (put o (gather pick is)) (slot (final st (i ∷ is)))
-      split none e r = rw e at r
-      split (some a) e r = (once places st i a (h .0) e, rw e at r)
-
-  -- an item taken in leaves what the rest must give
-  pub passed : (st : State) (i : Item) (is : List Item) (r : Option A) → Once (slot st) (gather pick (i ∷ is)) r → Once (slot (add st i)) (gather pick is) r
-  unfolding gather
-  passed st i is r h = rw (adds st i) (split (pick i) h)
-    where
-      split : (o : Option A) → Once (slot st) (put o (gather pick is)) r → Once (newer o (slot st)) (gather pick is) r
-      split none g = g
-      split (some a) g = g .1
-
-  pub open-slot : (st : State) (i : Item) (is : List Item) (r : Option A) (a : A) → Once (slot st) (gather pick (i ∷ is)) r → pick i ≡ some a → slot st ≡ none
-  unfolding gather
-  open-slot st i is r a h e = (rw e at h) .0
-
-  -- with no keyword left the field is what it was
-  pub settled : (st : State) (is : List Item) (r : Option A) → NoKeyword is → Once (slot st) (gather pick is) r → r ≡ slot st
-  unfolding gather
-  settled st [] r k h = h
-  settled st (i ∷ is) r k h = settled st is r (k .1) (rw (sort i (k .0)) at h)
-
--- ---- the four sorts
-
-keyword-once : (places : ℕ) (st : State) (i : Item) → Admits places st i → isKeyword i ≡ true → st .rows ≡ 0
-unfolding orderFault
-keyword-once places st Nothing h k = absurd (no-true (sym k))
-keyword-once places st (OfTitle t) h k = eqb-true (st .rows) 0 (need-none _ _ _ h .0)
-keyword-once places st (OfLower b) h k = eqb-true (st .rows) 0 (need-none _ _ _ h .0)
-keyword-once places st (OfUpper b) h k = eqb-true (st .rows) 0 (need-none _ _ _ h .0)
-keyword-once places st (OfSize s) h k = eqb-true (st .rows) 0 (need-none _ _ _ h .0)
-keyword-once places st (OfRow r) h k = absurd (no-true (sym k))
-
 not-given : {A : Type 0} (o : Option A) → not (given o) ≡ true → o ≡ none
 not-given none h = refl
 not-given (some a) h = absurd (no-true (sym h))
 
-title-adds : (st : State) (i : Item) → (add st i) .title ≡ newer (titleIn i) (st .title)
-unfolding add
-title-adds st i = refl
+-- a sort of keyword line: how its items are picked and made, its keyword, and the state's field for it
+record Sort (A : Type 0) : Type 0 where
+  pick : Item → Option A
+  make : A → Item
+  key : A → Keyword
+  slot : State → Option A
+  item : (i : Item) (a : A) → pick i ≡ some a → i ≡ make a
+  form : (a : A) → formFor (make a) ≡ Keyed (key a)
+  keyword : (a : A) → isKeyword (make a) ≡ true
+  adds : (st : State) (i : Item) → slot (add st i) ≡ newer (pick i) (slot st)
+  repeated : (a : A) (st : State) → repeats (key a) st ≡ given (slot st)
 
-title-once : (places : ℕ) (st : State) (i : Item) (a : Title) → Admits places st i → titleIn i ≡ some a → st .title ≡ none
-unfolding orderFault repeats
-title-once places st Nothing a h e = none-picked a _ e
-title-once places st (OfTitle t) a h e = not-given (st .title) (need-none _ _ _ (need-none _ _ _ h .1) .0)
-title-once places st (OfLower b) a h e = none-picked a _ e
-title-once places st (OfUpper b) a h e = none-picked a _ e
-title-once places st (OfSize s) a h e = none-picked a _ e
-title-once places st (OfRow r) a h e = none-picked a _ e
+titles : Sort Title
+unfolding add repeats
+titles = record { pick = titleIn; make = OfTitle; key = λ a. ATitle; slot = λ st. st .title; item = title-item; form = λ a. refl; keyword = λ a. refl; adds = λ st i. refl; repeated = λ a st. refl }
 
-title-sort : (i : Item) → isKeyword i ≡ false → titleIn i ≡ none
-title-sort Nothing h = refl
-title-sort (OfTitle t) h = absurd (no-true h)
-title-sort (OfLower b) h = refl
-title-sort (OfUpper b) h = refl
-title-sort (OfSize s) h = refl
-title-sort (OfRow r) h = refl
+lowest-bounds : Sort Bounds
+unfolding add repeats
+lowest-bounds = record { pick = lowerIn; make = OfLower; key = λ a. ALower; slot = λ st. st .lower; item = lower-item; form = λ a. refl; keyword = λ a. refl; adds = λ st i. refl; repeated = λ a st. refl }
 
-lower-adds : (st : State) (i : Item) → (add st i) .lower ≡ newer (lowerIn i) (st .lower)
-unfolding add
-lower-adds st i = refl
+highest-bounds : Sort Bounds
+unfolding add repeats
+highest-bounds = record { pick = upperIn; make = OfUpper; key = λ a. AnUpper; slot = λ st. st .upper; item = upper-item; form = λ a. refl; keyword = λ a. refl; adds = λ st i. refl; repeated = λ a st. refl }
 
-lower-once : (places : ℕ) (st : State) (i : Item) (a : Bounds) → Admits places st i → lowerIn i ≡ some a → st .lower ≡ none
-unfolding orderFault repeats
-lower-once places st Nothing a h e = none-picked a _ e
-lower-once places st (OfTitle t) a h e = none-picked a _ e
-lower-once places st (OfLower b) a h e = not-given (st .lower) (need-none _ _ _ (need-none _ _ _ h .1) .0)
-lower-once places st (OfUpper b) a h e = none-picked a _ e
-lower-once places st (OfSize s) a h e = none-picked a _ e
-lower-once places st (OfRow r) a h e = none-picked a _ e
+sizes : Sort Size
+unfolding add repeats
+sizes = record { pick = sizeIn; make = OfSize; key = λ a. ASize (a .kind); slot = λ st. st .size; item = size-item; form = λ a. refl; keyword = λ a. refl; adds = λ st i. refl; repeated = λ a st. refl }
 
-lower-sort : (i : Item) → isKeyword i ≡ false → lowerIn i ≡ none
-lower-sort Nothing h = refl
-lower-sort (OfTitle t) h = refl
-lower-sort (OfLower b) h = absurd (no-true h)
-lower-sort (OfUpper b) h = refl
-lower-sort (OfSize s) h = refl
-lower-sort (OfRow r) h = refl
+module _ {A : Type 0} (S : Sort A) where
+  -- an item of the sort is admitted only where there was none
+  once : (places : ℕ) (st : State) (i : Item) (a : A) → Admits places st i → S .pick i ≡ some a → S .slot st ≡ none
+  unfolding orderFault
+  once places st i a h e =
+      let g : orderFault places st (Keyed (S .key a)) ≡ none = rw (S .item i a e, S .form a) at h in
+      not-given (S .slot st) (rw (S .repeated a st) at (need-none _ _ _ (need-none _ _ _ g .1) .0))
 
-upper-adds : (st : State) (i : Item) → (add st i) .upper ≡ newer (upperIn i) (st .upper)
-unfolding add
-upper-adds st i = refl
+  -- an item that is no keyword's is none of the sort
+  no-keyword : (i : Item) → isKeyword i ≡ false → S .pick i ≡ none
+  no-keyword i k = split (S .pick i) refl
+    where
+      split : (o : Option A) → S .pick i ≡ o → o ≡ none
+      split none e = refl
+      split (some a) e = absurd (no-true (sym (S .keyword a) ∙ ap isKeyword (sym (S .item i a e)) ∙ k))
 
-upper-once : (places : ℕ) (st : State) (i : Item) (a : Bounds) → Admits places st i → upperIn i ≡ some a → st .upper ≡ none
-unfolding orderFault repeats
-upper-once places st Nothing a h e = none-picked a _ e
-upper-once places st (OfTitle t) a h e = none-picked a _ e
-upper-once places st (OfLower b) a h e = none-picked a _ e
-upper-once places st (OfUpper b) a h e = not-given (st .upper) (need-none _ _ _ (need-none _ _ _ h .1) .0)
-upper-once places st (OfSize s) a h e = none-picked a _ e
-upper-once places st (OfRow r) a h e = none-picked a _ e
+  filled : (places : ℕ) (st : State) (is : List Item) → Admitted places st is → Once (S .slot st) (gather (S .pick) is) (S .slot (final st is))
+  unfolding gather
+  filled places st [] h = refl
+  filled places st (i ∷ is) h = split (S .pick i) refl (rw (S .adds st i) at (filled places (add st i) is (h .1)))
+    where
+      split : (o : Option A) → S .pick i ≡ o → Once (newer (S .pick i) (S .slot st)) (gather (S .pick) is) (S .slot (final st (i ∷ is)))
+          → Once (S .slot st) (put o (gather (S .pick) is)) (S .slot (final st (i ∷ is)))
+      split none e r = rw e at r
+      split (some a) e r = (once places st i a (h .0) e, rw e at r)
 
-upper-sort : (i : Item) → isKeyword i ≡ false → upperIn i ≡ none
-upper-sort Nothing h = refl
-upper-sort (OfTitle t) h = refl
-upper-sort (OfLower b) h = refl
-upper-sort (OfUpper b) h = absurd (no-true h)
-upper-sort (OfSize s) h = refl
-upper-sort (OfRow r) h = refl
+  -- an item taken in leaves what the rest must give
+  passed : (st : State) (i : Item) (is : List Item) (r : Option A) → Once (S .slot st) (gather (S .pick) (i ∷ is)) r → Once (S .slot (add st i)) (gather (S .pick) is) r
+  unfolding gather
+  passed st i is r h = rw (S .adds st i) (split (S .pick i) h)
+    where
+      split : (o : Option A) → Once (S .slot st) (put o (gather (S .pick) is)) r → Once (newer o (S .slot st)) (gather (S .pick) is) r
+      split none g = g
+      split (some a) g = g .1
 
-size-adds : (st : State) (i : Item) → (add st i) .size ≡ newer (sizeIn i) (st .size)
-unfolding add
-size-adds st i = refl
+  open-slot : (st : State) (i : Item) (is : List Item) (r : Option A) (a : A) → Once (S .slot st) (gather (S .pick) (i ∷ is)) r → S .pick i ≡ some a → S .slot st ≡ none
+  unfolding gather
+  open-slot st i is r a h e = (rw e at h) .0
 
-size-once : (places : ℕ) (st : State) (i : Item) (a : Size) → Admits places st i → sizeIn i ≡ some a → st .size ≡ none
-unfolding orderFault repeats
-size-once places st Nothing a h e = none-picked a _ e
-size-once places st (OfTitle t) a h e = none-picked a _ e
-size-once places st (OfLower b) a h e = none-picked a _ e
-size-once places st (OfUpper b) a h e = none-picked a _ e
-size-once places st (OfSize s) a h e = not-given (st .size) (need-none _ _ _ (need-none _ _ _ h .1) .0)
-size-once places st (OfRow r) a h e = none-picked a _ e
-
-size-sort : (i : Item) → isKeyword i ≡ false → sizeIn i ≡ none
-size-sort Nothing h = refl
-size-sort (OfTitle t) h = refl
-size-sort (OfLower b) h = refl
-size-sort (OfUpper b) h = refl
-size-sort (OfSize s) h = absurd (no-true h)
-size-sort (OfRow r) h = refl
+  -- with no keyword left the field is what it was
+  settled : (st : State) (is : List Item) (r : Option A) → NoKeyword is → Once (S .slot st) (gather (S .pick) is) r → r ≡ S .slot st
+  unfolding gather
+  settled st [] r k h = h
+  settled st (i ∷ is) r k h = settled st is r (k .1) (rw (no-keyword i (k .0)) at h)
 
 -- ---- keywords before data
+
+keyword-before-rows : (places : ℕ) (st : State) (i : Item) → Admits places st i → isKeyword i ≡ true → st .rows ≡ 0
+unfolding orderFault
+keyword-before-rows places st Nothing h k = absurd (no-true (sym k))
+keyword-before-rows places st (OfTitle t) h k = eqb-true (st .rows) 0 (need-none _ _ _ h .0)
+keyword-before-rows places st (OfLower b) h k = eqb-true (st .rows) 0 (need-none _ _ _ h .0)
+keyword-before-rows places st (OfUpper b) h k = eqb-true (st .rows) 0 (need-none _ _ _ h .0)
+keyword-before-rows places st (OfSize s) h k = eqb-true (st .rows) 0 (need-none _ _ _ h .0)
+keyword-before-rows places st (OfRow r) h k = absurd (no-true (sym k))
 
 admits-keywords : (places : ℕ) (st : State) (i : Item) → Admits places st i → 0 < st .rows → isKeyword i ≡ false
 admits-keywords places st i h p = split (isKeyword i) refl
   where
     split : (t : Bool) → isKeyword i ≡ t → isKeyword i ≡ false
-    split true e = absurd (omega (arith, keyword-once places st i h e))
+    split true e = absurd (omega (arith, keyword-before-rows places st i h e))
     split false e = e
 
 -- data lines are counted
@@ -268,7 +223,7 @@ ok-head places st h = split (eqb (st .rows) 0)
 -- a line that is no row, and came before any
 before-rows : (places : ℕ) (st : State) (i : Item) → Admits places st i → isKeyword i ≡ true → Inv places (add st i)
 before-rows places st i h k =
-    let z : st .rows ≡ 0 = keyword-once places st i h k in
+    let z : st .rows ≡ 0 = keyword-before-rows places st i h k in
     let y : (add st i) .rows ≡ 0 = rows-add st i ∙ rw (z, no-row i k) in
     record { head = λ p. absurd (omega arith); count = omega arith }
   where
@@ -312,25 +267,27 @@ told t lo up s = description (orElse noTitle t) (orElse lowest lo) (orElse highe
 
 pub admitted-due : (places : ℕ) (st : State) (is : List Item) → Admitted places st is
     → Due places st is ((final st is) .title) ((final st is) .lower) ((final st is) .upper) ((final st is) .size)
+unfolding titles lowest-bounds highest-bounds sizes
 admitted-due places st is h = record {
   late = no-keyword-after places st is h;
   order = keywords-first places st is h;
-  title = filled titleIn (λ st. st .title) title-adds title-once title-sort places st is h;
-  lower = filled lowerIn (λ st. st .lower) lower-adds lower-once lower-sort places st is h;
-  upper = filled upperIn (λ st. st .upper) upper-adds upper-once upper-sort places st is h;
-  size = filled sizeIn (λ st. st .size) size-adds size-once size-sort places st is h;
+  title = filled titles places st is h;
+  lower = filled lowest-bounds places st is h;
+  upper = filled highest-bounds places st is h;
+  size = filled sizes places st is h;
 }
 
 module _ (places : ℕ) (t : Option Title) (lo up : Option Bounds) (s : Option Size)
     (sized : given s ≡ true) (sound : domainFault places (told t lo up s) ≡ none) where
   due-next : (st : State) (i : Item) (is : List Item) → Due places st (i ∷ is) t lo up s → Due places (add st i) is t lo up s
+  unfolding titles lowest-bounds highest-bounds sizes
   due-next st i is h = record {
     late = λ p. later (isRow i) refl p;
     order = h .order .1;
-    title = passed titleIn (λ st. st .title) title-adds title-once title-sort st i is t (h .title);
-    lower = passed lowerIn (λ st. st .lower) lower-adds lower-once lower-sort st i is lo (h .lower);
-    upper = passed upperIn (λ st. st .upper) upper-adds upper-once upper-sort st i is up (h .upper);
-    size = passed sizeIn (λ st. st .size) size-adds size-once size-sort st i is s (h .size);
+    title = passed titles st i is t (h .title);
+    lower = passed lowest-bounds st i is lo (h .lower);
+    upper = passed highest-bounds st i is up (h .upper);
+    size = passed sizes st i is s (h .size);
   }
     where
       same-rows : (i : Item) → isRow i ≡ false → length (put (rowIn i) []) ≡ 0
@@ -347,12 +304,12 @@ module _ (places : ℕ) (t : Option Title) (lo up : Option Bounds) (s : Option S
 
   -- a state at which no keyword is left describes the whole
   due-described : (st : State) (is : List Item) → NoKeyword is → Due places st is t lo up s → (describe st ≡ told t lo up s) × (st .size ≡ s)
-  unfolding describe
+  unfolding describe titles lowest-bounds highest-bounds sizes
   due-described st is k h =
-      let a : t ≡ st .title = settled titleIn (λ st. st .title) title-adds title-once title-sort st is t k (h .title) in
-      let b : lo ≡ st .lower = settled lowerIn (λ st. st .lower) lower-adds lower-once lower-sort st is lo k (h .lower) in
-      let c : up ≡ st .upper = settled upperIn (λ st. st .upper) upper-adds upper-once upper-sort st is up k (h .upper) in
-      let d : s ≡ st .size = settled sizeIn (λ st. st .size) size-adds size-once size-sort st is s k (h .size) in
+      let a : t ≡ st .title = settled titles st is t k (h .title) in
+      let b : lo ≡ st .lower = settled lowest-bounds st is lo k (h .lower) in
+      let c : up ≡ st .upper = settled highest-bounds st is up k (h .upper) in
+      let d : s ≡ st .size = settled sizes st is s k (h .size) in
       (rw (a, b, c, d), sym d)
 
   not-late : (st : State) (i : Item) (is : List Item) → Due places st (i ∷ is) t lo up s → isKeyword i ≡ true → eqb (st .rows) 0 ≡ true
@@ -364,16 +321,16 @@ module _ (places : ℕ) (t : Option Title) (lo up : Option Bounds) (s : Option S
 
   due-admits : (st : State) (i : Item) (is : List Item) → Due places st (i ∷ is) t lo up s
       → st .rows + length (gather rowIn (i ∷ is)) ≡ rows (told t lo up s) → Admits places st i
-  unfolding orderFault repeats gather
+  unfolding orderFault repeats gather titles lowest-bounds highest-bounds sizes
   due-admits st Nothing is h n = refl
   due-admits st (OfTitle x) is h n =
-      none-need _ _ _ (not-late st (OfTitle x) is h refl) (none-need _ _ _ (ap (λ o. not (given o)) (open-slot titleIn (λ st. st .title) title-adds title-once title-sort st (OfTitle x) is t x (h .title) refl)) refl)
+      none-need _ _ _ (not-late st (OfTitle x) is h refl) (none-need _ _ _ (ap (λ o. not (given o)) (open-slot titles st (OfTitle x) is t x (h .title) refl)) refl)
   due-admits st (OfLower x) is h n =
-      none-need _ _ _ (not-late st (OfLower x) is h refl) (none-need _ _ _ (ap (λ o. not (given o)) (open-slot lowerIn (λ st. st .lower) lower-adds lower-once lower-sort st (OfLower x) is lo x (h .lower) refl)) refl)
+      none-need _ _ _ (not-late st (OfLower x) is h refl) (none-need _ _ _ (ap (λ o. not (given o)) (open-slot lowest-bounds st (OfLower x) is lo x (h .lower) refl)) refl)
   due-admits st (OfUpper x) is h n =
-      none-need _ _ _ (not-late st (OfUpper x) is h refl) (none-need _ _ _ (ap (λ o. not (given o)) (open-slot upperIn (λ st. st .upper) upper-adds upper-once upper-sort st (OfUpper x) is up x (h .upper) refl)) refl)
+      none-need _ _ _ (not-late st (OfUpper x) is h refl) (none-need _ _ _ (ap (λ o. not (given o)) (open-slot highest-bounds st (OfUpper x) is up x (h .upper) refl)) refl)
   due-admits st (OfSize x) is h n =
-      none-need _ _ _ (not-late st (OfSize x) is h refl) (none-need _ _ _ (ap (λ o. not (given o)) (open-slot sizeIn (λ st. st .size) size-adds size-once size-sort st (OfSize x) is s x (h .size) refl)) refl)
+      none-need _ _ _ (not-late st (OfSize x) is h refl) (none-need _ _ _ (ap (λ o. not (given o)) (open-slot sizes st (OfSize x) is s x (h .size) refl)) refl)
   due-admits st (OfRow x) is h n =
       let k = due-described st (OfRow x ∷ is) (refl, h .order .0 refl) h in
       none-first _ _
