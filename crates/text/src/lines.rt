@@ -1,0 +1,75 @@
+// A line by itself: whether its bytes are permitted, and its form.
+use crate::keywords::KeywordFound;
+use crate::keywords::keyword_of;
+use crate::runs::every;
+use crate::words::Word;
+use crate::words::next_word;
+use rules::Form;
+use rules::Refusal;
+use scan::ByteKind;
+ghost use mathlib.Core.Path.{_≡_};
+ghost use mathlib.Core.List.{[], _∷_};
+ghost use Rattle.rules.specs.Lines.{numberByte, starts};
+ghost use Rattle.rules.specs.Content.{formOf, wordForm};
+ghost use Rattle.rules.specs.Judge.{byteFault};
+ghost use Rattle.text.specs.Answers.{faultOf};
+
+// A line has at most so many bytes.
+const LINE_LIMIT: usize = 250;
+
+pub enum Checked {
+    Passed,
+    Refused(Refusal),
+}
+
+// The checks 1 and 2 of a line.
+pub fn byte_fault(l: &[u8]) -> Checked
+    ensures { λ r. ⌜ faultOf r ≡ byteFault (now (l .entry)) ⌝ }
+{
+    if l.len() > LINE_LIMIT {
+        return Checked::Refused(Refusal::LineTooLong);
+    }
+    if !every(l, ByteKind::Permitted) {
+        return Checked::Refused(Refusal::ByteNotPermitted);
+    }
+    Checked::Passed
+}
+
+// Whether a word starts as a number does.
+fn starts_number(w: &[u8]) -> bool
+    ensures { λ r. ⌜ r ≡ starts numberByte (now (w .entry)) ⌝ }
+{
+    if w.len() == 0 {
+        return false;
+    }
+    scan::is_number_byte(w[0])
+}
+
+// The form of a line by its first word.
+fn word_form(w: &[u8]) -> Form
+    ensures { λ r. ⌜ r ≡ wordForm (now (w .entry) ∷ []) ⌝ }
+{
+    if starts_number(w) {
+        return Form::Data;
+    }
+    match keyword_of(w) {
+        KeywordFound::Known(k) => Form::Keyed(k),
+        KeywordFound::Unknown => Form::Neither,
+    }
+}
+
+// The form of a line: empty, a comment, or by its first word; blanks alone have none.
+pub fn form_of(l: &[u8]) -> Form
+    ensures { λ r. ⌜ r ≡ formOf (now (l .entry)) ⌝ }
+{
+    if l.len() == 0 {
+        return Form::Idle;
+    }
+    if l[0] == b'#' {
+        return Form::Idle;
+    }
+    let Word::At { start, end } = next_word(l, 0) else {
+        return Form::Neither;
+    };
+    word_form(&l[start..end])
+}
