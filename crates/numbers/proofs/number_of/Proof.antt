@@ -1,0 +1,120 @@
+-- No numeral is no number; else the value of the numeral that stands where the grammar found it.
+use denote.Ref.{now}
+use Prim.Native.Nat.{ℕ, _-_, _≤_}
+use mathlib.Core.Path.{_≡_, sym, ap, _∙_}
+use mathlib.Core.List.{List}
+use mathlib.Core.Option.{some}
+use native.Mathlib.Omega.{arith}
+use borrow.Author.Needs.{needs}
+use lib.ListN.{length, drop, length-drop, length-take}
+use Rattle.rules.specs.Numerals.{Numeral}
+use Rattle.rules.specs.Numbers.{numberOf, numeralOf, valueOf}
+use Rattle.numbers.specs.Parts.{Placed, numeral, part}
+use Rattle.numbers.specs.declared.Parts.{Parts}
+use Rattle.numbers.proofs.Grammar.{numeral-digits}
+use Rattle.numbers.proofs.Words.{to-end}
+use Rattle.numbers.proofs.number_of.Statement.{statement}
+use Rattle.numbers.proofs.number_of.Tie as tie
+
+-- the word, and the parts found in it
+abbrev word : tie.After-p → List ℕ
+word c = now (c .before .before .before .before .args .w)
+
+abbrev parts : tie.After-p → Parts
+parts c = c .p .given .0 .0
+
+abbrev standing : tie.After-p → Numeral
+standing c =
+    let w = word c in
+    let p = parts c in
+    numeral (p .negative) (part w (p .whole) (p .point)) (part w (p .fraction) (p .end)) (p .down) (drop (p .power) w)
+
+stands : (c : tie.After-p) → numeralOf (word c) ≡ some (standing c)
+stands c = sym (rw (c .p .given .1) at (c .before .before .numeral-in .ensures .0))
+
+placed : (c : tie.After-p) → Placed (word c) (parts c)
+placed c = rw (c .p .given .1) at (c .before .before .numeral-in .ensures .1)
+
+-- a part is no longer than the word
+part-short : (w : List ℕ) (a e : ℕ) → length (part w a e) ≤ length w
+part-short w a e = omega (arith, length-take (e - a) (drop a w), length-drop a w)
+
+numeral-in-requires : tie.Need-numeral-in-requires
+numeral-in-requires c κs = search needs
+
+enum-known-p : tie.Need-enum-known-p
+enum-known-p c = search needs
+
+enum-told : tie.Need-enum-told
+enum-told c = search needs
+
+returns : tie.Need-returns
+unfolding numberOf
+returns c = ap (valueOf _ _) (rw (c .enum-told .given .1) at (c .before .before .numeral-in .ensures .0))
+
+sub-value : tie.Need-sub-value
+sub-value c = placed (c .before) .whole-point
+
+part-value-start : tie.Need-part-value-start
+part-value-start c = placed (c .before) .whole-point
+
+part-value-end : tie.Need-part-value-end
+part-value-end c = placed (c .before) .point-in
+
+sub-value-2 : tie.Need-sub-value-2
+sub-value-2 c = placed (c .before .before) .fraction-end
+
+part-value-start-2 : tie.Need-part-value-start-2
+part-value-start-2 c = placed (c .before .before) .fraction-end
+
+part-value-end-2 : tie.Need-part-value-end-2
+part-value-end-2 c = placed (c .before .before) .end-in
+
+sub-value-3 : tie.Need-sub-value-3
+sub-value-3 c = placed (c .before .before .before) .power-in
+
+part-value-start-3 : tie.Need-part-value-start-3
+part-value-start-3 c = placed (c .before .before .before) .power-in
+
+part-value-end-3 : tie.Need-part-value-end-3
+part-value-end-3 c = search needs
+
+value-requires : tie.Need-value-requires
+value-requires c κs =
+    let k = c .before .before .before .before in
+    let w = word k in
+    let p = parts k in
+    let h = k .before .before .before .before .pre in (
+      (omega (arith, part-short w (p .whole) (p .point)), omega (arith, part-short w (p .fraction) (p .end))),
+      (numeral-digits w (standing k) (stands k), (h .1, h .2)),
+    )
+
+returns-2 : tie.Need-returns-2
+unfolding numberOf
+returns-2 c =
+    let k = c .before .before .before .before .before in
+    let a = k .before .before .before .before .args in
+    let p = parts k in
+    c .value .ensures
+    ∙ ap (λ l. valueOf (a .places) (a .limit) (some (numeral (p .negative) (part (word k) (p .whole) (p .point)) (part (word k) (p .fraction) (p .end)) (p .down) l))) (to-end (word k) (p .power))
+    ∙ sym (ap (valueOf (a .places) (a .limit)) (stands k))
+
+pub number-of-spec : {M : Type 1} → statement M
+number-of-spec =
+    tie.close
+    (tie.spec
+    numeral-in-requires
+    enum-known-p
+    enum-told
+    returns
+    sub-value
+    part-value-start
+    part-value-end
+    sub-value-2
+    part-value-start-2
+    part-value-end-2
+    sub-value-3
+    part-value-start-3
+    part-value-end-3
+    value-requires
+    returns-2)

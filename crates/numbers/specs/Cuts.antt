@@ -1,0 +1,26 @@
+-- A number's value by a cut of its digits: those before the unit's point are the quotient, those behind it the rest.
+use Prim.Native.Nat.{ℕ, _+_, _-_, min}
+use mathlib.Core.Bool.{Bool, cond}
+use lib.Dec.{eqb, ltb}
+use Rattle.rules.specs.Numerals.{signed}
+use Rattle.rules.specs.declared.Number.{Number}
+use Rattle.rules.specs.declared.Number.the-variants.{Value, Beyond, Finer}
+
+-- the greatest limit, and the most places, that the code serves
+abbrev pub mostLimit : ℕ
+mostLimit = 100_000_000_000_000_000
+
+abbrev pub mostPlaces : ℕ
+mostPlaces = 1000
+
+-- a number kept at limit + 1 once it is past the limit
+abbrev pub kept : ℕ → ℕ → ℕ
+kept limit n = min (limit + 1) n
+
+-- how many digits stand before the unit's point: the whole ones and those of the places, moved by an exponent x
+abbrev pub cutOf : ℕ → ℕ → Bool → ℕ → ℕ
+cutOf whole places down x = cond down (whole + places - x) (whole + places + x)
+
+-- what a quotient and a rest say: beyond the limit, or that whole number, or no whole number
+unfoldable pub answer : ℕ → Bool → ℕ → ℕ → Number
+answer limit negative q r = cond (ltb limit q) Beyond (cond (eqb r 0) (Value (signed negative q)) (cond (eqb q limit) Beyond Finer))
