@@ -39,6 +39,18 @@ impl Whole {
         if s < 0 { 0 } else { s as u64 }
     }
 
+    // How far it is from 0; the least i64 too.
+    pub fn size(self) -> u64
+        ensures { λ r. ⌜ r ≡ natAbs (self .0) ⌝ }
+    {
+        let s = self.0;
+        if s < 0 {
+            let below = -(s + 1);
+            return below as u64 + 1;
+        }
+        s as u64
+    }
+
     // The code from 0 to m that is nearest to self / den, the greater of two equally near.
     pub fn nearest(self, den: u64, m: u64) -> u64
         requires { ⌜ 0 < den ⌝ }

@@ -6,8 +6,8 @@ use native.Mathlib.Omega.{arith}
 use borrow.Author.Needs.{needs}
 use lib.IntN.{ℤ, pos, natAbs, _*ℤ_}
 use Rattle.whole.proofs.Halves.{product-abs, sum-abs}
-use Rattle.cases.proofs.between.Statement.{statement}
-use Rattle.cases.proofs.between.Tie as tie
+use Rattle.cases.proofs.codes.between.Statement.{statement}
+use Rattle.cases.proofs.codes.between.Tie as tie
 
 -- a weight times a sample
 small : (w z : ℤ) (n : ℕ) → w ≡ pos n → n ≤ 255_000 → natAbs z ≤ 20_000_000 → natAbs w * natAbs z ≤ 5_100_000_000_000
