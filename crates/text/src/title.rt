@@ -19,10 +19,7 @@ fn closes(s: &[u8]) -> bool
     if s.len() == 0 {
         return false;
     }
-    if s[0] != b'"' {
-        return false;
-    }
-    every(&s[1..], ByteKind::Blank)
+    s[0] == b'"' && every(&s[1..], ByteKind::Blank)
 }
 
 // From the opening quote on, in a line that ends at place `end`.
