@@ -17,6 +17,7 @@ use Rattle.text.proofs.RunLaws.{end-within}
 use Rattle.text.proofs.Newlines.{newlines-before, newlines-next}
 use Rattle.text.proofs.LinesFrom.{lines-all, lines-next, lines-past, next-start}
 
+-- in the file or one place past it, on the line that its place gives; the number is small enough to be added to
 pub record Standing (s : List ℕ) (c : Cursor) : Type 0 where
   pub inside : c .at ≤ length s + 1
   pub small : c .line ≤ c .at + 1
