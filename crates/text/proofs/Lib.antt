@@ -1,6 +1,7 @@
 -- Laws of runs, lines, words and first bytes, and the cursor's invariant.
 pub mod RunLaws
 pub mod LinesFrom
+pub mod Newlines
 pub mod Standing
 pub mod WordsFrom
 pub mod FirstBytes

@@ -2,85 +2,36 @@
 use Prim.Native.Nat.{ℕ, suc, _+_, _-_, _≤_}
 use mathlib.Core.Path.{_≡_, refl, ap, _∙_}
 use mathlib.Core.Bool.{Bool, true, false, cond}
-use mathlib.Core.List.{List, [], _∷_, _++_}
-use native.Mathlib.Nat.{min-le-left}
+use mathlib.Core.List.{List, [], _∷_}
 use native.Mathlib.Omega.{arith}
 use borrow.Author.Tests.{le-ltb, lt-ltb, ltb-false, ltb-true}
-use lib.Dec.{eqb, leb·suc-suc, ltb}
-use lib.ListN.{length, drop, take, length-drop, length-take}
-use lib.Seq.{take-add, take-all}
-use Rattle.rules.specs.Lines.{newlines, run}
+use lib.Dec.{ltb}
+use lib.ListN.{length, drop, take}
+use lib.Seq.{take-all}
+use Rattle.rules.specs.Lines.{linesOf, newlines}
 use Rattle.scan.specs.Kinds.{inLine}
 use Rattle.text.specs.LinesFrom.{endOf, linesFrom, stepAt}
 use Rattle.text.specs.declared.cursor.Cursor.{Cursor}
 use Rattle.text.specs.declared.cursor.Step.the-variants.{Line, End}
 use Rattle.text.proofs.RunLaws.{end-within}
-use Rattle.text.proofs.LinesFrom.{lines-next, lines-past, next-start}
+use Rattle.text.proofs.Newlines.{newlines-before, newlines-next}
+use Rattle.text.proofs.LinesFrom.{lines-all, lines-next, lines-past, next-start}
 
+-- in the file or one place past it, on the line that its place gives; the number is small enough to be added to
 pub record Standing (s : List ℕ) (c : Cursor) : Type 0 where
   pub inside : c .at ≤ length s + 1
   pub small : c .line ≤ c .at + 1
   pub counted : c .line ≡ 1 + newlines (take (c .at) s)
 
--- ---- newlines
-
-newlines-append : (a b : List ℕ) → newlines (a ++ b) ≡ newlines a + newlines b
-unfolding newlines
-newlines-append [] b = omega arith
-newlines-append (x ∷ a) b = split (eqb x 10) (newlines-append a b)
-  where
-    split : (t : Bool) → newlines (a ++ b) ≡ newlines a + newlines b
-        → cond t (1 + newlines (a ++ b)) (newlines (a ++ b)) ≡ cond t (1 + newlines a) (newlines a) + newlines b
-    split true ih = omega arith
-    split false ih = ih
-
-newlines-le : (t : List ℕ) → newlines t ≤ length t
-unfolding newlines
-newlines-le [] = omega arith
-newlines-le (b ∷ rest) = split (eqb b 10) (newlines-le rest)
-  where
-    split : (t : Bool) → newlines rest ≤ length rest → cond t (1 + newlines rest) (newlines rest) ≤ suc (length rest)
-    split true h = omega arith
-    split false h = omega arith
-
-newlines-before : (s : List ℕ) (p : ℕ) → newlines (take p s) ≤ p
-newlines-before s p = omega (arith, newlines-le (take p s), length-take p s, min-le-left p (length s))
-
--- a line and what ends it have one newline, or none at the end of the file
-newlines-line : (t : List ℕ) → newlines (take (suc (length (run inLine t))) t) ≡ cond (ltb (length (run inLine t)) (length t)) 1 0
-unfolding newlines run
-newlines-line [] = refl
-newlines-line (b ∷ rest) = split (eqb b 10) refl (newlines-line rest)
-  where
-    split : (e : Bool) → eqb b 10 ≡ e → newlines (take (suc (length (run inLine rest))) rest) ≡ cond (ltb (length (run inLine rest)) (length rest)) 1 0
-        → newlines (take (suc (length (run inLine (b ∷ rest)))) (b ∷ rest)) ≡ cond (ltb (length (run inLine (b ∷ rest))) (length (b ∷ rest))) 1 0
-    split true e ih = simp (e, lt-ltb 0 (suc (length rest)) (omega arith))
-    split false e ih = simp (e, ih, leb·suc-suc)
-
-newlines-next : (s : List ℕ) (p : ℕ) → p ≤ length s → newlines (take (endOf s p + 1) s) ≡ newlines (take p s) + cond (ltb (endOf s p) (length s)) 1 0
-newlines-next s p h =
-    let k : ℕ = length (run inLine (drop p s)) in
-    let f : p + k + 1 ≡ p + suc k = omega arith in
-    rw (f, take-add p (suc k) s, newlines-append, newlines-line (drop p s)) (ap (λ (t : Bool). newlines (take p s) + cond t 1 0) (split (ltb (p + k) (length s)) refl))
-  where
-    split : (t : Bool) → ltb (p + length (run inLine (drop p s))) (length s) ≡ t → ltb (length (run inLine (drop p s))) (length (drop p s)) ≡ ltb (endOf s p) (length s)
-    split true e = rw (e, lt-ltb (length (run inLine (drop p s))) (length (drop p s)) (omega (arith, length-drop p s, ltb-true)))
-    split false e = rw (e, le-ltb (length (run inLine (drop p s))) (length (drop p s)) (omega (arith, length-drop p s, ltb-false)))
-
--- ---- the first cursor
-
-pub standing-first : (s : List ℕ) → Standing s (record { at = 0; line = 1 })
-unfolding newlines
-standing-first s = record { inside = omega arith; small = omega arith; counted = refl }
-
--- ---- a step
-
 -- how many lines stand before the cursor: past the file all of them
 abbrev pub passed : List ℕ → Cursor → ℕ
 passed s c = cond (ltb (length s) (c .at)) (c .line) (c .line - 1)
 
-pub passed-none : (s : List ℕ) → passed s (record { at = 0; line = 1 }) ≡ 0
-passed-none s = rw (le-ltb (length s) 0 (omega arith))
+-- what the first cursor is
+pub record Beginning (s : List ℕ) (c : Cursor) : Type 0 where
+  pub lines : linesFrom s (c .at) ≡ linesOf s
+  pub none-passed : passed s c ≡ 0
+  pub standing : Standing s c
 
 -- what finding a line says, of a cursor and the next one
 pub record LineFound (s : List ℕ) (c : Cursor) (start end line : ℕ) (next : Cursor) : Type 0 where
@@ -99,9 +50,19 @@ pub record EndFound (s : List ℕ) (c : Cursor) : Type 0 where
   pub all-passed : c .line ≡ passed s c
   pub number : c .line ≡ 1 + newlines s
 
+-- ---- each step finds it
+
 -- the cursor past a line
 abbrev past : List ℕ → Cursor → Cursor
 past s c = record { at = endOf s (c .at) + 1; line = cond (ltb (endOf s (c .at)) (length s)) (c .line + 1) (c .line) }
+
+pub step-first : (s : List ℕ) (c : Cursor) → c .at ≡ 0 → c .line ≡ 1 → Beginning s c
+unfolding newlines
+step-first s c p n = record {
+  lines = ap (linesFrom s) p ∙ lines-all s;
+  none-passed = rw (p, n, le-ltb (length s) 0 (omega arith));
+  standing = record { inside = omega arith; small = omega arith; counted = n ∙ rw p };
+}
 
 one-more : (t : Bool) (n : ℕ) → cond t (n + 1) n ≡ n + cond t 1 0
 one-more true n = refl

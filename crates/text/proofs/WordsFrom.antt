@@ -52,7 +52,7 @@ first-word t x e s =
 -- what finding a word from a place on says
 pub record WordFound (l : List ℕ) (from start end : ℕ) : Type 0 where
   pub onward : from ≤ start
-  pub some : start < end
+  pub nonempty : start < end
   pub inside : end ≤ length l
   pub words : wordsOf (drop from l) ≡ take (end - start) (drop start l) ∷ wordsOf (drop end l)
 
@@ -77,7 +77,7 @@ module _ (l : List ℕ) (from : ℕ) where
       let e : a + k - a ≡ k = omega arith in
       record {
         onward = omega arith;
-        some = omega (arith, word-some x s);
+        nonempty = omega (arith, word-some x s);
         inside = end-within inWord l a i;
         words = rw (e, ← drop-drop k a l, ← run-take inWord x, ← after-drop inWord x) (first-word (drop from l) x past-blanks s);
       }

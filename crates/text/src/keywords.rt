@@ -21,13 +21,6 @@ pub enum KeywordFound {
     Unknown,
 }
 
-// Whether a word is a keyword's name.
-fn is_named(w: &[u8], name: &[u8]) -> bool
-    ensures { λ r. ⌜ r ≡ same (now (w .entry)) (now (name .entry)) ⌝ }
-{
-    check::same(w, name)
-}
-
 // The keyword that a word is.
 pub fn keyword_of(w: &[u8]) -> KeywordFound
     ensures { λ r. ⌜ foundOf r ≡ keywordOf (now (w .entry)) ⌝ }
@@ -48,4 +41,11 @@ pub fn keyword_of(w: &[u8]) -> KeywordFound
         return KeywordFound::Known(Keyword::ASize(Kind::ThreeD));
     }
     KeywordFound::Unknown
+}
+
+// Whether a word is a keyword's name.
+fn is_named(w: &[u8], name: &[u8]) -> bool
+    ensures { λ r. ⌜ r ≡ same (now (w .entry)) (now (name .entry)) ⌝ }
+{
+    check::same(w, name)
 }

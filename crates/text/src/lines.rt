@@ -22,7 +22,7 @@ pub enum Checked {
     Refused(Refusal),
 }
 
-// The checks 1 and 2 of a line.
+// The checks 1 and 2: the length of a line, then its bytes.
 pub fn byte_fault(l: &[u8]) -> Checked
     ensures { λ r. ⌜ faultOf r ≡ byteFault (now (l .entry)) ⌝ }
 {
@@ -33,29 +33,6 @@ pub fn byte_fault(l: &[u8]) -> Checked
         return Checked::Refused(Refusal::ByteNotPermitted);
     }
     Checked::Passed
-}
-
-// Whether a word starts as a number does.
-fn starts_number(w: &[u8]) -> bool
-    ensures { λ r. ⌜ r ≡ starts numberByte (now (w .entry)) ⌝ }
-{
-    if w.len() == 0 {
-        return false;
-    }
-    scan::is_number_byte(w[0])
-}
-
-// The form of a line by its first word.
-fn word_form(w: &[u8]) -> Form
-    ensures { λ r. ⌜ r ≡ wordForm (now (w .entry) ∷ []) ⌝ }
-{
-    if starts_number(w) {
-        return Form::Data;
-    }
-    match keyword_of(w) {
-        KeywordFound::Known(k) => Form::Keyed(k),
-        KeywordFound::Unknown => Form::Neither,
-    }
 }
 
 // The form of a line: empty, a comment, or by its first word; blanks alone have none.
@@ -72,4 +49,27 @@ pub fn form_of(l: &[u8]) -> Form
         return Form::Neither;
     };
     word_form(&l[start..end])
+}
+
+// The form of a line by its first word.
+fn word_form(w: &[u8]) -> Form
+    ensures { λ r. ⌜ r ≡ wordForm (now (w .entry) ∷ []) ⌝ }
+{
+    if starts_number(w) {
+        return Form::Data;
+    }
+    match keyword_of(w) {
+        KeywordFound::Known(k) => Form::Keyed(k),
+        KeywordFound::Unknown => Form::Neither,
+    }
+}
+
+// Whether a word starts as a number does.
+fn starts_number(w: &[u8]) -> bool
+    ensures { λ r. ⌜ r ≡ starts numberByte (now (w .entry)) ⌝ }
+{
+    if w.len() == 0 {
+        return false;
+    }
+    scan::is_number_byte(w[0])
 }

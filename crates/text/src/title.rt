@@ -12,17 +12,14 @@ ghost use Prim.Native.Nat.{_+_, _≤_};
 ghost use lib.ListN.{length};
 ghost use Rattle.rules.specs.Content.{closes, quoted, titleOf};
 
-// Whether a quote stands first, and blanks alone after it.
-fn closes(s: &[u8]) -> bool
-    ensures { λ r. ⌜ r ≡ closes (now (s .entry)) ⌝ }
+// The title of a line that begins at a place of the file.
+pub fn title_of(l: &[u8], place: usize) -> Content
+    requires { ⌜ place + length (now l) ≤ 18_446_744_073_709_551_615 ⌝ }
+    ensures { λ r. ⌜ r ≡ titleOf place (now (l .entry)) ⌝ }
 {
-    if s.len() == 0 {
-        return false;
-    }
-    if s[0] != b'"' {
-        return false;
-    }
-    every(&s[1..], ByteKind::Blank)
+    let word = after(l, ByteKind::Blank);
+    let gap = after(word, ByteKind::InWord);
+    quoted(after(gap, ByteKind::Blank), place + l.len())
 }
 
 // From the opening quote on, in a line that ends at place `end`.
@@ -48,12 +45,12 @@ fn quoted(s: &[u8], end: usize) -> Content
     }))
 }
 
-// The title of a line that begins at a place of the file.
-pub fn title_of(l: &[u8], place: usize) -> Content
-    requires { ⌜ place + length (now l) ≤ 18_446_744_073_709_551_615 ⌝ }
-    ensures { λ r. ⌜ r ≡ titleOf place (now (l .entry)) ⌝ }
+// Whether a quote stands first, and blanks alone after it.
+fn closes(s: &[u8]) -> bool
+    ensures { λ r. ⌜ r ≡ closes (now (s .entry)) ⌝ }
 {
-    let word = after(l, ByteKind::Blank);
-    let gap = after(word, ByteKind::InWord);
-    quoted(after(gap, ByteKind::Blank), place + l.len())
+    if s.len() == 0 {
+        return false;
+    }
+    s[0] == b'"' && every(&s[1..], ByteKind::Blank)
 }

@@ -39,10 +39,10 @@ returns-3 c =
     rw (form-first _ (w .before .before .before .if1 .left), ne-eqb _ 35 (w .before .if2 .left), words-none _ 0 (sym (w .next-word .ensures) ∙ c .enum-told .given .1))
 
 sub-word-form : tie.Need-sub-word-form
-sub-word-form c = omega (arith, first-word (c .before) .some)
+sub-word-form c = omega (arith, first-word (c .before) .nonempty)
 
 part-word-form-start : tie.Need-part-word-form-start
-part-word-form-start c = omega (arith, first-word (c .before) .some)
+part-word-form-start c = omega (arith, first-word (c .before) .nonempty)
 
 part-word-form-end : tie.Need-part-word-form-end
 part-word-form-end c = omega (arith, first-word (c .before) .inside)

@@ -17,9 +17,6 @@ returns c = rw (empty-list (now (c .before .before .args .s)) (c .if1 .taken))
 shared-slice-read-if2 : tie.Need-shared-slice-read-if2
 shared-slice-read-if2 c = search needs
 
-returns-2 : tie.Need-returns-2
-returns-2 c = rw (closes-first _ (c .before .before .if1 .left), ne-eqb _ 34 (c .if2 .taken))
-
 sub-every : tie.Need-sub-every
 sub-every c = search needs
 
@@ -32,10 +29,13 @@ part-every-end c = search needs
 every-requires : tie.Need-every-requires
 every-requires c κs = search needs
 
+returns-2 : tie.Need-returns-2
+returns-2 c =
+    let q = c .before .before in
+    rw (closes-first _ (q .before .before .if1 .left), eq-eqb _ 34 (q .if2 .taken)) (c .every .ensures ∙ ap (every blank) (part-to-end (now (q .before .before .before .before .args .s)) 1))
+
 returns-3 : tie.Need-returns-3
-returns-3 c =
-    let d = c .before .before in
-    rw (closes-first _ (d .before .before .if1 .left), eq-eqb _ 34 (d .if2 .left)) (c .every .ensures ∙ ap (every blank) (part-to-end (now (d .before .before .before .before .args .s)) 1))
+returns-3 c = rw (closes-first _ (c .before .before .if1 .left), ne-eqb _ 34 (c .if2 .left))
 
 pub closes-spec : {M : Type 1} → statement M
 closes-spec =
@@ -43,9 +43,9 @@ closes-spec =
     (tie.spec
     returns
     shared-slice-read-if2
-    returns-2
     sub-every
     part-every-start
     part-every-end
     every-requires
+    returns-2
     returns-3)
