@@ -53,22 +53,22 @@ unfolding numberOf
 returns c = ap (valueOf _ _) (rw (c .enum-told .given .1) at (c .before .before .numeral-in .ensures .0))
 
 sub-value : tie.Need-sub-value
-sub-value c = placed (c .before) .whole-point
+sub-value c = placed (c .before) .whole-in .0
 
 part-value-start : tie.Need-part-value-start
-part-value-start c = placed (c .before) .whole-point
+part-value-start c = placed (c .before) .whole-in .0
 
 part-value-end : tie.Need-part-value-end
-part-value-end c = placed (c .before) .point-in
+part-value-end c = placed (c .before) .whole-in .1
 
 sub-value-2 : tie.Need-sub-value-2
-sub-value-2 c = placed (c .before .before) .fraction-end
+sub-value-2 c = placed (c .before .before) .fraction-in .0
 
 part-value-start-2 : tie.Need-part-value-start-2
-part-value-start-2 c = placed (c .before .before) .fraction-end
+part-value-start-2 c = placed (c .before .before) .fraction-in .0
 
 part-value-end-2 : tie.Need-part-value-end-2
-part-value-end-2 c = placed (c .before .before) .end-in
+part-value-end-2 c = placed (c .before .before) .fraction-in .1
 
 sub-value-3 : tie.Need-sub-value-3
 sub-value-3 c = placed (c .before .before .before) .power-in
