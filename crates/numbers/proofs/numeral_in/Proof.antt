@@ -154,9 +154,10 @@ add-t13 c = omega (arith, power-within (c .before))
 returns-3 : tie.Need-returns-3
 returns-3 c =
     let r = c .before .before .before in
-    let k = found r in
-    (rw (← drop-drop (c .before .p .given .0 .0 .start) (end k) (word (k .before))) (says r _ (c .before .p .given .1) .0),
-    record { whole-in = (omega arith, omega arith); fraction-in = (omega arith, omega arith); power-in = power-within (c .before) })
+    let k = found r in (
+      rw (← drop-drop (c .before .p .given .0 .0 .start) (end k) (word (k .before))) (says r _ (c .before .p .given .1) .0),
+      record { whole-in = (omega arith, omega arith); fraction-in = (omega arith, omega arith); power-in = power-within (c .before) },
+    )
 
 pub numeral-in-spec : {M : Type 1} → statement M
 numeral-in-spec =
