@@ -16,7 +16,7 @@ use Rattle.rules.specs.Numerals.{over, spell, under}
 use Rattle.rules.specs.Numbers.{settle}
 use Rattle.rules.specs.declared.Number.{Number}
 use Rattle.rules.proofs.Tests.{and-both, both-and}
-use Rattle.numbers.specs.Cuts.{answer, cutOf, kept, mostLimit, mostPlaces}
+use Rattle.numbers.specs.Cuts.{answer, cutOf, exponentCap, kept, mostLimit, mostPlaces}
 use Rattle.numbers.specs.Parts.{numeral}
 use Rattle.numbers.proofs.Digits.{spell-after, spell-append, spell-less, ten-pos}
 use Rattle.numbers.proofs.Joined.{Cut, cut}
@@ -47,19 +47,21 @@ module _ (limit : ℕ) (negative : Bool) where
       by (yes l) (no m) (no z) =
           rw (le-ltb (limit * q) p (omega (arith, times (n + 1) limit (omega arith), add-mul n 1 q, one-mul q)), le-ltb limit n l, rest, ne-eqb r 0 (omega arith), ne-eqb n limit (omega arith))
 
-  -- the quotient may be kept, and of the rest only matters whether there is one
-  answer-kept : (n r s : ℕ) → (r ≡ 0 → s ≡ 0) → (s ≡ 0 → r ≡ 0) → answer limit negative n r ≡ answer limit negative (kept limit n) (kept limit s)
+  -- both may be kept, and of a multiple of the rest only matters whether there is one
+  answer-kept : (n r k : ℕ) → 1 ≤ k → answer limit negative n (r * k) ≡ answer limit negative (kept limit n) (kept limit r)
   unfolding answer
-  answer-kept n r s f g = by (decLe n limit) (decLe r 0)
+  answer-kept n r k h = by (decLe n limit) (decLe r 0)
     where
-      by : Dec (n ≤ limit) → Dec (r ≤ 0) → answer limit negative n r ≡ answer limit negative (kept limit n) (kept limit s)
+      by : Dec (n ≤ limit) → Dec (r ≤ 0) → answer limit negative n (r * k) ≡ answer limit negative (kept limit n) (kept limit r)
       by (no l) z = rw (lt-ltb limit n (omega arith), lt-ltb limit (kept limit n) (omega arith))
       by (yes l) (yes z) =
           let e : kept limit n ≡ n = omega arith in
-          rw (e, eq-eqb r 0 (omega arith), eq-eqb (kept limit s) 0 (omega (arith, f (omega arith))))
+          let y : r ≡ 0 = omega arith in
+          rw (e, eq-eqb (r * k) 0 (ap (λ x. x * k) y ∙ zero-mul k), eq-eqb (kept limit r) 0 (omega arith))
       by (yes l) (no z) =
           let e : kept limit n ≡ n = omega arith in
-          rw (e, ne-eqb r 0 (omega arith), ne-eqb (kept limit s) 0 (λ t. z (omega (arith, g (omega arith)))))
+          let y : 1 ≤ r * k = mul-pos (omega arith) h in
+          rw (e, ne-eqb (r * k) 0 (omega arith), ne-eqb (kept limit r) 0 (omega arith))
 
 -- ---- the value by a cut of all digits
 
@@ -90,7 +92,7 @@ module _ (limit : ℕ) (negative : Bool) (ds : List ℕ) where
   past j i c h e =
       let n : ℕ = spell 0 ds * 10 ^ (c - length ds) in
       rw (e, pow-add 10 (c - length ds) i, take-all c ds h, drop-of-length-le ds h)
-      (settled limit negative _ (10 ^ i) n 0 (sym (mul-assoc (spell 0 ds) _ _) ∙ sym (add-zero _)) (ten-pos i) ∙ answer-kept limit negative n 0 0 (λ z. z) (λ z. z))
+      (settled limit negative _ (10 ^ i) n 0 (sym (mul-assoc (spell 0 ds) _ _) ∙ sym (add-zero _)) (ten-pos i) ∙ answer-kept limit negative n 0 1 (omega arith))
 
   module _ (all : every digit ds ≡ true) where
     rest-less : (c j i : ℕ) → length ds - c + j ≤ i → spell 0 (drop c ds) * 10 ^ j < 10 ^ i
@@ -99,19 +101,14 @@ module _ (limit : ℕ) (negative : Bool) (ds : List ℕ) where
         let p : 10 ^ (length ds - c + j) ≤ 10 ^ i = pow-le-pow-right (omega arith) h in
         omega (arith, mul-lt-mul-of-pos-right r (ten-pos j), pow-add 10 (length ds - c) j)
 
-    -- a cut that leaves a quotient n, before zeros
-    cut-so : (j i c : ℕ) → length ds - c + j ≤ i → c ≤ length ds → spell 0 ds * 10 ^ j ≡ spell 0 (take c ds) * 10 ^ i + spell 0 (drop c ds) * 10 ^ j
+    -- where the digits before the cut and behind it make up the value, both times ten to the j
+    made-up : (j i c : ℕ) → length ds - c + j ≤ i → c ≤ length ds → spell 0 ds * 10 ^ j ≡ spell 0 (take c ds) * 10 ^ i + spell 0 (drop c ds) * 10 ^ j
         → settle limit negative (spell 0 ds * 10 ^ j) (10 ^ i) ≡ byCut c
-    cut-so j i c h k e =
-        let r : ℕ = spell 0 (drop c ds) in
+    made-up j i c h k e =
         let z : c - length ds ≡ 0 = omega arith in
         rw (z, mul-one)
-        (settled limit negative _ (10 ^ i) (spell 0 (take c ds)) (r * 10 ^ j) e (rest-less c j i h)
-        ∙ answer-kept limit negative (spell 0 (take c ds)) (r * 10 ^ j) r (λ t. zero-of r t) (λ t. ap (λ x. x * 10 ^ j) t ∙ zero-mul _))
-      where
-        zero-of : (r : ℕ) → r * 10 ^ j ≡ 0 → r ≡ 0
-        zero-of zero t = refl
-        zero-of (suc r) t = let k : 1 ≤ suc r * 10 ^ j = mul-pos (omega arith) (ten-pos j) in absurd (omega arith)
+        (settled limit negative _ (10 ^ i) (spell 0 (take c ds)) (spell 0 (drop c ds) * 10 ^ j) e (rest-less c j i h)
+        ∙ answer-kept limit negative (spell 0 (take c ds)) (spell 0 (drop c ds)) (10 ^ j) (ten-pos j))
 
     exact-cut : (j i c : ℕ) → c ≡ length ds + j - i → settle limit negative (spell 0 ds * 10 ^ j) (10 ^ i) ≡ byCut c
     unfolding spell
@@ -122,12 +119,12 @@ module _ (limit : ℕ) (negative : Bool) (ds : List ℕ) where
         by (no a) (yes b) =
             let q : ℕ = spell 0 (take c ds) in
             let x : length ds - c + j ≡ i = omega arith in
-            cut-so j i c (omega arith) (omega arith)
+            made-up j i c (omega arith) (omega arith)
             (ap (λ m. m * 10 ^ j) (cut-spell c) ∙ add-mul (q * 10 ^ (length ds - c)) (spell 0 (drop c ds)) (10 ^ j)
             ∙ ap (λ m. m + spell 0 (drop c ds) * 10 ^ j) (mul-assoc q _ _ ∙ ap (λ m. q * m) (sym (pow-add 10 (length ds - c) j) ∙ ap (λ k. 10 ^ k) x)))
         by (no a) (no b) =
             let z : c ≡ 0 = omega arith in
-            rw z (cut-so j i 0 (omega arith) (omega arith) (omega (arith, zero-mul (10 ^ i))))
+            rw z (made-up j i 0 (omega arith) (omega arith) (omega (arith, zero-mul (10 ^ i))))
 
 -- ---- past the cap a greater exponent changes nothing
 
@@ -154,22 +151,22 @@ module _ (limit : ℕ) (negative : Bool) (w f power : List ℕ) (places : ℕ) (
   all = every-append w f w-all f-all
 
   capped : (down : Bool) (x : ℕ)
-      → settle limit negative (spell 0 (w ++ f) * 10 ^ (places + cond down 0 x)) (10 ^ (length f + cond down x 0)) ≡ byCut limit negative (w ++ f) (cutOf (length w) places down (kept 2000 x))
-  capped true x = exact-cut limit negative (w ++ f) all (places + 0) (length f + x) (length w + places - kept 2000 x) (omega (arith, length-append w f))
-  capped false x = by (decLe x 2001)
+      → settle limit negative (spell 0 (w ++ f) * 10 ^ (places + cond down 0 x)) (10 ^ (length f + cond down x 0)) ≡ byCut limit negative (w ++ f) (cutOf (length w) places down (kept exponentCap x))
+  capped true x = exact-cut limit negative (w ++ f) all (places + 0) (length f + x) (length w + places - kept exponentCap x) (omega (arith, length-append w f))
+  capped false x = by (decLe x (exponentCap + 1))
     where
       exactly : settle limit negative (spell 0 (w ++ f) * 10 ^ (places + x)) (10 ^ (length f + 0)) ≡ byCut limit negative (w ++ f) (length w + places + x)
       exactly = exact-cut limit negative (w ++ f) all (places + x) (length f + 0) (length w + places + x) (omega (arith, length-append w f))
 
-      by : Dec (x ≤ 2001) → settle limit negative (spell 0 (w ++ f) * 10 ^ (places + x)) (10 ^ (length f + 0)) ≡ byCut limit negative (w ++ f) (length w + places + kept 2000 x)
-      by (yes h) = let e : kept 2000 x ≡ x = omega arith in rw e exactly
+      by : Dec (x ≤ (exponentCap + 1)) → settle limit negative (spell 0 (w ++ f) * 10 ^ (places + x)) (10 ^ (length f + 0)) ≡ byCut limit negative (w ++ f) (length w + places + kept exponentCap x)
+      by (yes h) = let e : kept exponentCap x ≡ x = omega arith in rw e exactly
       by (no h) =
-          let e : kept 2000 x ≡ 2001 = omega arith in
-          rw e (exactly ∙ far limit negative (w ++ f) (length w + places + x) (length w + places + 2001) most (omega (arith, length-append w f)) (omega (arith, length-append w f)))
+          let e : kept exponentCap x ≡ (exponentCap + 1) = omega arith in
+          rw e (exactly ∙ far limit negative (w ++ f) (length w + places + x) (length w + places + (exponentCap + 1)) most (omega (arith, length-append w f)) (omega (arith, length-append w f)))
 
   -- ---- what the code computes
 
-  pub exact : (down : Bool) (c a b : ℕ) → c ≡ cutOf (length w) places down (kept 2000 (spell 0 power)) → a ≡ min c (length w) → b ≡ min (c - a) (length f)
+  pub exact : (down : Bool) (c a b : ℕ) → c ≡ cutOf (length w) places down (kept exponentCap (spell 0 power)) → a ≡ min c (length w) → b ≡ min (c - a) (length f)
       → answer limit negative (kept limit (kept limit (spell 0 (take a w ++ take b f)) * 10 ^ (c - a - b))) (kept limit (spell 0 (drop a w ++ drop b f)))
       ≡ settle limit negative (over places (numeral negative w f down power)) (under (numeral negative w f down power))
   exact down c a b e x y =

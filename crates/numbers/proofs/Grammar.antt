@@ -8,7 +8,7 @@ use native.Mathlib.Decide.{decLe}
 use native.Mathlib.Omega.{arith}
 use borrow.Author.Tests.{lt-ltb, le-ltb}
 use lib.Dec.{ltb}
-use lib.ListN.{length, getD, drop}
+use lib.ListN.{length, getD, drop, length-drop}
 use lib.Seq.{drop-drop}
 use mir.Val.{boolByte}
 use Rattle.rules.specs.Lines.{after, digit, eByte, every, minusByte, pointByte, run, starts}
@@ -16,7 +16,8 @@ use Rattle.rules.specs.Numerals.{Exponent, Mantissa, Numeral, digits, plain, po
 use Rattle.rules.specs.Numbers.{assemble, exponentOf, fractionOf, numeralOf, unsigned}
 use Rattle.rules.proofs.Numbers.{digits-parts, spells-of}
 use Rattle.rules.proofs.Runs.{after-stops, run-starts}
-use Rattle.numbers.specs.Parts.{part}
+use Rattle.scan.proofs.Runs.{run-le}
+use Rattle.numbers.specs.Parts.{DigitsTo, part}
 use Rattle.numbers.proofs.Words.{drop-run, run-there, take-run}
 
 -- ---- the exponent
@@ -39,19 +40,15 @@ exponent-by e marked down whole n h m d u w = rw (exponent-there e h, m, d, w, �
 
 -- ---- the mantissa
 
--- the run of digits from place a has n bytes
-record Digits (w : List ℕ) (a n : ℕ) : Type 0 where
-  stand : part w a (a + n) ≡ run digit (drop a w)
-  then : drop (a + n) w ≡ after digit (drop a w)
-  there : ltb a (a + n) ≡ starts digit (drop a w)
-
-digits-at : (w : List ℕ) (a n : ℕ) → n ≡ length (run digit (drop a w)) → Digits w a n
-digits-at w a n e =
+pub digits-to : (w : List ℕ) (a n : ℕ) → a ≤ length w → n ≡ length (run digit (drop a w)) → DigitsTo w a (a + n)
+digits-to w a n h e =
     let x : a + n - a ≡ n = omega arith in
     record {
       stand = rw (x, e) (take-run digit (drop a w));
       then = sym (drop-drop n a w) ∙ ap (λ k. drop k (drop a w)) e ∙ drop-run digit (drop a w);
       there = above (decLe n 0) ∙ ap (ltb 0) e ∙ sym (run-there digit (drop a w));
+      ordered = omega arith;
+      inside = omega (arith, run-le digit (drop a w), length-drop a w);
     }
   where
     above : Dec (n ≤ 0) → ltb a (a + n) ≡ ltb 0 n
@@ -80,20 +77,15 @@ fraction-by negative whole (b ∷ rest) h = by (pointByte b)
     by true = assemble-first (starts digit rest) negative whole (run digit rest) (exponentOf (after digit rest))
     by false = rw h (assemble-first (starts digit whole) negative whole [] (exponentOf (b ∷ rest)))
 
--- an optional sign up to a, n whole digits, a point or none, m digits
-module _ (w : List ℕ) (a n m : ℕ) (p : Bool) where
-  pub numeral-by : drop a w ≡ unsigned w → n ≡ length (run digit (drop a w)) → p ≡ starts pointByte (drop (a + n) w) → m ≡ length (run digit (drop (a + n + boolByte p) w))
-      → let b = a + n in
-      let c = b + boolByte p in
-      let d = c + m in
-      cond (cond p (ltb c d) (ltb a b)) (assemble true (starts minusByte w) (part w a b) (part w c d) (exponentOf (drop d w))) none ≡ numeralOf w
-  unfolding numeralOf
-  numeral-by skip n-so p-so m-so =
-      let f : Digits w a n = digits-at w a n n-so in
-      let g : Digits w (a + n + boolByte p) m = digits-at w (a + n + boolByte p) m m-so in
-      let q : drop (boolByte p) (drop (a + n) w) ≡ drop (a + n + boolByte p) w = drop-drop (boolByte p) (a + n) w in
-      let stops : starts digit (drop (a + n) w) ≡ false = rw (f .then) (after-stops digit (drop a w)) in
-      rw (f .there, f .stand, g .there, g .stand, g .then, ← skip, ← f .then, ← q, p-so, ← run-starts digit (drop a w)) (sym (fraction-by (starts minusByte w) (run digit (drop a w)) (drop (a + n) w) stops))
+-- an optional sign up to a, whole digits up to b, a point or none, and digits up to d
+pub numeral-by : (w : List ℕ) (negative : Bool) (a b d : ℕ) (p : Bool) → negative ≡ starts minusByte w → drop a w ≡ unsigned w → DigitsTo w a b → p ≡ starts pointByte (drop b w) → DigitsTo w (b + boolByte p) d
+    → cond (cond p (ltb (b + boolByte p) d) (ltb a b)) (assemble true negative (part w a b) (part w (b + boolByte p) d) (exponentOf (drop d w))) none ≡ numeralOf w
+unfolding numeralOf
+numeral-by w negative a b d p sign skip f e g =
+    let q : drop (boolByte p) (drop b w) ≡ drop (b + boolByte p) w = drop-drop (boolByte p) b w in
+    let stops : starts digit (drop b w) ≡ false = rw (f .then) (after-stops digit (drop a w)) in
+    rw (sign, f .there, f .stand, g .there, g .stand, g .then, ← skip, ← f .then, ← q, e, ← run-starts digit (drop a w))
+    (sym (fraction-by (starts minusByte w) (run digit (drop a w)) (drop b w) stops))
 
 -- ---- a numeral's digits are digits
 

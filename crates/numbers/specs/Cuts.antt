@@ -13,6 +13,10 @@ mostLimit = 100_000_000_000_000_000
 abbrev pub mostPlaces : ℕ
 mostPlaces = 1000
 
+-- past it a greater exponent changes no answer: every digit stands on one side of the unit's point, and a quotient that is not 0 is past every limit
+abbrev pub exponentCap : ℕ
+exponentCap = 2000
+
 -- a number kept at limit + 1 once it is past the limit
 abbrev pub kept : ℕ → ℕ → ℕ
 kept limit n = min (limit + 1) n

@@ -12,8 +12,8 @@ ghost use Rattle.rules.specs.Grammar.{lineLimit};
 ghost use Rattle.rules.specs.Lines.{digit, eByte, every, starts};
 ghost use Rattle.rules.specs.Numerals.{digits, spell};
 ghost use Rattle.rules.specs.Numbers.{exponentOf, numberOf, numeralOf, unsigned, valueOf};
-ghost use Rattle.numbers.specs.Cuts.{answer, cutOf, kept, mostLimit, mostPlaces};
-ghost use Rattle.numbers.specs.Parts.{Inside, PowerInside, exponentAt, numeral, numeralAt};
+ghost use Rattle.numbers.specs.Cuts.{answer, cutOf, exponentCap, kept, mostLimit, mostPlaces};
+ghost use Rattle.numbers.specs.Parts.{DigitsTo, Inside, PowerInside, exponentAt, numeral, numeralAt};
 
 // ---- digits
 
@@ -123,6 +123,14 @@ fn sign_length(w: &[u8]) -> usize
     0
 }
 
+// The end of the digits that stand from a place on.
+fn digits_end(w: &[u8], from: usize) -> usize
+    requires { ⌜ from ≤ length (now w) ⌝ }
+    ensures { λ r. ⌜ DigitsTo (now (w .entry)) from r ⌝ }
+{
+    from + scan::run_length(&w[from..], ByteKind::Digit)
+}
+
 // Nothing; or e or E, an optional sign, digits.
 fn power_in(e: &[u8]) -> PowerFound
     ensures says { λ r. ⌜ exponentAt (now (e .entry)) r ≡ exponentOf (now (e .entry)) ⌝ }
@@ -151,16 +159,15 @@ fn power_in(e: &[u8]) -> PowerFound
 
 // An optional sign; digits, or digits, if any, a point, and at least one digit after it; and an exponent or none.
 fn numeral_in(w: &[u8]) -> NumeralFound
-    requires { ⌜ length (now w) ≤ lineLimit ⌝ }
     ensures says { λ r. ⌜ numeralAt (now (w .entry)) r ≡ numeralOf (now (w .entry)) ⌝ }
     ensures within { λ r. ⌜ Inside (now (w .entry)) r ⌝ }
 {
     let negative = starts_with(w, b'-');
     let whole = sign_length(w);
-    let point = whole + scan::run_length(&w[whole..], ByteKind::Digit);
+    let point = digits_end(w, whole);
     let pointed = starts_with(&w[point..], b'.');
     let fraction = point + pointed as usize;
-    let end = fraction + scan::run_length(&w[fraction..], ByteKind::Digit);
+    let end = digits_end(w, fraction);
     let there = if pointed {
         fraction < end
     } else {
@@ -187,7 +194,7 @@ fn numeral_in(w: &[u8]) -> NumeralFound
 
 // ---- the value
 
-// Past it a greater exponent changes no answer: every digit stands on one side of the unit's point, and a quotient that is not 0 is past every limit.
+// Past it a greater exponent changes no answer.
 const EXPONENT_CAP: u64 = 2000;
 
 fn smaller(a: usize, b: usize) -> usize
@@ -198,7 +205,7 @@ fn smaller(a: usize, b: usize) -> usize
 
 // How many digits stand before the unit's point.
 fn cut_at(whole: usize, places: usize, down: bool, x: usize) -> usize
-    requires { ⌜ (whole ≤ lineLimit) × (places ≤ mostPlaces) × (x ≤ 2001) ⌝ }
+    requires { ⌜ (whole ≤ lineLimit) × (places ≤ mostPlaces) × (x ≤ exponentCap + 1) ⌝ }
     ensures { λ r. ⌜ r ≡ cutOf whole places down x ⌝ }
 {
     let n = whole + places;

@@ -16,20 +16,17 @@ use Rattle.numbers.proofs.Words.{to-end}
 use Rattle.numbers.proofs.number_of.Statement.{statement}
 use Rattle.numbers.proofs.number_of.Tie as tie
 
--- the word, and the parts found in it
+-- the word, and the numeral that stands in it, with the digits of an exponent
 abbrev word : tie.After-p → List ℕ
 word c = now (c .before .before .before .before .args .w)
 
 abbrev parts : tie.After-p → Parts
 parts c = c .p .given .0 .0
 
-abbrev standing : tie.After-p → Numeral
-standing c =
-    let w = word c in
-    let p = parts c in
-    numeral (p .negative) (part w (p .whole) (p .point)) (part w (p .fraction) (p .end)) (p .down) (drop (p .power) w)
+abbrev with : tie.After-p → List ℕ → Numeral
+with c power = let p = parts c in numeral (p .negative) (part (word c) (p .whole) (p .point)) (part (word c) (p .fraction) (p .end)) (p .down) power
 
-stands : (c : tie.After-p) → numeralOf (word c) ≡ some (standing c)
+stands : (c : tie.After-p) → numeralOf (word c) ≡ some (with c (drop (parts c .power) (word c)))
 stands c = sym (rw (c .p .given .1) at (c .before .before .numeral-in .ensures .0))
 
 placed : (c : tie.After-p) → Placed (word c) (parts c)
@@ -53,22 +50,22 @@ unfolding numberOf
 returns c = ap (valueOf _ _) (rw (c .enum-told .given .1) at (c .before .before .numeral-in .ensures .0))
 
 sub-value : tie.Need-sub-value
-sub-value c = placed (c .before) .whole-point
+sub-value c = placed (c .before) .whole-in .0
 
 part-value-start : tie.Need-part-value-start
-part-value-start c = placed (c .before) .whole-point
+part-value-start c = placed (c .before) .whole-in .0
 
 part-value-end : tie.Need-part-value-end
-part-value-end c = placed (c .before) .point-in
+part-value-end c = placed (c .before) .whole-in .1
 
 sub-value-2 : tie.Need-sub-value-2
-sub-value-2 c = placed (c .before .before) .fraction-end
+sub-value-2 c = placed (c .before .before) .fraction-in .0
 
 part-value-start-2 : tie.Need-part-value-start-2
-part-value-start-2 c = placed (c .before .before) .fraction-end
+part-value-start-2 c = placed (c .before .before) .fraction-in .0
 
 part-value-end-2 : tie.Need-part-value-end-2
-part-value-end-2 c = placed (c .before .before) .end-in
+part-value-end-2 c = placed (c .before .before) .fraction-in .1
 
 sub-value-3 : tie.Need-sub-value-3
 sub-value-3 c = placed (c .before .before .before) .power-in
@@ -82,22 +79,16 @@ part-value-end-3 c = search needs
 value-requires : tie.Need-value-requires
 value-requires c κs =
     let k = c .before .before .before .before in
-    let w = word k in
     let p = parts k in
-    let h = k .before .before .before .before .pre in (
-      (omega (arith, part-short w (p .whole) (p .point)), omega (arith, part-short w (p .fraction) (p .end))),
-      (numeral-digits w (standing k) (stands k), (h .1, h .2)),
-    )
+    let h = k .before .before .before .before .pre in
+    ((omega (arith, part-short (word k) (p .whole) (p .point)), omega (arith, part-short (word k) (p .fraction) (p .end))), (numeral-digits (word k) _ (stands k), (h .1, h .2)))
 
 returns-2 : tie.Need-returns-2
 unfolding numberOf
 returns-2 c =
     let k = c .before .before .before .before .before in
     let a = k .before .before .before .before .args in
-    let p = parts k in
-    c .value .ensures
-    ∙ ap (λ l. valueOf (a .places) (a .limit) (some (numeral (p .negative) (part (word k) (p .whole) (p .point)) (part (word k) (p .fraction) (p .end)) (p .down) l))) (to-end (word k) (p .power))
-    ∙ sym (ap (valueOf (a .places) (a .limit)) (stands k))
+    c .value .ensures ∙ ap (λ l. valueOf (a .places) (a .limit) (some (with k l))) (to-end (word k) (parts k .power)) ∙ sym (ap (valueOf (a .places) (a .limit)) (stands k))
 
 pub number-of-spec : {M : Type 1} → statement M
 number-of-spec =

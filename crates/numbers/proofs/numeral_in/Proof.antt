@@ -1,11 +1,11 @@
 -- Each place is found from the one before; what stands between them is what the definition reads.
 use denote.Ref.{now}
 use Prim.Native.Nat.{ℕ, _+_, _≤_}
-use mathlib.Core.Path.{_≡_, sym, ap, _∙_}
-use mathlib.Core.Bool.{Bool, true, cond}
+use mathlib.Core.Path.{_≡_, sym, ap, subst, _∙_}
+use mathlib.Core.Bool.{Bool, true, false, cond}
 use mathlib.Core.List.{List}
 use mathlib.Core.Logic.{⊎-elim}
-use mathlib.Core.Option.{none, some}
+use mathlib.Core.Option.{Option, none}
 use native.Mathlib.Omega.{arith}
 use borrow.Author.Needs.{needs}
 use borrow.Author.Tests.{not-true, not-false}
@@ -13,113 +13,84 @@ use lib.Dec.{ltb}
 use lib.ListN.{length, drop, length-drop}
 use lib.Seq.{drop-drop}
 use mir.Val.{boolByte}
-use Rattle.rules.specs.Lines.{digit, pointByte, run, starts}
+use Rattle.rules.specs.Lines.{pointByte, starts}
+use Rattle.rules.specs.Numerals.{Exponent, Numeral}
 use Rattle.rules.specs.Numbers.{assemble, exponentOf, numeralOf}
-use Rattle.numbers.specs.Parts.{part}
+use Rattle.numbers.specs.Parts.{PowerInside, exponentAt, part}
+use Rattle.numbers.specs.declared.PowerFound.{PowerFound}
 use Rattle.numbers.proofs.Grammar.{numeral-by}
 use Rattle.numbers.proofs.Words.{starts-room, to-end}
 use Rattle.numbers.proofs.numeral_in.Statement.{statement}
 use Rattle.numbers.proofs.numeral_in.Tie as tie
 
--- ---- the places, each in the word
+-- ---- up to the place where digits after the point may stand
 
-abbrev word : tie.After-sign-length → List ℕ
-word c = now (c .before .before .before .args .w)
+abbrev word : tie.After-starts-with2 → List ℕ
+word c = now (c .before .before .before .before .before .before .args .w)
 
-abbrev point : tie.After-run-length → ℕ
-point c = c .before .before .sign-length .result + c .run-length .result
+abbrev whole : tie.After-starts-with2 → ℕ
+whole c = c .before .before .before .sign-length .result
+
+abbrev point : tie.After-starts-with2 → ℕ
+point c = c .before .before .digits-end .result
 
 abbrev fraction : tie.After-starts-with2 → ℕ
-fraction c = point (c .before .before) + boolByte (c .starts-with2 .result)
+fraction c = point c + boolByte (c .starts-with2 .result)
 
-abbrev end : tie.After-run-length2 → ℕ
-end c = fraction (c .before .before) + c .run-length2 .result
+is-pointed : (c : tie.After-starts-with2) → c .starts-with2 .result ≡ starts pointByte (drop (point c) (word c))
+is-pointed c = c .starts-with2 .ensures ∙ ap (starts pointByte) (to-end (word c) (point c))
 
-is-pointed : (c : tie.After-starts-with2) → let b = c .before .before in c .starts-with2 .result ≡ starts pointByte (drop (point b) (word (b .before .before)))
-is-pointed c = let b = c .before .before in c .starts-with2 .ensures ∙ ap (starts pointByte) (to-end (word (b .before .before)) (point b))
-
-point-in : (c : tie.After-run-length) → point c ≤ length (word (c .before .before))
-point-in c = omega arith
-
-fraction-in : (c : tie.After-starts-with2) → fraction c ≤ length (word (c .before .before .before .before))
+fraction-in : (c : tie.After-starts-with2) → fraction c ≤ length (word c)
 fraction-in c =
-    let b = c .before .before in
-    let w = word (b .before .before) in
-    omega (arith, point-in b, ap boolByte (is-pointed c), starts-room pointByte (drop (point b) w), length-drop (point b) w)
+    omega (arith, c .before .before .digits-end .ensures .inside, ap boolByte (is-pointed c), starts-room pointByte (drop (point c) (word c)), length-drop (point c) (word c))
 
-end-in : (c : tie.After-run-length2) → end c ≤ length (word (c .before .before .before .before .before .before))
-end-in c = omega (arith, fraction-in (c .before .before), c .run-length2 .ensures .1)
+-- ---- up to the place where an exponent may stand
 
--- ---- what stands there
-
-read : (c : tie.After-run-length2)
-    → let k = c .before .before in
-    let b = k .before .before in
-    let s = b .before .before in
-    let w = word s in
-    cond (cond (k .starts-with2 .result) (ltb (fraction k) (end c)) (ltb (s .sign-length .result) (point b)))
-    (assemble true (s .before .starts-with .result) (part w (s .sign-length .result) (point b)) (part w (fraction k) (end c)) (exponentOf (drop (end c) w))) none
-    ≡ numeralOf w
-read c =
-    let k = c .before .before in
-    let b = k .before .before in
-    let s = b .before .before in
-    let w = word s in
-    rw (s .before .starts-with .ensures)
-    (numeral-by w (s .sign-length .result) (b .run-length .result) (c .run-length2 .result) (k .starts-with2 .result) (s .sign-length .ensures .0)
-    (b .run-length .ensures .0 ∙ ap (λ l. length (run digit l)) (to-end w (s .sign-length .result))) (is-pointed k)
-    (c .run-length2 .ensures .0 ∙ ap (λ l. length (run digit l)) (to-end w (fraction k))))
+abbrev end : tie.After-digits-end2 → ℕ
+end c = c .digits-end2 .result
 
 -- whether the digits that must be there are
-tested : (c : tie.Joined1)
-    → let d = c .before in
-    let k = d .before .before in
-    let b = k .before .before in
-    c .if1 .there ≡ cond (k .starts-with2 .result) (ltb (fraction k) (end d)) (ltb (b .before .before .sign-length .result) (point b))
-tested c =
-    let d = c .before in
-    let k = d .before .before in
-    let b = k .before .before in
-    let pick : Bool → Bool = λ t. cond t (ltb (fraction k) (end d)) (ltb (b .before .before .sign-length .result) (point b)) in
-    ⊎-elim (λ t. t .1 ∙ sym (ap pick (t .0 .taken))) (λ t. t .1 ∙ sym (ap pick (t .0 .left))) (c .if1 .came)
+abbrev enough : tie.After-digits-end2 → Bool → Bool
+enough c pointed = cond pointed (ltb (fraction (c .before)) (end c)) (ltb (whole (c .before)) (point (c .before)))
 
--- ---- where they are, the exponent decides
+-- with an exponent, or none if that is wrong
+abbrev with : tie.After-digits-end2 → Option Exponent → Option Numeral
+with c x =
+    let k = c .before in
+    let w = word k in
+    assemble true (k .before .before .before .before .starts-with .result) (part w (whole k) (point k)) (part w (fraction k) (end c)) x
 
-passed : (c : tie.After-power-in)
-    → let d = c .before .before .before .before in
-    let k = d .before .before in
-    let b = k .before .before in
-    let s = b .before .before in
-    let w = word s in
-    assemble true (s .before .starts-with .result) (part w (s .sign-length .result) (point b)) (part w (fraction k) (end d)) (exponentOf (drop (end d) w)) ≡ numeralOf w
-passed c =
-    let e = c .before .before in
-    rw (← tested (e .before), not-false (e .before .if1 .there) (e .if2 .left)) at (read (e .before .before))
+read : (c : tie.After-digits-end2) (t : Bool) → enough c (c .before .starts-with2 .result) ≡ t → cond t (with c (exponentOf (drop (end c) (word (c .before))))) none ≡ numeralOf (word (c .before))
+read c t e =
+    let k = c .before in
+    let s = k .before .before .before in
+    sym (ap (λ b. cond b (with c (exponentOf (drop (end c) (word k)))) none) e)
+    ∙ numeral-by (word k) (s .before .starts-with .result) (whole k) (point k) (end c) (k .starts-with2 .result) (s .before .starts-with .ensures) (s .sign-length .ensures .0)
+    (k .before .before .digits-end .ensures) (is-pointed k) (c .digits-end2 .ensures)
 
-absent : (c : tie.After-enum-told) → let d = c .before .before .before .before .before .before in none ≡ exponentOf (drop (end d) (word (d .before .before .before .before .before .before)))
-absent c =
-    let r = c .before .before in
-    let d = r .before .before .before .before in
-    rw (c .enum-told .given .1, to-end (word (d .before .before .before .before .before .before)) (end d)) at (r .power-in .ensures .0)
+tested : (c : tie.Joined1) → c .if1 .there ≡ enough (c .before) (c .before .before .starts-with2 .result)
+tested c = ⊎-elim (λ t. t .1 ∙ sym (ap (enough (c .before)) (t .0 .taken))) (λ t. t .1 ∙ sym (ap (enough (c .before)) (t .0 .left))) (c .if1 .came)
 
-present : (c : tie.After-p)
-    → let d = c .before .before .before .before .before .before in
-    let w = word (d .before .before .before .before .before .before) in
-    let p = c .p .given .0 .0 in
-    some (record { down = p .down; power = drop (end d + p .start) w }) ≡ exponentOf (drop (end d) w)
-present c =
-    let r = c .before .before in
-    let d = r .before .before .before .before in
-    let w = word (d .before .before .before .before .before .before) in
-    rw (← drop-drop (c .p .given .0 .0 .start) (end d) w) (rw (c .p .given .1, to-end w (end d)) at (r .power-in .ensures .0))
+-- ---- the exponent
 
-power-within : (c : tie.After-p) → let d = c .before .before .before .before .before .before in end d + c .p .given .0 .0 .start ≤ length (word (d .before .before .before .before .before .before))
+abbrev found : tie.After-power-in → tie.After-digits-end2
+found c = c .before .before .before .before
+
+-- what the answer on it says of the word
+abbrev Says : tie.After-digits-end2 → PowerFound → Type 0
+Says k r = (with k (exponentAt (drop (end k) (word (k .before))) r) ≡ numeralOf (word (k .before))) × PowerInside (drop (end k) (word (k .before))) r
+
+says : (c : tie.After-power-in) (r : PowerFound) → c .power-in .result ≡ r → Says (found c) r
+says c r e =
+    let k = found c in
+    let t = c .before .before in
+    let p = rw (to-end (word (k .before)) (end k)) at (c .power-in .ensures) in
+    subst (Says k) e (ap (with k) (p .0) ∙ read k true (sym (tested (t .before)) ∙ not-false _ (t .if2 .left)), p .1)
+
+power-within : (c : tie.After-p) → let k = found (c .before .before) in end k + c .p .given .0 .0 .start ≤ length (word (k .before))
 power-within c =
-    let r = c .before .before in
-    let d = r .before .before .before .before in
-    let w = word (d .before .before .before .before .before .before) in
-    let h : c .p .given .0 .0 .start ≤ length (drop (end d) w) = rw (c .p .given .1, to-end w (end d)) at (r .power-in .ensures .1) in
-    omega (arith, end-in d, length-drop (end d) w)
+    let k = found (c .before .before) in
+    omega (arith, says (c .before .before) _ (c .p .given .1) .1, k .digits-end2 .ensures .inside, length-drop (end k) (word (k .before)))
 
 starts-with-requires : tie.Need-starts-with-requires
 starts-with-requires c κs = search needs
@@ -127,20 +98,8 @@ starts-with-requires c κs = search needs
 sign-length-requires : tie.Need-sign-length-requires
 sign-length-requires c κs = search needs
 
-sub-run-length : tie.Need-sub-run-length
-sub-run-length c = search needs
-
-part-run-length-start : tie.Need-part-run-length-start
-part-run-length-start c = search needs
-
-part-run-length-end : tie.Need-part-run-length-end
-part-run-length-end c = search needs
-
-run-length-requires : tie.Need-run-length-requires
-run-length-requires c κs = search needs
-
-add-point : tie.Need-add-point
-add-point c = search needs
+digits-end-requires : tie.Need-digits-end-requires
+digits-end-requires c κs = search needs
 
 sub-starts-with : tie.Need-sub-starts-with
 sub-starts-with c = search needs
@@ -158,33 +117,21 @@ cast-fraction : tie.Need-cast-fraction
 cast-fraction c = search needs
 
 add-fraction : tie.Need-add-fraction
-add-fraction c = record { fits = omega (arith, fraction-in c) }
+add-fraction c = omega (arith, fraction-in c)
 
-sub-run-length-2 : tie.Need-sub-run-length-2
-sub-run-length-2 c = fraction-in c
-
-part-run-length-start-2 : tie.Need-part-run-length-start-2
-part-run-length-start-2 c = fraction-in c
-
-part-run-length-end-2 : tie.Need-part-run-length-end-2
-part-run-length-end-2 c = search needs
-
-run-length-requires-2 : tie.Need-run-length-requires-2
-run-length-requires-2 c κs = search needs
-
-add-end : tie.Need-add-end
-add-end c = omega (arith, end-in c)
+digits-end-requires-2 : tie.Need-digits-end-requires-2
+digits-end-requires-2 c κs = fraction-in c
 
 returns : tie.Need-returns
 returns c =
     let j = c .before in
-    (rw (← tested j, not-true (j .if1 .there) (c .if2 .taken)) at (read (j .before)), tt)
+    (read (j .before) false (sym (tested j) ∙ not-true _ (c .if2 .taken)), tt)
 
 sub-power-in : tie.Need-sub-power-in
-sub-power-in c = end-in (c .before .before)
+sub-power-in c = search needs
 
 part-power-in-start : tie.Need-part-power-in-start
-part-power-in-start c = end-in (c .before .before)
+part-power-in-start c = search needs
 
 part-power-in-end : tie.Need-part-power-in-end
 part-power-in-end c = search needs
@@ -199,26 +146,17 @@ enum-told : tie.Need-enum-told
 enum-told c = search needs
 
 returns-2 : tie.Need-returns-2
-returns-2 c =
-    let r = c .before .before in
-    (rw (← absent c) at (passed r), tt)
+returns-2 c = (says (c .before .before) _ (c .enum-told .given .1) .0, tt)
 
-add-t14 : tie.Need-add-t14
-add-t14 c = omega (arith, power-within (c .before))
+add-t13 : tie.Need-add-t13
+add-t13 c = omega (arith, power-within (c .before))
 
 returns-3 : tie.Need-returns-3
 returns-3 c =
     let r = c .before .before .before in
-    let d = r .before .before .before .before in
-    let k = d .before .before in (
-      rw (← present (c .before)) at (passed r),
-      record {
-        whole-point = omega arith;
-        point-in = point-in (k .before .before);
-        fraction-end = omega arith;
-        end-in = end-in d;
-        power-in = power-within (c .before);
-      },
+    let k = found r in (
+      rw (← drop-drop (c .before .p .given .0 .0 .start) (end k) (word (k .before))) (says r _ (c .before .p .given .1) .0),
+      record { whole-in = (omega arith, omega arith); fraction-in = (omega arith, omega arith); power-in = power-within (c .before) },
     )
 
 pub numeral-in-spec : {M : Type 1} → statement M
@@ -227,22 +165,14 @@ numeral-in-spec =
     (tie.spec
     starts-with-requires
     sign-length-requires
-    sub-run-length
-    part-run-length-start
-    part-run-length-end
-    run-length-requires
-    add-point
+    digits-end-requires
     sub-starts-with
     part-starts-with-start
     part-starts-with-end
     starts-with-requires-2
     cast-fraction
     add-fraction
-    sub-run-length-2
-    part-run-length-start-2
-    part-run-length-end-2
-    run-length-requires-2
-    add-end
+    digits-end-requires-2
     returns
     sub-power-in
     part-power-in-start
@@ -251,5 +181,5 @@ numeral-in-spec =
     enum-known-p
     enum-told
     returns-2
-    add-t14
+    add-t13
     returns-3)
