@@ -1,0 +1,111 @@
+-- What the reader's state keeps, kept by each thing that it takes in.
+use Prim.Native.Nat.{ℕ, _+_}
+use mathlib.Core.Path.{_≡_, refl, sym}
+use mathlib.Core.Bool.{Bool, true, false, cond, true≢false}
+use mathlib.Core.Option.{none, some}
+use native.Mathlib.Omega.{arith}
+use borrow.Author.Tests.{le-leb}
+use lib.Dec.{leb}
+use Rattle.rules.specs.Units.{boundLimit, inRange}
+use Rattle.rules.specs.Descriptions.{lowest, highest, noTitle, description, everyColour, boundsFit}
+use Rattle.rules.specs.Judge.{orElse, noSize, describe, given}
+use Rattle.rules.specs.declared.Bounds.{Bounds}
+use Rattle.rules.specs.declared.Size.{Size}
+use Rattle.rules.specs.declared.Title.{Title}
+use Rattle.rules.proofs.Tests.{both-and}
+use Rattle.reading.specs.View.{view, marked, BoundsWithin, Fit, RowWelcome}
+use Rattle.reading.specs.declared.state.State.{State}
+
+module _ {st : State} (f : Fit st) where
+  pub fit-title : (t : Title) → Fit (record { titled = true; title = t; lowered = st .lowered; lower = st .lower; raised = st .raised; upper = st .upper; sized = st .sized; size = st .size; rows = st .rows })
+  fit-title t = record {
+    no-title = λ e. absurd (true≢false e);
+    no-lower = f .no-lower;
+    no-upper = f .no-upper;
+    no-size = f .no-size;
+    lower-within = f .lower-within;
+    upper-within = f .upper-within;
+    size-within = f .size-within;
+    after-size = f .after-size;
+    few = f .few;
+  }
+
+  pub fit-lower : (b : Bounds) → BoundsWithin b → Fit (record { titled = st .titled; title = st .title; lowered = true; lower = b; raised = st .raised; upper = st .upper; sized = st .sized; size = st .size; rows = st .rows })
+  fit-lower b w = record {
+    no-title = f .no-title;
+    no-lower = λ e. absurd (true≢false e);
+    no-upper = f .no-upper;
+    no-size = f .no-size;
+    lower-within = w;
+    upper-within = f .upper-within;
+    size-within = f .size-within;
+    after-size = f .after-size;
+    few = f .few;
+  }
+
+  pub fit-upper : (b : Bounds) → BoundsWithin b → Fit (record { titled = st .titled; title = st .title; lowered = st .lowered; lower = st .lower; raised = true; upper = b; sized = st .sized; size = st .size; rows = st .rows })
+  fit-upper b w = record {
+    no-title = f .no-title;
+    no-lower = f .no-lower;
+    no-upper = λ e. absurd (true≢false e);
+    no-size = f .no-size;
+    lower-within = f .lower-within;
+    upper-within = w;
+    size-within = f .size-within;
+    after-size = f .after-size;
+    few = f .few;
+  }
+
+  pub fit-size : (s : Size) → inRange (s .kind) (s .n) ≡ true → Fit (record { titled = st .titled; title = st .title; lowered = st .lowered; lower = st .lower; raised = st .raised; upper = st .upper; sized = true; size = s; rows = st .rows })
+  fit-size s r = record {
+    no-title = f .no-title;
+    no-lower = f .no-lower;
+    no-upper = f .no-upper;
+    no-size = λ e. absurd (true≢false e);
+    lower-within = f .lower-within;
+    upper-within = f .upper-within;
+    size-within = λ e. r;
+    after-size = λ e. refl;
+    few = f .few;
+  }
+
+  pub fit-row : RowWelcome st → Fit (record { titled = st .titled; title = st .title; lowered = st .lowered; lower = st .lower; raised = st .raised; upper = st .upper; sized = st .sized; size = st .size; rows = st .rows + 1 })
+  fit-row w = record {
+    no-title = f .no-title;
+    no-lower = f .no-lower;
+    no-upper = f .no-upper;
+    no-size = f .no-size;
+    lower-within = f .lower-within;
+    upper-within = f .upper-within;
+    size-within = f .size-within;
+    after-size = λ e. w .sized-so;
+    few = omega (arith, w .room);
+  }
+
+  -- the fields are what the rules read from the view
+  pub describe-is : describe (view st) ≡ description (st .title) (st .lower) (st .upper) (st .size)
+  unfolding describe
+  describe-is =
+      let t = chosen (st .titled) (st .title) noTitle (f .no-title) in
+      let lo = chosen (st .lowered) (st .lower) lowest (f .no-lower) in
+      let hi = chosen (st .raised) (st .upper) highest (f .no-upper) in
+      let s = chosen (st .sized) (st .size) noSize (f .no-size) in
+      λ i. description (t i) (lo i) (hi i) (s i)
+    where
+      chosen : {A : Type 0} (there : Bool) (a default : A) → (there ≡ false → a ≡ default) → orElse default (marked there a) ≡ a
+      chosen true a default h = refl
+      chosen false a default h = sym (h refl)
+
+  -- its bounds are within ±10
+  pub describe-fits : everyColour boundsFit (description (st .title) (st .lower) (st .upper) (st .size)) ≡ true
+  unfolding boundsFit
+  describe-fits =
+      let lo = f .lower-within in
+      let hi = f .upper-within in
+      both-and _ _ (both-and _ _ (le-leb _ _ (lo .red)) (le-leb _ _ (hi .red)))
+      (both-and _ _ (both-and _ _ (le-leb _ _ (lo .green)) (le-leb _ _ (hi .green))) (both-and _ _ (le-leb _ _ (lo .blue)) (le-leb _ _ (hi .blue))))
+
+-- a mark is what the view gives
+pub given-marked : {A : Type 0} (there : Bool) (a : A) → given (marked there a) ≡ there
+given-marked true a = refl
+given-marked false a = refl

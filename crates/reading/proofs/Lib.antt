@@ -1,0 +1,2 @@
+-- What the reader keeps from line to line.
+pub mod Fits

@@ -1,0 +1,17 @@
+-- The view with one more thing given is what the rules add.
+use mathlib.Core.Path.{refl}
+use Rattle.rules.specs.Judge.{add}
+use Rattle.reading.proofs.Fits.{fit-upper}
+use borrow.Author.Needs.{needs}
+use native.Mathlib.Omega.{arith}
+use Rattle.reading.proofs.state.State.with_upper.Statement.{statement}
+use Rattle.reading.proofs.state.State.with_upper.Tie as tie
+use Rattle.reading.proofs.state.State.with_upper.Reads as reads
+use Rattle.reading.proofs.state.State.with_upper.Lts as lts
+
+returns : tie.Need-returns
+unfolding add
+returns c = (refl, fit-upper (c .pre .0) (c .args .upper) (c .pre .1))
+
+pub with-upper-spec : {M : Type 1} → statement M
+with-upper-spec = tie.close (tie.spec returns)
