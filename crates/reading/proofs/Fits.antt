@@ -1,20 +1,35 @@
 -- What the reader's state keeps, kept by each thing that it takes in.
 use Prim.Native.Nat.{ℕ, _+_}
-use mathlib.Core.Path.{_≡_, refl, sym}
+use mathlib.Core.Path.{_≡_, refl, sym, ap, subst, _∙_}
 use mathlib.Core.Bool.{Bool, true, false, cond, true≢false}
-use mathlib.Core.Option.{none, some}
+use mathlib.Core.Option.{none}
 use native.Mathlib.Omega.{arith}
-use borrow.Author.Tests.{le-leb}
-use lib.Dec.{leb}
-use Rattle.rules.specs.Units.{boundLimit, inRange}
-use Rattle.rules.specs.Descriptions.{lowest, highest, noTitle, description, everyColour, boundsFit}
-use Rattle.rules.specs.Judge.{orElse, noSize, describe, given}
+use borrow.Author.Tests.{le-leb, eqb-false}
+use lib.Dec.{eqb}
+use Rattle.rules.specs.Units.{inRange, rowsOf}
+use Rattle.rules.specs.Descriptions.{lowest, highest, noTitle, description, rows, everyColour, boundsFit}
+use Rattle.rules.specs.Judge.{orElse, noSize, describe, given, need, domainFault, headFault}
 use Rattle.rules.specs.declared.Bounds.{Bounds}
+use Rattle.rules.specs.declared.Refusal.the-variants.{NoSize}
 use Rattle.rules.specs.declared.Size.{Size}
 use Rattle.rules.specs.declared.Title.{Title}
-use Rattle.rules.proofs.Tests.{both-and}
+use Rattle.rules.proofs.Tests.{both-and, need-none}
 use Rattle.reading.specs.View.{view, marked, BoundsWithin, Fit, RowWelcome}
 use Rattle.reading.specs.declared.state.State.{State}
+
+-- nothing given
+pub fit-start : (lo hi : Bounds) → lo ≡ lowest → hi ≡ highest → Fit (record { titled = false; title = noTitle; lowered = false; lower = lo; raised = false; upper = hi; sized = false; size = noSize; rows = 0 })
+fit-start lo hi e g = record {
+  no-title = λ _. refl;
+  no-lower = λ _. e;
+  no-upper = λ _. g;
+  no-size = λ _. refl;
+  lower-within = subst BoundsWithin (sym e) (record { red = omega arith; green = omega arith; blue = omega arith });
+  upper-within = subst BoundsWithin (sym g) (record { red = omega arith; green = omega arith; blue = omega arith });
+  size-within = λ t. absurd (true≢false (sym t));
+  after-size = λ h. absurd (omega arith);
+  few = omega arith;
+}
 
 module _ {st : State} (f : Fit st) where
   pub fit-title : (t : Title) → Fit (record { titled = true; title = t; lowered = st .lowered; lower = st .lower; raised = st .raised; upper = st .upper; sized = st .sized; size = st .size; rows = st .rows })
@@ -109,3 +124,21 @@ module _ {st : State} (f : Fit st) where
 pub given-marked : {A : Type 0} (there : Bool) (a : A) → given (marked there a) ≡ there
 given-marked true a = refl
 given-marked false a = refl
+
+-- ---- where 9 to 13 found no fault
+
+module _ {st : State} (f : Fit st) where
+  -- there is a size: at the first data line it was asked for, and later rows were counted
+  pub head-sized : (places : ℕ) → headFault places (view st) ≡ none → st .sized ≡ true
+  unfolding headFault
+  head-sized places h = by (eqb (st .rows) 0) refl h
+    where
+      by : (b : Bool) → eqb (st .rows) 0 ≡ b → cond b (need (given (marked (st .sized) (st .size))) NoSize (domainFault places (describe (view st)))) none ≡ none → st .sized ≡ true
+      by true e g = sym (given-marked (st .sized) (st .size)) ∙ need-none _ _ _ g .0
+      by false e g = f .after-size (omega (arith, eqb-false (st .rows) 0 e))
+
+  pub head-in-range : (places : ℕ) → headFault places (view st) ≡ none → inRange (st .size .kind) (st .size .n) ≡ true
+  head-in-range places h = f .size-within (head-sized places h)
+
+  pub rows-described : rows (describe (view st)) ≡ rowsOf (st .size .kind) (st .size .n)
+  rows-described = ap rows (describe-is f)

@@ -1,34 +1,30 @@
-use native.Mathlib.Omega.{arith}
+-- The end's fault with the line, or else what the state describes.
+use mathlib.Core.Path.{sym, ap, _∙_}
+use Rattle.text.specs.Answers.{faultOf}
+use Rattle.rules.specs.declared.Read.the-variants.{Accepted}
 use borrow.Author.Needs.{needs}
 use Rattle.reading.proofs.checks.conclude.Statement.{statement}
 use Rattle.reading.proofs.checks.conclude.Tie as tie
-use Rattle.reading.proofs.checks.conclude.Reads as reads
-use Rattle.reading.proofs.checks.conclude.Lts as lts
-use Rattle.reading.proofs.checks.end_fault.Reads as end-fault-reads
-use Rattle.reading.proofs.state.State.describe.Reads as describe-reads
 
--- src/checks.rt:123:39
 end-fault-requires : tie.Need-end-fault-requires
 end-fault-requires c κs = search needs
 
--- src/checks.rt:123:29
 enum-known-reason : tie.Need-enum-known-reason
 enum-known-reason c = search needs
 
--- src/checks.rt:124:9
 returns : tie.Need-returns
-returns c = search needs
+returns c = let e = c .before .before .before in rw (sym (e .end-fault .ensures) ∙ ap faultOf (c .before .reason .given .1))
 
 enum-told : tie.Need-enum-told
 enum-told c = search needs
 
--- src/checks.rt:126:20
 describe-requires : tie.Need-describe-requires
 describe-requires c κs = search needs
 
--- src/checks.rt:119:1
 returns-2 : tie.Need-returns-2
-returns-2 c = search needs
+returns-2 c =
+    let t = c .before in
+    rw (sym (t .before .before .end-fault .ensures) ∙ ap faultOf (t .enum-told .given .1)) (ap Accepted (c .describe .ensures))
 
 pub conclude-spec : {M : Type 1} → statement M
 conclude-spec =

@@ -1,51 +1,46 @@
-use native.Mathlib.Omega.{arith}
+-- By the form; a line that is empty, a comment, or none of these has no place of its own.
+use mathlib.Core.Path.{sym, ap, _∙_}
+use Rattle.rules.specs.Judge.{orderFault}
+use Rattle.reading.specs.View.{view}
 use borrow.Author.Needs.{needs}
 use Rattle.reading.proofs.checks.order_fault.Statement.{statement}
 use Rattle.reading.proofs.checks.order_fault.Tie as tie
-use Rattle.reading.proofs.checks.order_fault.Reads as reads
-use Rattle.reading.proofs.checks.order_fault.Lts as lts
-use Rattle.reading.proofs.checks.data_fault.Reads as data-fault-reads
-use Rattle.reading.proofs.checks.keyword_fault.Reads as keyword-fault-reads
 
--- src/checks.rt:95:23
 enum-told : tie.Need-enum-told
 enum-told c = search needs
 
--- src/checks.rt:96:21
 enum-known-form : tie.Need-enum-known-form
 enum-known-form c = search needs
 
--- src/checks.rt:96:27
 keyword-fault-requires : tie.Need-keyword-fault-requires
 keyword-fault-requires c κs = search needs
 
--- src/checks.rt:97:23
 enum-told-2 : tie.Need-enum-told-2
 enum-told-2 c = search needs
 
--- src/checks.rt:97:23
 data-fault-requires : tie.Need-data-fault-requires
 data-fault-requires c κs = search needs
 
--- src/checks.rt:98:26
 enum-told-3 : tie.Need-enum-told-3
 enum-told-3 c = search needs
 
--- src/checks.rt:90:1
 returns : tie.Need-returns
-returns c = search needs
+unfolding orderFault
+returns c = rw (c .enum-told .given .1)
 
--- src/checks.rt:90:1
 returns-2 : tie.Need-returns-2
-returns-2 c = search needs
+returns-2 c =
+    let s = c .before .before .before .before in
+    c .keyword-fault .ensures (s .args .places) ∙ ap (orderFault (s .args .places) (view (s .args .st))) (sym (c .before .before .form .given .1))
 
--- src/checks.rt:90:1
 returns-3 : tie.Need-returns-3
-returns-3 c = search needs
+returns-3 c =
+    let s = c .before .before .before in
+    c .data-fault .ensures ∙ ap (orderFault (s .args .places) (view (s .args .st))) (sym (c .before .enum-told2 .given .1))
 
--- src/checks.rt:90:1
 returns-4 : tie.Need-returns-4
-returns-4 c = search needs
+unfolding orderFault
+returns-4 c = rw (c .enum-told3 .given .1)
 
 pub order-fault-spec : {M : Type 1} → statement M
 order-fault-spec =

@@ -2,19 +2,16 @@
 use mathlib.Core.Path.{refl}
 use Rattle.rules.specs.Judge.{add}
 use Rattle.reading.proofs.Fits.{fit-row}
-use native.Mathlib.Omega.{arith}
 use borrow.Author.Needs.{needs}
 use Rattle.reading.proofs.state.State.with_row.Statement.{statement}
 use Rattle.reading.proofs.state.State.with_row.Tie as tie
-use Rattle.reading.proofs.state.State.with_row.Reads as reads
-use Rattle.reading.proofs.state.State.with_row.Lts as lts
 
 add-next : tie.Need-add-next
 add-next c = search needs
 
 returns : tie.Need-returns
 unfolding add
-returns c = (refl, fit-row (c .pre .0) (c .pre .1))
+returns c = (refl, fit-row (c .before .pre .0) (c .before .pre .1))
 
 pub with-row-spec : {M : Type 1} → statement M
 with-row-spec = tie.close (tie.spec add-next returns)

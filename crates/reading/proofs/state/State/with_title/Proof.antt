@@ -2,12 +2,8 @@
 use mathlib.Core.Path.{refl}
 use Rattle.rules.specs.Judge.{add}
 use Rattle.reading.proofs.Fits.{fit-title}
-use borrow.Author.Needs.{needs}
-use native.Mathlib.Omega.{arith}
 use Rattle.reading.proofs.state.State.with_title.Statement.{statement}
 use Rattle.reading.proofs.state.State.with_title.Tie as tie
-use Rattle.reading.proofs.state.State.with_title.Reads as reads
-use Rattle.reading.proofs.state.State.with_title.Lts as lts
 
 returns : tie.Need-returns
 unfolding add

@@ -2,12 +2,8 @@
 use mathlib.Core.Path.{refl}
 use Rattle.rules.specs.Judge.{add}
 use Rattle.reading.proofs.Fits.{fit-upper}
-use borrow.Author.Needs.{needs}
-use native.Mathlib.Omega.{arith}
 use Rattle.reading.proofs.state.State.with_upper.Statement.{statement}
 use Rattle.reading.proofs.state.State.with_upper.Tie as tie
-use Rattle.reading.proofs.state.State.with_upper.Reads as reads
-use Rattle.reading.proofs.state.State.with_upper.Lts as lts
 
 returns : tie.Need-returns
 unfolding add
