@@ -1,19 +1,16 @@
 -- What the reader's state keeps, kept by each thing that it takes in.
-use Prim.Native.Nat.{ℕ, _+_}
-use mathlib.Core.Path.{_≡_, refl, sym, ap, subst, _∙_}
-use mathlib.Core.Bool.{Bool, true, false, cond, true≢false}
-use mathlib.Core.Option.{none}
+use Prim.Native.Nat.{_+_}
+use mathlib.Core.Path.{_≡_, refl, sym, subst}
+use mathlib.Core.Bool.{Bool, true, false, true≢false}
 use native.Mathlib.Omega.{arith}
-use borrow.Author.Tests.{le-leb, eqb-false}
-use lib.Dec.{eqb}
-use Rattle.rules.specs.Units.{inRange, rowsOf}
-use Rattle.rules.specs.Descriptions.{lowest, highest, noTitle, description, rows, everyColour, boundsFit}
-use Rattle.rules.specs.Judge.{orElse, noSize, describe, given, need, domainFault, headFault}
+use Rattle.rules.specs.Units.{inRange}
+use Rattle.rules.specs.Descriptions.{lowest, highest, noTitle, description, everyColour, boundsFit}
+use Rattle.rules.specs.Judge.{orElse, noSize, describe, given}
 use Rattle.rules.specs.declared.Bounds.{Bounds}
-use Rattle.rules.specs.declared.Refusal.the-variants.{NoSize}
 use Rattle.rules.specs.declared.Size.{Size}
 use Rattle.rules.specs.declared.Title.{Title}
-use Rattle.rules.proofs.Tests.{both-and, need-none}
+use Rattle.rules.proofs.Tests.{both-and}
+use Rattle.rules.proofs.Judged.{within-bounds}
 use Rattle.reading.specs.View.{view, marked, BoundsWithin, Fit, RowWelcome}
 use Rattle.reading.specs.declared.state.State.{State}
 
@@ -113,32 +110,12 @@ module _ {st : State} (f : Fit st) where
 
   -- its bounds are within ±10
   pub describe-fits : everyColour boundsFit (description (st .title) (st .lower) (st .upper) (st .size)) ≡ true
-  unfolding boundsFit
   describe-fits =
       let lo = f .lower-within in
       let hi = f .upper-within in
-      both-and _ _ (both-and _ _ (le-leb _ _ (lo .red)) (le-leb _ _ (hi .red)))
-      (both-and _ _ (both-and _ _ (le-leb _ _ (lo .green)) (le-leb _ _ (hi .green))) (both-and _ _ (le-leb _ _ (lo .blue)) (le-leb _ _ (hi .blue))))
+      both-and _ _ (within-bounds _ (lo .red) (hi .red)) (both-and _ _ (within-bounds _ (lo .green) (hi .green)) (within-bounds _ (lo .blue) (hi .blue)))
 
 -- a mark is what the view gives
 pub given-marked : {A : Type 0} (there : Bool) (a : A) → given (marked there a) ≡ there
 given-marked true a = refl
 given-marked false a = refl
-
--- ---- where 9 to 13 found no fault
-
-module _ {st : State} (f : Fit st) where
-  -- there is a size: at the first data line it was asked for, and later rows were counted
-  pub head-sized : (places : ℕ) → headFault places (view st) ≡ none → st .sized ≡ true
-  unfolding headFault
-  head-sized places h = by (eqb (st .rows) 0) refl h
-    where
-      by : (b : Bool) → eqb (st .rows) 0 ≡ b → cond b (need (given (marked (st .sized) (st .size))) NoSize (domainFault places (describe (view st)))) none ≡ none → st .sized ≡ true
-      by true e g = sym (given-marked (st .sized) (st .size)) ∙ need-none _ _ _ g .0
-      by false e g = f .after-size (omega (arith, eqb-false (st .rows) 0 e))
-
-  pub head-in-range : (places : ℕ) → headFault places (view st) ≡ none → inRange (st .size .kind) (st .size .n) ≡ true
-  head-in-range places h = f .size-within (head-sized places h)
-
-  pub rows-described : rows (describe (view st)) ≡ rowsOf (st .size .kind) (st .size .n)
-  rows-described = ap rows (describe-is f)

@@ -20,9 +20,9 @@ use Rattle.rules.proofs.OneLine.{find, found}
 use Rattle.rules.proofs.Order.{formFor}
 use Rattle.rules.proofs.Tests.{need-none, first-none}
 use Rattle.judge.proofs.Rows.{rows-most}
-use Rattle.reading.proofs.Fits.{head-sized, head-in-range, rows-described}
 use Rattle.reading.specs.View.{view, BoundsWithin, Fit, RowWelcome, Welcome}
 use Rattle.reading.specs.declared.state.State.{State}
+use Rattle.reading.proofs.Sized.{head-sized, head-in-range, rows-described}
 
 -- the three numbers of a bounds line are within ±10
 line-within : {k : Keyword} {l : List ℕ} {b : Bounds} → BoundsLine k l b → BoundsWithin b

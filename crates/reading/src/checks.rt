@@ -12,10 +12,11 @@ use rules::Refusal;
 use text::Checked;
 ghost use mathlib.Core.Path.{_≡_};
 ghost use Prim.Native.Nat.{ℕ};
-ghost use mathlib.Core.Bool.{true};
+ghost use mathlib.Core.Bool.{true, cond};
+ghost use lib.Dec.{ltb};
 ghost use Rattle.rules.specs.Units.{inRange};
-ghost use Rattle.rules.specs.Descriptions.{everyColour, boundsFit};
-ghost use Rattle.rules.specs.Judge.{domainFault, headFault, orderFault, endFault};
+ghost use Rattle.rules.specs.Descriptions.{rows, everyColour, boundsFit};
+ghost use Rattle.rules.specs.Judge.{describe, first, domainFault, headFault, orderFault, endFault};
 ghost use Rattle.rules.specs.Reading.{finish};
 ghost use Rattle.rules.specs.declared.Form.the-variants.{Keyed, Data};
 ghost use Rattle.text.specs.Answers.{faultOf};
@@ -70,10 +71,10 @@ fn keyword_fault(st: State, k: Keyword) -> Checked
     Checked::Passed
 }
 
-// A data line: 9 to 13, 14.
-fn data_fault(st: State, places: usize) -> Checked
+// 9 to 13, where there was no data line yet; then one answer where rows are left to come, and another where none are.
+fn by_rows(st: State, places: usize, left: Checked, full: Checked) -> Checked
     requires { ⌜ Fit st ⌝ }
-    ensures { λ r. ⌜ faultOf r ≡ orderFault places (view st) Data ⌝ }
+    ensures { λ r. ⌜ faultOf r ≡ first (headFault places (view st)) (cond (ltb (st .rows) (rows (describe (view st)))) (faultOf left) (faultOf full)) ⌝ }
 {
     if let Checked::Refused(reason) = head_fault(st, places) {
         return Checked::Refused(reason);
@@ -81,9 +82,22 @@ fn data_fault(st: State, places: usize) -> Checked
     let size = st.size;
     let kind = size.kind;
     if st.rows < count_rows(kind, size.n) {
-        return Checked::Passed;
+        return left;
     }
-    Checked::Refused(Refusal::TooManyRows)
+    full
+}
+
+// A data line: 9 to 13, 14.
+fn data_fault(st: State, places: usize) -> Checked
+    requires { ⌜ Fit st ⌝ }
+    ensures { λ r. ⌜ faultOf r ≡ orderFault places (view st) Data ⌝ }
+{
+    by_rows(
+        st,
+        places,
+        Checked::Passed,
+        Checked::Refused(Refusal::TooManyRows),
+    )
 }
 
 // Whether a line of a form may stand here.
@@ -104,15 +118,12 @@ fn end_fault(st: State, places: usize) -> Checked
     requires { ⌜ Fit st ⌝ }
     ensures { λ r. ⌜ faultOf r ≡ endFault places (view st) ⌝ }
 {
-    if let Checked::Refused(reason) = head_fault(st, places) {
-        return Checked::Refused(reason);
-    }
-    let size = st.size;
-    let kind = size.kind;
-    if st.rows < count_rows(kind, size.n) {
-        return Checked::Refused(Refusal::TooFewRows);
-    }
-    Checked::Passed
+    by_rows(
+        st,
+        places,
+        Checked::Refused(Refusal::TooFewRows),
+        Checked::Passed,
+    )
 }
 
 // The answer where the file ends on a line.

@@ -1,8 +1,8 @@
 -- The end's fault with the line, or else what the state describes.
 use mathlib.Core.Path.{sym, ap, _∙_}
-use Rattle.text.specs.Answers.{faultOf}
-use Rattle.rules.specs.declared.Read.the-variants.{Accepted}
 use borrow.Author.Needs.{needs}
+use Rattle.rules.specs.declared.Read.the-variants.{Accepted}
+use Rattle.text.specs.Answers.{faultOf}
 use Rattle.reading.proofs.checks.conclude.Statement.{statement}
 use Rattle.reading.proofs.checks.conclude.Tie as tie
 

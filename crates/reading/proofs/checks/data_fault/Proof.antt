@@ -1,63 +1,27 @@
--- 9 to 13, and then whether there is room for one row more; what passed 9 to 13 has a size in range.
-use mathlib.Core.Path.{_≡_, sym, ap, _∙_}
-use mathlib.Core.Option.{none}
-use borrow.Author.Tests.{lt-ltb, le-ltb}
-use Rattle.rules.specs.Descriptions.{rows}
-use Rattle.rules.specs.Judge.{headFault, orderFault, describe, first, need}
-use Rattle.text.specs.Answers.{faultOf}
-use Rattle.reading.specs.View.{view}
-use Rattle.reading.proofs.Fits.{head-in-range, rows-described}
+-- One row more where rows are left to come, and else 14.
+use mathlib.Core.Path.{_≡_, refl, ap, _∙_}
+use mathlib.Core.Bool.{Bool, true, false, cond}
+use mathlib.Core.Option.{none, some}
 use borrow.Author.Needs.{needs}
+use Rattle.rules.specs.Judge.{Fault, first, headFault, need, orderFault}
+use Rattle.rules.specs.declared.Refusal.the-variants.{TooManyRows}
+use Rattle.reading.specs.View.{view}
 use Rattle.reading.proofs.checks.data_fault.Statement.{statement}
 use Rattle.reading.proofs.checks.data_fault.Tie as tie
 
-unfaulted : (c : tie.After-enum-told) → headFault (c .before .before .before .args .places) (view (c .before .before .before .args .st)) ≡ none
-unfaulted c = sym (c .before .before .head-fault .ensures) ∙ ap faultOf (c .enum-told .given .1)
+room-needed : (t : Bool) → _≡_ {A = Fault} (cond t none (some TooManyRows)) (need t TooManyRows none)
+unfolding need
+room-needed true = refl
+room-needed false = refl
 
-counted : (c : tie.After-count-rows) → c .count-rows .result ≡ rows (describe (view (c .before .before .before .before .before .args .st)))
-counted c = c .count-rows .ensures ∙ sym (rows-described (c .before .before .before .before .before .pre))
-
-head-fault-requires : tie.Need-head-fault-requires
-head-fault-requires c κs = search needs
-
-enum-known-reason : tie.Need-enum-known-reason
-enum-known-reason c = search needs
+by-rows-requires : tie.Need-by-rows-requires
+by-rows-requires c κs = search needs
 
 returns : tie.Need-returns
-unfolding orderFault first
-returns c = let h = c .before .before .before in rw (sym (h .head-fault .ensures) ∙ ap faultOf (c .before .reason .given .1))
-
-enum-told : tie.Need-enum-told
-enum-told c = search needs
-
-count-rows-requires : tie.Need-count-rows-requires
-count-rows-requires c κs =
-    let told = c .before in
-    let s = told .before .before .before in
-    head-in-range (s .pre) (s .args .places) (unfaulted told)
-
-returns-2 : tie.Need-returns-2
-unfolding orderFault first need
-returns-2 c =
-    let r = c .before .before in
-    let told = r .before .before in
-    rw (unfaulted told, lt-ltb _ _ (rw (counted r) at (c .if1 .taken)))
-
-returns-3 : tie.Need-returns-3
-unfolding orderFault first need
-returns-3 c =
-    let r = c .before .before in
-    let told = r .before .before in
-    rw (unfaulted told, le-ltb _ _ (rw (counted r) at (c .if1 .left)))
+unfolding orderFault
+returns c =
+    let s = c .before in
+    c .by-rows .ensures ∙ ap (first (headFault (s .args .places) (view (s .args .st)))) (room-needed _)
 
 pub data-fault-spec : {M : Type 1} → statement M
-data-fault-spec =
-    tie.close
-    (tie.spec
-    head-fault-requires
-    enum-known-reason
-    returns
-    enum-told
-    count-rows-requires
-    returns-2
-    returns-3)
+data-fault-spec = tie.close (tie.spec by-rows-requires returns)

@@ -1,14 +1,14 @@
 -- The tests stand in the definition's order: what is known at a return is the tests that led there.
+use Prim.Native.Nat.{_≤_}
 use mathlib.Core.Path.{_≡_, sym, _∙_}
 use mathlib.Core.Bool.{true}
-use Prim.Native.Nat.{_≤_}
+use native.Mathlib.Omega.{arith}
 use borrow.Author.Tests.{le-leb, lt-leb, not-true, not-false}
+use borrow.Author.Needs.{needs}
 use Rattle.rules.specs.Descriptions.{everyColour, ordered, narrow, agree, roomy}
 use Rattle.rules.specs.Judge.{domainFault, need}
 use Rattle.rules.specs.declared.Description.{Description}
 use Rattle.judge.proofs.Rows.{rows-most}
-use native.Mathlib.Omega.{arith}
-use borrow.Author.Needs.{needs}
 use Rattle.reading.proofs.checks.domain_fault.Statement.{statement}
 use Rattle.reading.proofs.checks.domain_fault.Tie as tie
 

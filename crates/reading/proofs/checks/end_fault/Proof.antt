@@ -1,63 +1,33 @@
--- 9 to 13, and then whether all rows were there; what passed 9 to 13 has a size in range.
-use mathlib.Core.Path.{_≡_, sym, ap, _∙_}
-use mathlib.Core.Option.{none}
-use borrow.Author.Tests.{lt-leb, le-leb}
-use Rattle.rules.specs.Descriptions.{rows}
-use Rattle.rules.specs.Judge.{headFault, endFault, describe, first, need}
-use Rattle.text.specs.Answers.{faultOf}
-use Rattle.reading.specs.View.{view}
-use Rattle.reading.proofs.Fits.{head-in-range, rows-described}
+-- 18 where rows are left to come; the definition asks the other way round, whether as many are there as the size has.
+use Prim.Native.Nat.{ℕ}
+use mathlib.Core.Path.{_≡_, refl, ap, _∙_}
+use mathlib.Core.Bool.{Bool, true, false, cond}
+use mathlib.Core.Option.{none, some}
 use borrow.Author.Needs.{needs}
+use borrow.Author.Tests.{ltb-true, ltb-false, le-leb, lt-leb}
+use lib.Dec.{ltb, leb}
+use Rattle.rules.specs.Judge.{Fault, endFault, first, headFault, need}
+use Rattle.rules.specs.declared.Refusal.the-variants.{TooFewRows}
+use Rattle.reading.specs.View.{view}
 use Rattle.reading.proofs.checks.end_fault.Statement.{statement}
 use Rattle.reading.proofs.checks.end_fault.Tie as tie
 
-unfaulted : (c : tie.After-enum-told) → headFault (c .before .before .before .args .places) (view (c .before .before .before .args .st)) ≡ none
-unfaulted c = sym (c .before .before .head-fault .ensures) ∙ ap faultOf (c .enum-told .given .1)
+rows-needed : (n count : ℕ) → _≡_ {A = Fault} (cond (ltb n count) (some TooFewRows) none) (need (leb count n) TooFewRows none)
+unfolding need
+rows-needed n count = by (ltb n count) refl
+  where
+    by : (t : Bool) → ltb n count ≡ t → _≡_ {A = Fault} (cond t (some TooFewRows) none) (need (leb count n) TooFewRows none)
+    by true e = rw (lt-leb count n (ltb-true n count e))
+    by false e = rw (le-leb count n (ltb-false n count e))
 
-counted : (c : tie.After-count-rows) → c .count-rows .result ≡ rows (describe (view (c .before .before .before .before .before .args .st)))
-counted c = c .count-rows .ensures ∙ sym (rows-described (c .before .before .before .before .before .pre))
-
-head-fault-requires : tie.Need-head-fault-requires
-head-fault-requires c κs = search needs
-
-enum-known-reason : tie.Need-enum-known-reason
-enum-known-reason c = search needs
+by-rows-requires : tie.Need-by-rows-requires
+by-rows-requires c κs = search needs
 
 returns : tie.Need-returns
-unfolding endFault first
-returns c = let h = c .before .before .before in rw (sym (h .head-fault .ensures) ∙ ap faultOf (c .before .reason .given .1))
-
-enum-told : tie.Need-enum-told
-enum-told c = search needs
-
-count-rows-requires : tie.Need-count-rows-requires
-count-rows-requires c κs =
-    let told = c .before in
-    let s = told .before .before .before in
-    head-in-range (s .pre) (s .args .places) (unfaulted told)
-
-returns-2 : tie.Need-returns-2
-unfolding endFault first need
-returns-2 c =
-    let r = c .before .before in
-    let told = r .before .before in
-    rw (unfaulted told, lt-leb _ _ (rw (counted r) at (c .if1 .taken)))
-
-returns-3 : tie.Need-returns-3
-unfolding endFault first need
-returns-3 c =
-    let r = c .before .before in
-    let told = r .before .before in
-    rw (unfaulted told, le-leb _ _ (rw (counted r) at (c .if1 .left)))
+unfolding endFault
+returns c =
+    let s = c .before in
+    c .by-rows .ensures ∙ ap (first (headFault (s .args .places) (view (s .args .st)))) (rows-needed (s .args .st .rows) _)
 
 pub end-fault-spec : {M : Type 1} → statement M
-end-fault-spec =
-    tie.close
-    (tie.spec
-    head-fault-requires
-    enum-known-reason
-    returns
-    enum-told
-    count-rows-requires
-    returns-2
-    returns-3)
+end-fault-spec = tie.close (tie.spec by-rows-requires returns)

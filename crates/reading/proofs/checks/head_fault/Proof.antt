@@ -2,12 +2,12 @@
 use mathlib.Core.Path.{_≡_, sym, ap, subst, _∙_}
 use mathlib.Core.Bool.{true}
 use borrow.Author.Tests.{eq-eqb, ne-eqb, not-true, not-false}
+use borrow.Author.Needs.{needs}
 use Rattle.rules.specs.Units.{inRange}
 use Rattle.rules.specs.Descriptions.{everyColour, boundsFit}
 use Rattle.rules.specs.Judge.{headFault, domainFault, need}
 use Rattle.rules.specs.declared.Description.{Description}
 use Rattle.reading.proofs.Fits.{describe-is, describe-fits, given-marked}
-use borrow.Author.Needs.{needs}
 use Rattle.reading.proofs.checks.head_fault.Statement.{statement}
 use Rattle.reading.proofs.checks.head_fault.Tie as tie
 
@@ -37,7 +37,9 @@ unfolding headFault need
 returns-3 c =
     let e2 = c .before .before in
     let s = e2 .before .before .before .before in
-    rw (eq-eqb _ 0 (e2 .before .before .if1 .left), given-marked (s .args .st .sized) (s .args .st .size) ∙ not-false _ (e2 .if2 .left)) (c .domain-fault .ensures ∙ ap (domainFault (s .args .places)) (c .before .describe .ensures))
+    let st = s .args .st in
+    rw (eq-eqb _ 0 (e2 .before .before .if1 .left), given-marked (st .sized) (st .size) ∙ not-false _ (e2 .if2 .left))
+    (c .domain-fault .ensures ∙ ap (domainFault (s .args .places)) (c .before .describe .ensures))
 
 pub head-fault-spec : {M : Type 1} → statement M
 head-fault-spec =

@@ -1,8 +1,8 @@
 -- A keyword stands before data, and once: the two tests in the definition's order.
 use mathlib.Core.Path.{sym, _∙_}
 use borrow.Author.Tests.{eq-eqb, ne-eqb}
-use Rattle.rules.specs.Judge.{orderFault, need}
 use borrow.Author.Needs.{needs}
+use Rattle.rules.specs.Judge.{orderFault, need}
 use Rattle.reading.proofs.checks.keyword_fault.Statement.{statement}
 use Rattle.reading.proofs.checks.keyword_fault.Tie as tie
 

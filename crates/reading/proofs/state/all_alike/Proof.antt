@@ -1,7 +1,7 @@
--- A number of 16 bits is the same as an i64.
+-- A number of 16 bits keeps its value as an i64.
+use native.Mathlib.Omega.{arith}
 use mir.Syntax.{w64}
 use mir.ValLaws.{toZ-pos}
-use native.Mathlib.Omega.{arith}
 use borrow.Author.Needs.{needs}
 use Rattle.reading.proofs.state.all_alike.Statement.{statement}
 use Rattle.reading.proofs.state.all_alike.Tie as tie

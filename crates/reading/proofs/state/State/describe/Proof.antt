@@ -1,7 +1,7 @@
 -- The fields are what the rules read from the view.
 use mathlib.Core.Path.{sym, _∙_}
-use Rattle.reading.proofs.Fits.{describe-is}
 use borrow.Author.Needs.{needs}
+use Rattle.reading.proofs.Fits.{describe-is}
 use Rattle.reading.proofs.state.State.describe.Statement.{statement}
 use Rattle.reading.proofs.state.State.describe.Tie as tie
 

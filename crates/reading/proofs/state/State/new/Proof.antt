@@ -1,7 +1,7 @@
 -- Nothing is marked as given, so that the view gives nothing, and what stands in its place are the defaults.
 use mathlib.Core.Path.{refl}
-use Rattle.reading.proofs.Fits.{fit-start}
 use borrow.Author.Needs.{needs}
+use Rattle.reading.proofs.Fits.{fit-start}
 use Rattle.reading.proofs.state.State.new.Statement.{statement}
 use Rattle.reading.proofs.state.State.new.Tie as tie
 

@@ -1,8 +1,8 @@
 -- A keyword's mark is whether the view has something from its line.
 use mathlib.Core.Path.{sym}
+use borrow.Author.Needs.{needs}
 use Rattle.rules.specs.Judge.{repeats}
 use Rattle.reading.proofs.Fits.{given-marked}
-use borrow.Author.Needs.{needs}
 use Rattle.reading.proofs.state.State.repeats.Statement.{statement}
 use Rattle.reading.proofs.state.State.repeats.Tie as tie
 
