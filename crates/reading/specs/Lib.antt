@@ -1,0 +1,2 @@
+-- The reader's own state, tied to the rules'.
+pub mod View

@@ -1,0 +1,3 @@
+// Reading: the bytes of one file to a description and samples, or a refusal with its number and line.
+mod checks;
+mod state;
