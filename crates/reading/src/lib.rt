@@ -1,3 +1,4 @@
 // Reading: the bytes of one file to a description and samples, or a refusal with its number and line.
 mod checks;
+mod lines;
 mod state;
