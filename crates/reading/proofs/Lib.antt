@@ -3,3 +3,4 @@ pub mod Fits
 pub mod Sized
 pub mod Welcomed
 pub mod FirstPass
+pub mod SecondPass
