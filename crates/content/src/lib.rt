@@ -286,7 +286,8 @@ fn after_first_word(l: &[u8]) -> usize
     end
 }
 
-fn lower_bounds(found: BoundsFound) -> Content
+// Bounds as the lower ones.
+fn as_lower(found: BoundsFound) -> Content
     ensures { λ r. ⌜ r ≡ sayBounds found OfLower ⌝ }
 {
     match found {
@@ -295,12 +296,22 @@ fn lower_bounds(found: BoundsFound) -> Content
     }
 }
 
-fn upper_bounds(found: BoundsFound) -> Content
+// Bounds as the upper ones.
+fn as_upper(found: BoundsFound) -> Content
     ensures { λ r. ⌜ r ≡ sayBounds found OfUpper ⌝ }
 {
     match found {
         BoundsFound::AllBounds(b) => Content::Says(Item::OfUpper(b)),
         BoundsFound::NoBounds(r) => Content::Wrong(r),
+    }
+}
+
+fn as_row(found: RowFound) -> Content
+    ensures { λ r. ⌜ r ≡ sayRow found ⌝ }
+{
+    match found {
+        RowFound::ARow(r) => Content::Says(Item::OfRow(r)),
+        RowFound::NoRow(r) => Content::Wrong(r),
     }
 }
 
@@ -310,11 +321,12 @@ fn keyed_content(keyword: Keyword, l: &[u8], place: usize) -> Content
     requires { ⌜ place + length (now l) ≤ 18_446_744_073_709_551_615 ⌝ }
     ensures { λ r. ⌜ r ≡ contentBy (Keyed keyword) place (now (l .entry)) ⌝ }
 {
+    let rest = after_first_word(l);
     match keyword {
         Keyword::ATitle => title_of(l, place),
-        Keyword::ALower => lower_bounds(bounds_on(l, after_first_word(l))),
-        Keyword::AnUpper => upper_bounds(bounds_on(l, after_first_word(l))),
-        Keyword::ASize(kind) => size_on(kind, l, after_first_word(l)),
+        Keyword::ALower => as_lower(bounds_on(l, rest)),
+        Keyword::AnUpper => as_upper(bounds_on(l, rest)),
+        Keyword::ASize(kind) => size_on(kind, l, rest),
     }
 }
 
@@ -327,10 +339,7 @@ pub fn content_by(form: Form, l: &[u8], place: usize) -> Content
     match form {
         Form::Idle => Content::Says(Item::Nothing),
         Form::Keyed(keyword) => keyed_content(keyword, l, place),
-        Form::Data => match row_on(l) {
-            RowFound::ARow(r) => Content::Says(Item::OfRow(r)),
-            RowFound::NoRow(r) => Content::Wrong(r),
-        },
+        Form::Data => as_row(row_on(l)),
         Form::Neither => Content::Wrong(Refusal::NeitherDataNorKeyword),
     }
 }
