@@ -1,13 +1,14 @@
 -- A line that the judge lets pass gives what the state can take in: its numbers are within their limits by its own
 -- property, and a row has room where the checks of a data line found no fault.
-use Prim.Native.Nat.{ℕ}
+use Prim.Native.Nat.{ℕ, _≤_}
 use mathlib.Core.Path.{_≡_, ap, sym, _∙_}
 use mathlib.Core.List.{List}
 use mathlib.Core.Option.{none}
 use native.Mathlib.Omega.{arith}
-use borrow.Author.Tests.{ltb-true}
+use borrow.Author.Tests.{leb-true, ltb-true}
+use lib.ListN.{length}
 use Rattle.rules.specs.Descriptions.{rows}
-use Rattle.rules.specs.Grammar.{BoundsLine, Line}
+use Rattle.rules.specs.Grammar.{lineLimit, BoundsLine, Line}
 use Rattle.rules.specs.Content.{formOf, contentOf}
 use Rattle.rules.specs.Judge.{byteFault, describe, orderFault}
 use Rattle.rules.specs.declared.Bounds.{Bounds}
@@ -39,6 +40,11 @@ row-welcome places {st} f h =
       sized-so = head-sized f places head;
       room = omega (arith, fewer, rows-described f, rows-most (s .kind) (s .n) (head-in-range f places head));
     }
+
+-- a line whose bytes pass is short
+pub short-line : (l : List ℕ) → byteFault l ≡ none → length l ≤ lineLimit
+unfolding byteFault
+short-line l h = leb-true (length l) lineLimit (need-none _ _ _ h .0)
 
 pub welcomed : (places p : ℕ) (l : List ℕ) (i : Item) {st : State} → byteFault l ≡ none → orderFault places (view st) (formOf l) ≡ none → contentOf p l ≡ Says i → Fit st
     → Welcome st i
