@@ -1,12 +1,11 @@
 -- The loop of the first pass in the rules' terms: reading the file is reading the lines from the cursor on, in the state so far.
 -- How that begins, goes on past a line, stops on one, and ends.
 use Prim.Native.Nat.{ℕ, suc, _+_, _-_}
-use mathlib.Core.Path.{_≡_, sym, ap, _∙_}
+use mathlib.Core.Path.{_≡_, sym, ap, subst, _∙_}
 use mathlib.Core.List.{List}
 use lib.ListN.{length, drop, take}
-use Rattle.rules.specs.Judge.{start, endFault, go, refuse, judge}
+use Rattle.rules.specs.Judge.{start, endFault, judge}
 use Rattle.rules.specs.Judge.{State as Given}
-use Rattle.rules.specs.Judge.{Judged as Verdict}
 use Rattle.rules.specs.Reading.{finish, onward, readLines, read}
 use Rattle.rules.specs.declared.Refusal.{Refusal}
 use Rattle.rules.specs.declared.Read.{Read}
@@ -15,6 +14,9 @@ use Rattle.text.specs.LinesFrom.{linesFrom}
 use Rattle.text.specs.declared.cursor.Cursor.{Cursor}
 use Rattle.text.proofs.Standing.{Standing, passed, Beginning, LineFound, EndFound, step-first}
 use Rattle.reading.specs.View.{view, Fit}
+use Rattle.reading.specs.Verdicts.{judgedOf, FitJudged, stopped}
+use Rattle.reading.specs.declared.lines.Judged.{Judged}
+use Rattle.reading.specs.declared.lines.Judged.the-variants.{Go, Refuse}
 use Rattle.reading.specs.declared.state.State.{State}
 
 -- what the lines from the cursor on decide, in this state, is what the file decides
@@ -45,15 +47,18 @@ module _ {file : List ℕ} {places : ℕ} {st : State} {c : Cursor} (here : Onwa
         ∙ ap (readLines places (c .at) (passed file c) (view st)) (f .lines)
         ∙ sym (ap (λ (p : ℕ). onward (λ st′. readLines places (p + length text + 1) (suc (passed file c)) st′ (linesFrom file (next .at))) (suc (passed file c)) (judge places (view st) p text)) (f .here))
 
-    pub goes-on : (st′ : State) → Fit st′ → judge places (view st) from text ≡ go (view st′) → Onward file places st′ next
-    goes-on st′ k g = record {
+    pub goes-on : (j : Judged) (st′ : State) → j ≡ Go st′ → judgedOf j ≡ judge places (view st) from text → FitJudged j → Onward file places st′ next
+    goes-on j st′ e says k = record {
       standing = f .next-standing;
-      fit = k;
-      same = turns ∙ ap (onward rest (suc (passed file c))) g ∙ sym (λ i. readLines places (f .place i) (f .next-passed i) (view st′) (linesFrom file (next .at)));
+      fit = subst FitJudged e k;
+      same = turns ∙ ap (onward rest (suc (passed file c))) (sym says ∙ ap judgedOf e) ∙ sym (λ i. readLines places (f .place i) (f .next-passed i) (view st′) (linesFrom file (next .at)));
     }
 
-    pub stops : (r : Refusal) → judge places (view st) from text ≡ refuse r → Refused r line ≡ read file places
-    stops r g = ap (Refused r) (f .number) ∙ sym (turns ∙ ap (onward rest (suc (passed file c))) g)
+    pub stops : (j : Judged) (r : Refusal) → j ≡ Refuse r → judgedOf j ≡ judge places (view st) from text → stopped places line (judgedOf j) ≡ read file places
+    stops j r e says =
+        ap (λ (v : Judged). stopped places line (judgedOf v)) e
+        ∙ ap (Refused r) (f .number)
+        ∙ sym (turns ∙ ap (onward rest (suc (passed file c))) (sym says ∙ ap judgedOf e))
 
   pub ends : EndFound file c → finish (c .line) (view st) (endFault places (view st)) ≡ read file places
   unfolding readLines

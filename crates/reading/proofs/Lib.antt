@@ -3,4 +3,5 @@ pub mod Fits
 pub mod Sized
 pub mod Welcomed
 pub mod FirstPass
+pub mod LineSamples
 pub mod SecondPass

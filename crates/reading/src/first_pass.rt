@@ -1,0 +1,35 @@
+// The first pass: the whole file judged, line by line. Nothing is written.
+use crate::checks::conclude;
+use crate::lines::Judged;
+use crate::lines::judge_line;
+use crate::state::State;
+use rules::Read;
+use text::Cursor;
+use text::Step;
+ghost use mathlib.Core.Path.{_≡_};
+ghost use Rattle.rules.specs.Reading.{read};
+
+// What reading a file into a table of so many places answers.
+pub fn judge_file(file: &[u8], places: usize) -> Read
+    ensures { λ r. ⌜ r ≡ read (now (file .entry)) places ⌝ }
+{
+    let mut st = State::new();
+    let mut c = Cursor::new();
+    loop {
+        let Step::Line {
+            start,
+            end,
+            line,
+            next,
+        } = c.next_line(file)
+        else {
+            return conclude(st, c.line, places);
+        };
+        let judged = judge_line(st, &file[start..end], start, places);
+        let Judged::Go(after) = judged else {
+            return judged.answer(line, places);
+        };
+        st = after;
+        c = next;
+    }
+}

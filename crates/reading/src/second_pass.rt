@@ -1,0 +1,59 @@
+// The second pass: the samples of an accepted file into the table. Nothing is refused here any more.
+use content::RowFound;
+use content::row_on;
+use rules::Form;
+use text::Cursor;
+use text::Step;
+use text::form_of;
+ghost use mathlib.Core.Path.{_≡_};
+ghost use mathlib.Core.List.{_++_};
+ghost use Prim.Native.Nat.{_+_, _≤_};
+ghost use lib.ListN.{length, drop};
+ghost use Rattle.rules.specs.Lines.{linesOf};
+ghost use Rattle.rules.specs.Content.{contentOf};
+ghost use Rattle.rules.specs.Reading.{samplesIn, samplesOf};
+ghost use Rattle.reading.specs.Tables.{LineKeeps, Accepts, written};
+
+// The samples of a line from a place on; the place past them.
+fn put_line(l: &[u8], table: &mut [i64], at: usize) -> usize
+    requires { ⌜ LineKeeps (now l) ⌝ }
+    requires { ⌜ at + length (samplesIn (contentOf 0 (now l))) ≤ length (now table) ⌝ }
+    ensures next { λ r. ⌜ r ≡ at + length (samplesIn (contentOf 0 (now (l .entry)))) ⌝ }
+    ensures puts { λ r. ⌜ now (table .exit) ≡ written (now (table .entry)) at (samplesIn (contentOf 0 (now (l .entry)))) ⌝ }
+{
+    let Form::Data = form_of(l) else {
+        return at;
+    };
+    let RowFound::ARow(row) = row_on(l) else {
+        return at;
+    };
+    let red = row.red.0;
+    let green = row.green.0;
+    let blue = row.blue.0;
+    table[at] = red;
+    table[at + 1] = green;
+    table[at + 2] = blue;
+    at + 3
+}
+
+// The samples of a file from the table's start on.
+pub fn fill(file: &[u8], table: &mut [i64])
+    requires { ⌜ Accepts (now file) (length (now table)) ⌝ }
+    ensures { λ _. ⌜ now (table .exit) ≡ samplesOf (linesOf (now (file .entry))) ++ drop (length (samplesOf (linesOf (now (file .entry))))) (now (table .entry)) ⌝ }
+{
+    let mut c = Cursor::new();
+    let mut at = 0;
+    loop {
+        let Step::Line {
+            start,
+            end,
+            line: _,
+            next,
+        } = c.next_line(file)
+        else {
+            return;
+        };
+        at = put_line(&file[start..end], &mut *table, at);
+        c = next;
+    }
+}
