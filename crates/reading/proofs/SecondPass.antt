@@ -108,8 +108,8 @@ module _ {file : List ℕ} {old table : List ℤ} {c : Cursor} {at : ℕ} (f : F
         ∙ ap (drop (length values)) (ap (drop at) (f .so-far) ∙ drop-at (take at samples) (drop at old) at head-length)
         ∙ drop-drop (length values) at old
 
-    pub goes-on : (table′ : List ℤ) → table′ ≡ written table at values → Filled file old table′ next (at + length values)
-    goes-on table′ e = record {
+    moves-on : (table′ : List ℤ) → table′ ≡ written table at values → Filled file old table′ next (at + length values)
+    moves-on table′ e = record {
       standing = found .next-standing;
       each = subst EachKeeps (found .lines) (f .each) .1;
       within = within;
@@ -117,6 +117,9 @@ module _ {file : List ℕ} {old table : List ℤ} {c : Cursor} {at : ℕ} (f : F
       so-far = e ∙ rw (front, back, take-add at (length values) samples, parted, take-append-seam values later, append-assoc);
       to-come = sym (drop-drop (length values) at samples) ∙ ap (drop (length values)) parted ∙ drop-at values later (length values) refl;
     }
+
+    pub goes-on : (table′ : List ℤ) (at′ : ℕ) → at′ ≡ at + length values → table′ ≡ written table at values → Filled file old table′ next at′
+    goes-on table′ at′ n e = subst (Filled file old table′ next) (sym n) (moves-on table′ e)
 
   pub ends : EndFound file c → table ≡ samples ++ drop (length samples) old
   unfolding samplesOf

@@ -4,3 +4,20 @@ mod first_pass;
 mod lines;
 mod second_pass;
 mod state;
+
+use first_pass::judge_file;
+use rules::Read;
+use second_pass::fill;
+ghost use Rattle.rules.specs.Promises.{Reads};
+
+// The samples are written only once the whole file is accepted: a refusal leaves the table as it was.
+pub fn read(file: &[u8], table: &mut [i64]) -> Read
+    ensures { λ r. ⌜ Reads (now (file .entry)) (now (table .entry)) r (now (table .exit)) ⌝ }
+{
+    let answer = judge_file(file, table.len());
+    let Read::Accepted(_) = answer else {
+        return answer;
+    };
+    fill(file, &mut *table);
+    answer
+}
