@@ -1,6 +1,6 @@
 -- The digits before the unit's point are the quotient of the exact value, those behind it the rest, and both may be kept at limit + 1.
 use Prim.Native.Nat.{ℕ, zero, suc, _+_, _-_, _*_, _/_, _%_, _^_, _≤_, _<_, min}
-use mathlib.Core.Path.{_≡_, refl, sym, ap, _∙_}
+use mathlib.Core.Path.{_≡_, sym, ap, _∙_}
 use mathlib.Core.Bool.{Bool, true, false, cond}
 use mathlib.Core.List.{List, [], _∷_, _++_}
 use native.Mathlib.Nat.{add-mul, add-zero, div-eq-of-lt, mod-eq-of-lt, mul-add-div-right, mul-add-mod-self-right, mul-assoc, mul-le-mul-right, mul-lt-mul-of-pos-right, mul-one, mul-pos, one-mul, pow-le-pow-right, zero-mul}
