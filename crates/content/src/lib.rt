@@ -104,25 +104,25 @@ pub fn three_numbers(l: &[u8], from: usize, places: usize, limit: u64) -> ThreeF
 // ---- their values
 
 // Three values in the units that were asked for, or why there are none.
-pub enum Values {
+enum Values {
     All(Triple),
     Fault(Refusal),
 }
 
-pub struct Triple {
-    pub x: i64,
-    pub y: i64,
-    pub z: i64,
+struct Triple {
+    x: i64,
+    y: i64,
+    z: i64,
 }
 
 // Why a number is refused: for its form, beyond the limit, or no multiple of the unit.
-pub struct Complaints {
-    pub unformed: Refusal,
-    pub beyond: Refusal,
-    pub finer: Refusal,
+struct Complaints {
+    unformed: Refusal,
+    beyond: Refusal,
+    finer: Refusal,
 }
 
-// Why a number that has no value is refused.
+// Why a number that has no value is refused; of one that has, nothing is asked.
 fn complaint(n: Number, complaints: Complaints) -> Refusal
     ensures { λ r. ⌜ r ≡ complaintOf complaints n ⌝ }
 {
@@ -306,6 +306,7 @@ fn as_upper(found: BoundsFound) -> Content
     }
 }
 
+// A row.
 fn as_row(found: RowFound) -> Content
     ensures { λ r. ⌜ r ≡ sayRow found ⌝ }
 {
@@ -317,8 +318,7 @@ fn as_row(found: RowFound) -> Content
 
 // What a keyword's line says; it begins at a place of the file.
 fn keyed_content(keyword: Keyword, l: &[u8], place: usize) -> Content
-    requires { ⌜ length (now l) ≤ lineLimit ⌝ }
-    requires { ⌜ place + length (now l) ≤ 18_446_744_073_709_551_615 ⌝ }
+    requires { ⌜ (length (now l) ≤ lineLimit) × (place + length (now l) ≤ 18_446_744_073_709_551_615) ⌝ }
     ensures { λ r. ⌜ r ≡ contentBy (Keyed keyword) place (now (l .entry)) ⌝ }
 {
     let rest = after_first_word(l);
@@ -332,8 +332,7 @@ fn keyed_content(keyword: Keyword, l: &[u8], place: usize) -> Content
 
 // What a line says by itself, by its form; it begins at a place of the file.
 pub fn content_by(form: Form, l: &[u8], place: usize) -> Content
-    requires { ⌜ length (now l) ≤ lineLimit ⌝ }
-    requires { ⌜ place + length (now l) ≤ 18_446_744_073_709_551_615 ⌝ }
+    requires { ⌜ (length (now l) ≤ lineLimit) × (place + length (now l) ≤ 18_446_744_073_709_551_615) ⌝ }
     ensures { λ r. ⌜ r ≡ contentBy form place (now (l .entry)) ⌝ }
 {
     match form {

@@ -2,17 +2,13 @@
 use denote.Ref.{now}
 use Prim.Native.Nat.{ℕ}
 use mathlib.Core.List.{List}
-use mathlib.Core.Path.{sym, ap, _∙_}
+use mathlib.Core.Path.{sym, _∙_}
 use native.Mathlib.Omega.{arith}
 use borrow.Author.Needs.{needs}
 use Rattle.rules.specs.Content.{sizeOf}
 use Rattle.text.proofs.WordsFrom.{WordFound, words-next, words-none}
 use Rattle.content.proofs.size_on.Statement.{statement}
 use Rattle.content.proofs.size_on.Tie as tie
-use Rattle.content.proofs.size_on.Reads as reads
-use Rattle.content.proofs.size_on.Lts as lts
-use Rattle.content.proofs.size_in.Reads as size-in-reads
-use Rattle.text.proofs.next_word.Reads as next-word-reads
 
 -- the line, and the word found in it
 abbrev line : tie.After-start → List ℕ

@@ -11,11 +11,6 @@ use Rattle.text.proofs.WordsFrom.{WordFound, words-next, words-none}
 use Rattle.content.proofs.ThreeWords.{more-words, no-word, one-word, three-words, two-words}
 use Rattle.content.proofs.three_numbers.Statement.{statement}
 use Rattle.content.proofs.three_numbers.Tie as tie
-use Rattle.content.proofs.three_numbers.Reads as reads
-use Rattle.content.proofs.three_numbers.Lts as lts
-use Rattle.content.proofs.three_formed.Reads as three-formed-reads
-use Rattle.numbers.proofs.number_of.Reads as number-of-reads
-use Rattle.text.proofs.next_word.Reads as next-word-reads
 
 -- the line, and the words found in it
 abbrev line : tie.After-a → List ℕ
@@ -144,8 +139,7 @@ returns-5 c =
     let w = end .before .before .before .before in
     let v = w .before .before .before .before in
     let n = words-none _ _ (sym (end .before .before .next-word4 .ensures) ∙ end .enum-told4 .given .1) in
-    c .three-formed .ensures
-    ∙ sym (three-words _ _ (first (v .before .before .before .before)) (second v) (third w) n _ _ _ (x .number-of .ensures) (y .number-of2 .ensures) (z .number-of3 .ensures))
+    sym (three-words _ _ (first (v .before .before .before .before)) (second v) (third w) n _ _ _ (x .number-of .ensures) (y .number-of2 .ensures) (z .number-of3 .ensures) _ (c .three-formed .ensures))
 
 pub three-numbers-spec : {M : Type 1} → statement M
 three-numbers-spec =
