@@ -23,7 +23,7 @@ use Rattle.content.specs.declared.Complaints.{Complaints}
 use Rattle.content.specs.declared.ThreeFound.{ThreeFound}
 use Rattle.content.specs.declared.ThreeFound.the-variants.{Found}
 
--- a number of any variant but the first
+-- a number that is no value, as the code's branch knows it: of any variant but the first
 abbrev pub Valueless : Number → Type 0
 Valueless n = OneOf (1 ∷ 2 ∷ 3 ∷ []) (tagOf the-type n)
 

@@ -134,7 +134,7 @@ fn complaint(n: Number, complaints: Complaints) -> Refusal
     }
 }
 
-// The values of three numbers, left to right.
+// The values of three numbers: the form of all three comes first, then each in turn, left to right.
 fn values_of(three: ThreeFound, complaints: Complaints) -> Values
     ensures { λ r. ⌜ ((next : ℤ → ℤ → ℤ → Content) → sayValues r next ≡ values (complaints .unformed) (complaints .beyond) (complaints .finer) (foundThree three) next) ⌝ }
 {
@@ -169,11 +169,13 @@ const SAMPLE_PLACES: usize = 7;
 
 const SAMPLE_LIMIT: u64 = 10_000_000_000;
 
+// Three bounds, or why there are none.
 pub enum BoundsFound {
     AllBounds(Bounds),
     NoBounds(Refusal),
 }
 
+// A row, or why there is none.
 pub enum RowFound {
     ARow(Row),
     NoRow(Refusal),
@@ -239,7 +241,7 @@ fn greatest_n(kind: Kind) -> u64
     }
 }
 
-// The size that a word gives: digits alone, in range.
+// The size that a word gives: digits alone, in range. Digits of any length are kept at one past the greatest N, which is as far out of range as they are.
 fn size_in(kind: Kind, w: &[u8]) -> Content
     ensures { λ r. ⌜ r ≡ sizeOf kind (now (w .entry) ∷ []) ⌝ }
 {
@@ -286,7 +288,7 @@ fn after_first_word(l: &[u8]) -> usize
     end
 }
 
-// Bounds as the lower ones.
+// What bounds say as the lower ones.
 fn as_lower(found: BoundsFound) -> Content
     ensures { λ r. ⌜ r ≡ sayBounds found OfLower ⌝ }
 {
@@ -296,7 +298,7 @@ fn as_lower(found: BoundsFound) -> Content
     }
 }
 
-// Bounds as the upper ones.
+// What bounds say as the upper ones.
 fn as_upper(found: BoundsFound) -> Content
     ensures { λ r. ⌜ r ≡ sayBounds found OfUpper ⌝ }
 {
@@ -306,7 +308,7 @@ fn as_upper(found: BoundsFound) -> Content
     }
 }
 
-// A row.
+// What a row says.
 fn as_row(found: RowFound) -> Content
     ensures { λ r. ⌜ r ≡ sayRow found ⌝ }
 {
