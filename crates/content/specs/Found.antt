@@ -1,0 +1,48 @@
+-- What the answers say in the rules' terms.
+use mathlib.Core.Option.{Option, none, some}
+use lib.IntN.{ℤ}
+use Rattle.rules.specs.declared.Bounds.{Bounds}
+use Rattle.rules.specs.declared.Content.{Content}
+use Rattle.rules.specs.declared.Content.the-variants.{Says, Wrong}
+use Rattle.rules.specs.declared.Item.{Item}
+use Rattle.rules.specs.declared.Item.the-variants.{OfRow}
+use Rattle.rules.specs.declared.Number.{Number}
+use Rattle.rules.specs.declared.Number.the-variants.{Value, Malformed, Beyond, Finer}
+use Rattle.rules.specs.declared.Refusal.{Refusal}
+use Rattle.rules.specs.declared.Three.{Three}
+use Rattle.content.specs.declared.BoundsFound.{BoundsFound}
+use Rattle.content.specs.declared.BoundsFound.the-variants.{AllBounds, NoBounds}
+use Rattle.content.specs.declared.Complaints.{Complaints}
+use Rattle.content.specs.declared.RowFound.{RowFound}
+use Rattle.content.specs.declared.RowFound.the-variants.{ARow, NoRow}
+use Rattle.content.specs.declared.ThreeFound.{ThreeFound}
+use Rattle.content.specs.declared.ThreeFound.the-variants.{Found, NotThree}
+use Rattle.content.specs.declared.Values.{Values}
+use Rattle.content.specs.declared.Values.the-variants.{All, Fault}
+
+-- three numbers, or none
+abbrev pub foundThree : ThreeFound → Option Three
+foundThree (Found t) = some t
+foundThree NotThree = none
+
+-- why a number that has no value is refused
+abbrev pub complaintOf : Complaints → Number → Refusal
+complaintOf c (Value v) = c .unformed
+complaintOf c Malformed = c .unformed
+complaintOf c Beyond = c .beyond
+complaintOf c Finer = c .finer
+
+-- what three values say, or their refusal
+abbrev pub sayValues : Values → (ℤ → ℤ → ℤ → Content) → Content
+sayValues (All t) next = next (t .x) (t .y) (t .z)
+sayValues (Fault r) next = Wrong r
+
+-- what three bounds say, as the lower or the upper ones, or their refusal
+abbrev pub sayBounds : BoundsFound → (Bounds → Item) → Content
+sayBounds (AllBounds b) side = Says (side b)
+sayBounds (NoBounds r) side = Wrong r
+
+-- what a row says, or its refusal
+abbrev pub sayRow : RowFound → Content
+sayRow (ARow r) = Says (OfRow r)
+sayRow (NoRow r) = Wrong r

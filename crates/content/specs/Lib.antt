@@ -1,0 +1,2 @@
+-- What the answers say in the rules' terms.
+pub mod Found

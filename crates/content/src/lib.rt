@@ -1,0 +1,346 @@
+// What a line says by itself, whatever stands before it: three numbers, a size, a title, by the line's form.
+use numbers::is_digits;
+use numbers::number_of;
+use numbers::spelt;
+use rules::Bounds;
+use rules::Content;
+use rules::Form;
+use rules::Item;
+use rules::Keyword;
+use rules::Kind;
+use rules::Number;
+use rules::Refusal;
+use rules::Row;
+use rules::Size;
+use rules::TenMillionths;
+use rules::Thousandths;
+use rules::Three;
+use text::Word;
+use text::next_word;
+use text::title_of;
+ghost use mathlib.Core.Path.{_≡_};
+ghost use mathlib.Core.Bool.{cond, _&&_};
+ghost use mathlib.Core.List.{[], _∷_};
+ghost use mathlib.Core.Option.{none, some};
+ghost use Prim.Native.Nat.{_+_, _≤_};
+ghost use lib.IntN.{ℤ};
+ghost use lib.ListN.{length, drop};
+ghost use Rattle.numbers.specs.Cuts.{mostLimit, mostPlaces};
+ghost use Rattle.rules.specs.Units.{greatestN};
+ghost use Rattle.rules.specs.Grammar.{lineLimit};
+ghost use Rattle.rules.specs.Lines.{wordsOf};
+ghost use Rattle.rules.specs.Content.{formed, threeOf, values, boundsOf, samplesOn, sizeOf, parameters, contentBy};
+ghost use Rattle.rules.specs.declared.Bounds.{Bounds};
+ghost use Rattle.rules.specs.declared.Content.{Content};
+ghost use Rattle.rules.specs.declared.Form.the-variants.{Keyed};
+ghost use Rattle.rules.specs.declared.Item.{Item};
+ghost use Rattle.rules.specs.declared.Item.the-variants.{OfLower, OfUpper};
+ghost use Rattle.content.specs.Found.{complaintOf, foundThree, sayValues, sayBounds, sayRow};
+
+// ---- three numbers
+
+// Three words that are numbers, or not.
+pub enum ThreeFound {
+    Found(Three),
+    NotThree,
+}
+
+// Whether a word has the form of a number.
+fn is_formed(n: Number) -> bool
+    ensures { λ r. ⌜ r ≡ formed n ⌝ }
+{
+    match n {
+        Number::Value(_) => true,
+        Number::Malformed => false,
+        Number::Beyond => true,
+        Number::Finer => true,
+    }
+}
+
+// Three numbers, where each has the form of one.
+fn three_formed(first: Number, second: Number, third: Number) -> ThreeFound
+    ensures { λ r. ⌜ foundThree r ≡ cond (formed first && (formed second && formed third)) (some (record { first = first; second = second; third = third })) none ⌝ }
+{
+    if !is_formed(first) {
+        return ThreeFound::NotThree;
+    }
+    if !is_formed(second) {
+        return ThreeFound::NotThree;
+    }
+    if !is_formed(third) {
+        return ThreeFound::NotThree;
+    }
+    ThreeFound::Found(Three {
+        first,
+        second,
+        third,
+    })
+}
+
+// Three words from a place on, each a number, and no word more.
+pub fn three_numbers(l: &[u8], from: usize, places: usize, limit: u64) -> ThreeFound
+    requires { ⌜ (length (now l) ≤ lineLimit) × (from ≤ length (now l)) ⌝ }
+    requires { ⌜ (places ≤ mostPlaces) × (limit ≤ mostLimit) ⌝ }
+    ensures { λ r. ⌜ foundThree r ≡ threeOf places limit (wordsOf (drop from (now (l .entry)))) ⌝ }
+{
+    let Word::At { start: a, end: b } = next_word(l, from) else {
+        return ThreeFound::NotThree;
+    };
+    let Word::At { start: c, end: d } = next_word(l, b) else {
+        return ThreeFound::NotThree;
+    };
+    let Word::At { start: e, end: f } = next_word(l, d) else {
+        return ThreeFound::NotThree;
+    };
+    let Word::Nothing = next_word(l, f) else {
+        return ThreeFound::NotThree;
+    };
+    let first = number_of(&l[a..b], places, limit);
+    let second = number_of(&l[c..d], places, limit);
+    let third = number_of(&l[e..f], places, limit);
+    three_formed(first, second, third)
+}
+
+// ---- their values
+
+// Three values in the units that were asked for, or why there are none.
+enum Values {
+    All(Triple),
+    Fault(Refusal),
+}
+
+struct Triple {
+    x: i64,
+    y: i64,
+    z: i64,
+}
+
+// Why a number is refused: for its form, beyond the limit, or no multiple of the unit.
+struct Complaints {
+    unformed: Refusal,
+    beyond: Refusal,
+    finer: Refusal,
+}
+
+// Why a number that has no value is refused; of one that has, nothing is asked.
+fn complaint(n: Number, complaints: Complaints) -> Refusal
+    ensures { λ r. ⌜ r ≡ complaintOf complaints n ⌝ }
+{
+    match n {
+        Number::Value(_) => complaints.unformed,
+        Number::Malformed => complaints.unformed,
+        Number::Beyond => complaints.beyond,
+        Number::Finer => complaints.finer,
+    }
+}
+
+// The values of three numbers: the form of all three comes first, then each in turn, left to right.
+fn values_of(three: ThreeFound, complaints: Complaints) -> Values
+    ensures { λ r. ⌜ ((next : ℤ → ℤ → ℤ → Content) → sayValues r next ≡ values (complaints .unformed) (complaints .beyond) (complaints .finer) (foundThree three) next) ⌝ }
+{
+    let unformed = complaints.unformed;
+    let ThreeFound::Found(t) = three else {
+        return Values::Fault(unformed);
+    };
+    let first = t.first;
+    let second = t.second;
+    let third = t.third;
+    let Number::Value(x) = first else {
+        return Values::Fault(complaint(first, complaints));
+    };
+    let Number::Value(y) = second else {
+        return Values::Fault(complaint(second, complaints));
+    };
+    let Number::Value(z) = third else {
+        return Values::Fault(complaint(third, complaints));
+    };
+    Values::All(Triple { x, y, z })
+}
+
+// ---- bounds and samples
+
+// Domain bounds are kept in thousandths and lie from -10 to 10.
+const BOUND_PLACES: usize = 3;
+
+const BOUND_LIMIT: u64 = 10_000;
+
+// Samples are kept in ten-millionths and lie from -1000 to 1000.
+const SAMPLE_PLACES: usize = 7;
+
+const SAMPLE_LIMIT: u64 = 10_000_000_000;
+
+// Three bounds, or why there are none.
+pub enum BoundsFound {
+    AllBounds(Bounds),
+    NoBounds(Refusal),
+}
+
+// A row, or why there is none.
+pub enum RowFound {
+    ARow(Row),
+    NoRow(Refusal),
+}
+
+// The three bounds that stand from a place on.
+pub fn bounds_on(l: &[u8], from: usize) -> BoundsFound
+    requires { ⌜ (length (now l) ≤ lineLimit) × (from ≤ length (now l)) ⌝ }
+    ensures { λ r. ⌜ ((side : Bounds → Item) → sayBounds r side ≡ boundsOf side (wordsOf (drop from (now (l .entry))))) ⌝ }
+{
+    let three = three_numbers(l, from, BOUND_PLACES, BOUND_LIMIT);
+    let complaints = Complaints {
+        unformed: Refusal::ParametersWrong,
+        beyond: Refusal::DomainNumberWrong,
+        finer: Refusal::DomainNumberWrong,
+    };
+    match values_of(three, complaints) {
+        Values::All(t) => BoundsFound::AllBounds(Bounds {
+            red: Thousandths(t.x),
+            green: Thousandths(t.y),
+            blue: Thousandths(t.z),
+        }),
+        Values::Fault(r) => BoundsFound::NoBounds(r),
+    }
+}
+
+// The row of a data line.
+pub fn row_on(l: &[u8]) -> RowFound
+    requires { ⌜ length (now l) ≤ lineLimit ⌝ }
+    ensures { λ r. ⌜ sayRow r ≡ samplesOn (wordsOf (now (l .entry))) ⌝ }
+{
+    let three = three_numbers(l, 0, SAMPLE_PLACES, SAMPLE_LIMIT);
+    let complaints = Complaints {
+        unformed: Refusal::NotThreeNumbers,
+        beyond: Refusal::SampleBeyond,
+        finer: Refusal::SampleTooFine,
+    };
+    match values_of(three, complaints) {
+        Values::All(t) => RowFound::ARow(Row {
+            red: TenMillionths(t.x),
+            green: TenMillionths(t.y),
+            blue: TenMillionths(t.z),
+        }),
+        Values::Fault(r) => RowFound::NoRow(r),
+    }
+}
+
+// ---- a size
+
+// N is from 2 to 65536 in 1D, to 256 in 3D.
+const LEAST_N: u64 = 2;
+
+const GREATEST_N_1D: u64 = 65536;
+
+const GREATEST_N_3D: u64 = 256;
+
+fn greatest_n(kind: Kind) -> u64
+    ensures { λ r. ⌜ r ≡ greatestN kind ⌝ }
+{
+    match kind {
+        Kind::OneD => GREATEST_N_1D,
+        Kind::ThreeD => GREATEST_N_3D,
+    }
+}
+
+// The size that a word gives: digits alone, in range. Digits of any length are kept at one past the greatest N, which is as far out of range as they are.
+fn size_in(kind: Kind, w: &[u8]) -> Content
+    ensures { λ r. ⌜ r ≡ sizeOf kind (now (w .entry) ∷ []) ⌝ }
+{
+    if !is_digits(w) {
+        return Content::Wrong(Refusal::ParametersWrong);
+    }
+    let n = spelt(w, 0, GREATEST_N_1D);
+    if n < LEAST_N {
+        return Content::Wrong(Refusal::SizeOutOfRange);
+    }
+    if n > greatest_n(kind) {
+        return Content::Wrong(Refusal::SizeOutOfRange);
+    }
+    Content::Says(Item::OfSize(Size {
+        kind,
+        n: n as usize,
+    }))
+}
+
+// The size that stands from a place on: one word.
+pub fn size_on(kind: Kind, l: &[u8], from: usize) -> Content
+    requires { ⌜ (length (now l) ≤ lineLimit) × (from ≤ length (now l)) ⌝ }
+    ensures { λ r. ⌜ r ≡ sizeOf kind (wordsOf (drop from (now (l .entry)))) ⌝ }
+{
+    let Word::At { start, end } = next_word(l, from) else {
+        return Content::Wrong(Refusal::ParametersWrong);
+    };
+    let Word::Nothing = next_word(l, end) else {
+        return Content::Wrong(Refusal::ParametersWrong);
+    };
+    size_in(kind, &l[start..end])
+}
+
+// ---- a line, by its form
+
+// Where a line's first word ends; the line's end where it has none.
+fn after_first_word(l: &[u8]) -> usize
+    ensures within { λ r. ⌜ r ≤ length (now (l .entry)) ⌝ }
+    ensures rest { λ r. ⌜ wordsOf (drop r (now (l .entry))) ≡ parameters (wordsOf (now (l .entry))) ⌝ }
+{
+    let Word::At { start: _, end } = next_word(l, 0) else {
+        return l.len();
+    };
+    end
+}
+
+// What bounds say as the lower ones.
+fn as_lower(found: BoundsFound) -> Content
+    ensures { λ r. ⌜ r ≡ sayBounds found OfLower ⌝ }
+{
+    match found {
+        BoundsFound::AllBounds(b) => Content::Says(Item::OfLower(b)),
+        BoundsFound::NoBounds(r) => Content::Wrong(r),
+    }
+}
+
+// What bounds say as the upper ones.
+fn as_upper(found: BoundsFound) -> Content
+    ensures { λ r. ⌜ r ≡ sayBounds found OfUpper ⌝ }
+{
+    match found {
+        BoundsFound::AllBounds(b) => Content::Says(Item::OfUpper(b)),
+        BoundsFound::NoBounds(r) => Content::Wrong(r),
+    }
+}
+
+// What a row says.
+fn as_row(found: RowFound) -> Content
+    ensures { λ r. ⌜ r ≡ sayRow found ⌝ }
+{
+    match found {
+        RowFound::ARow(r) => Content::Says(Item::OfRow(r)),
+        RowFound::NoRow(r) => Content::Wrong(r),
+    }
+}
+
+// What a keyword's line says; it begins at a place of the file.
+fn keyed_content(keyword: Keyword, l: &[u8], place: usize) -> Content
+    requires { ⌜ (length (now l) ≤ lineLimit) × (place + length (now l) ≤ 18_446_744_073_709_551_615) ⌝ }
+    ensures { λ r. ⌜ r ≡ contentBy (Keyed keyword) place (now (l .entry)) ⌝ }
+{
+    let rest = after_first_word(l);
+    match keyword {
+        Keyword::ATitle => title_of(l, place),
+        Keyword::ALower => as_lower(bounds_on(l, rest)),
+        Keyword::AnUpper => as_upper(bounds_on(l, rest)),
+        Keyword::ASize(kind) => size_on(kind, l, rest),
+    }
+}
+
+// What a line says by itself, by its form; it begins at a place of the file.
+pub fn content_by(form: Form, l: &[u8], place: usize) -> Content
+    requires { ⌜ (length (now l) ≤ lineLimit) × (place + length (now l) ≤ 18_446_744_073_709_551_615) ⌝ }
+    ensures { λ r. ⌜ r ≡ contentBy form place (now (l .entry)) ⌝ }
+{
+    match form {
+        Form::Idle => Content::Says(Item::Nothing),
+        Form::Keyed(keyword) => keyed_content(keyword, l, place),
+        Form::Data => as_row(row_on(l)),
+        Form::Neither => Content::Wrong(Refusal::NeitherDataNorKeyword),
+    }
+}
