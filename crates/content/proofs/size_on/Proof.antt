@@ -47,10 +47,10 @@ returns-2 c =
     rw (w .words, v .words)
 
 sub-size-in : tie.Need-sub-size-in
-sub-size-in c = omega (arith, word (c .before .before .before .before) .some)
+sub-size-in c = omega (arith, word (c .before .before .before .before) .nonempty)
 
 part-size-in-start : tie.Need-part-size-in-start
-part-size-in-start c = omega (arith, word (c .before .before .before .before) .some)
+part-size-in-start c = omega (arith, word (c .before .before .before .before) .nonempty)
 
 part-size-in-end : tie.Need-part-size-in-end
 part-size-in-end c = word (c .before .before .before .before) .inside

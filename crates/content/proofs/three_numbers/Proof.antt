@@ -84,10 +84,10 @@ returns-4 c =
     sym (more-words _ _ (first (v .before .before .before .before)) (second v) (third w) x)
 
 sub-number-of : tie.Need-sub-number-of
-sub-number-of c = omega (arith, first (c .before .before .before .before .before .before .before .before .before .before .before .before) .some)
+sub-number-of c = omega (arith, first (c .before .before .before .before .before .before .before .before .before .before .before .before) .nonempty)
 
 part-number-of-start : tie.Need-part-number-of-start
-part-number-of-start c = omega (arith, first (c .before .before .before .before .before .before .before .before .before .before .before .before) .some)
+part-number-of-start c = omega (arith, first (c .before .before .before .before .before .before .before .before .before .before .before .before) .nonempty)
 
 part-number-of-end : tie.Need-part-number-of-end
 part-number-of-end c = first (c .before .before .before .before .before .before .before .before .before .before .before .before) .inside
@@ -98,10 +98,10 @@ number-of-requires c κs =
     (short u (u .a .given .0 .0) (u .a .given .0 .1 .0), u .before .before .before .before .pre .1 .0, u .before .before .before .before .pre .1 .1)
 
 sub-number-of-2 : tie.Need-sub-number-of-2
-sub-number-of-2 c = omega (arith, second (c .before .before .before .before .before .before .before .before .before .before) .some)
+sub-number-of-2 c = omega (arith, second (c .before .before .before .before .before .before .before .before .before .before) .nonempty)
 
 part-number-of-start-2 : tie.Need-part-number-of-start-2
-part-number-of-start-2 c = omega (arith, second (c .before .before .before .before .before .before .before .before .before .before) .some)
+part-number-of-start-2 c = omega (arith, second (c .before .before .before .before .before .before .before .before .before .before) .nonempty)
 
 part-number-of-end-2 : tie.Need-part-number-of-end-2
 part-number-of-end-2 c = second (c .before .before .before .before .before .before .before .before .before .before) .inside
@@ -113,10 +113,10 @@ number-of-requires-2 c κs =
     (short u (v .c .given .0 .0) (v .c .given .0 .1 .0), u .before .before .before .before .pre .1 .0, u .before .before .before .before .pre .1 .1)
 
 sub-number-of-3 : tie.Need-sub-number-of-3
-sub-number-of-3 c = omega (arith, third (c .before .before .before .before .before .before .before .before) .some)
+sub-number-of-3 c = omega (arith, third (c .before .before .before .before .before .before .before .before) .nonempty)
 
 part-number-of-start-3 : tie.Need-part-number-of-start-3
-part-number-of-start-3 c = omega (arith, third (c .before .before .before .before .before .before .before .before) .some)
+part-number-of-start-3 c = omega (arith, third (c .before .before .before .before .before .before .before .before) .nonempty)
 
 part-number-of-end-3 : tie.Need-part-number-of-end-3
 part-number-of-end-3 c = third (c .before .before .before .before .before .before .before .before) .inside
