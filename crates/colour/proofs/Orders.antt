@@ -1,8 +1,7 @@
--- Each of the six orders by the two tests that tell it, and what its path has: the fractions fall along it, and its rows are rows of the table.
-use Prim.Native.Nat.{ℕ, _+_, _*_, _≤_, _<_}
+-- Each of the six orders by the two tests that tell it, and the path that it gives.
+use Prim.Native.Nat.{ℕ, _*_, _≤_, _<_}
 use mathlib.Core.Path.{_≡_, refl, sym, ap, ap₂, subst, fun-ext, _∙_}
 use mathlib.Core.Logic.{_⊎_, inl, inr}
-use native.Mathlib.Nat as NatL
 use native.Mathlib.Omega.{arith}
 use borrow.Author.Tests.{le-leb, lt-leb}
 use Rattle.rules.specs.Units.{rowAt, stride}
@@ -13,8 +12,7 @@ use Rattle.rules.specs.declared.Colour.{Colour}
 use Rattle.rules.specs.declared.Colour.the-variants.{Red, Green, Blue}
 use Rattle.rules.specs.declared.Shares.{Shares}
 use Rattle.rules.proofs.Rule.{rule-descends}
-use Rattle.rules.proofs.RowsAndWeights.{path-rows}
-use Rattle.colour.specs.Places.{three}
+use Rattle.colour.specs.Places.{three, along}
 
 -- ---- which order
 
@@ -54,32 +52,16 @@ module _ (r g b : ℕ) where
 
 -- ---- what the path of an order has
 
-module _ (n : ℕ) (i : Colour → ℕ) (small : n ≤ 256) (cells : (k : Colour) → i k + 2 ≤ n) where
-  pub square-most : n * n ≤ 65536
-  square-most = NatL.mul-le-mul small small
-
-  cube-most : n * n * n ≤ 16_777_216
-  cube-most = NatL.mul-le-mul square-most small
-
-  -- the last row of the path, and so each before it
-  pub last-most : (o : Order) → rowAt n i + stride n (1st o) + stride n (2nd o) + stride n (3rd o) ≤ 16_777_216
-  unfolding pathBy climb
-  last-most o = omega (arith, path-rows n 0 i i o cells .1 .1 .1 .0, cube-most)
-
-  pub start-most : rowAt n i ≤ 16_777_216
-  start-most = omega (arith, last-most rgb)
-
 pub descends : (f : Colour → ℕ) (o : Order) → order f ≡ o → Descends f o
 descends f o e = subst (Descends f) e (rule-descends f)
 
--- a climb along the order that the fractions have is the path
-pub climb-path : (n den : ℕ) (i f : Colour → ℕ) (o : Order) (r : Shares) → order f ≡ o
-    → r ≡ six (climb (rowAt n i) den (f (1st o)) (f (2nd o)) (f (3rd o)) (stride n (1st o)) (stride n (2nd o)) (stride n (3rd o)))
-    → r ≡ six (pathBy n den i f (order f))
-unfolding pathBy
-climb-path n den i f o r e h = h ∙ sym (ap (λ x. six (pathBy n den i f x)) e)
+-- a climb in the order that the fractions have
+pub in-order : (start den : ℕ) (f s : Colour → ℕ) (o : Order) (r : Shares) → order f ≡ o
+    → r ≡ six (climb start den (f (1st o)) (f (2nd o)) (f (3rd o)) (s (1st o)) (s (2nd o)) (s (3rd o))) → r ≡ six (along start den f s)
+unfolding along
+in-order start den f s o r e h = h ∙ sym (ap (λ x. six (climb start den (f (1st x)) (f (2nd x)) (f (3rd x)) (s (1st x)) (s (2nd x)) (s (3rd x)))) e)
 
--- the three indices and fractions, one by one or as functions of the colour
+-- the three numbers of a function of the colour
 all-three : (f : Colour → ℕ) → three (f Red) (f Green) (f Blue) ≡ f
 all-three f = fun-ext each
   where
@@ -88,6 +70,7 @@ all-three f = fun-ext each
     each Green = refl
     each Blue = refl
 
-pub three-path : (n den : ℕ) (i f : Colour → ℕ)
-    → pathBy n den (three (i Red) (i Green) (i Blue)) (three (f Red) (f Green) (f Blue)) (order (three (f Red) (f Green) (f Blue))) ≡ pathBy n den i f (order f)
-three-path n den i f = ap₂ (λ (x y : Colour → ℕ). pathBy n den x y (order y)) (all-three i) (all-three f)
+-- by the strides of the three axes it is the path
+pub along-path : (n den : ℕ) (i f : Colour → ℕ) → along (rowAt n i) den (three (f Red) (f Green) (f Blue)) (three 1 n (n * n)) ≡ pathBy n den i f (order f)
+unfolding along pathBy
+along-path n den i f = ap₂ (λ (x y : Colour → ℕ). along (rowAt n i) den x y) (all-three f) (all-three (stride n))

@@ -5,7 +5,7 @@ use mathlib.Core.Bool.{true}
 use mathlib.Core.List.{List, [], _∷_}
 use lib.IntN.{ℤ}
 use Rattle.rules.specs.Descriptions.{couldBeRead}
-use Rattle.rules.specs.Interpolation.{den, index, fraction}
+use Rattle.rules.specs.Interpolation.{den, index, fraction, 1st, 2nd, 3rd, order, climb}
 use Rattle.rules.specs.declared.Colour.{Colour}
 use Rattle.rules.specs.declared.Colour.the-variants.{Red, Green, Blue}
 use Rattle.rules.specs.declared.Description.{Description}
@@ -30,6 +30,10 @@ abbrev pub three : ℕ → ℕ → ℕ → Colour → ℕ
 three r g b Red = r
 three r g b Green = g
 three r g b Blue = b
+
+-- the four rows from a start, with a step along each axis, in the order of the fractions
+unfoldable pub along : ℕ → ℕ → (Colour → ℕ) → (Colour → ℕ) → List Share
+along start den f s = let o = order f in climb start den (f (1st o)) (f (2nd o)) (f (3rd o)) (s (1st o)) (s (2nd o)) (s (3rd o))
 
 abbrev pub ofPair : Pair → List Share
 ofPair p = p .low ∷ p .high ∷ []

@@ -1,4 +1,4 @@
-// The first half of a look: the rows and weights of a pixel (document 01, "Interpolation").
+// The rows and weights of a pixel (document 01, "Interpolation").
 use crate::place::Place;
 use crate::place::place_in;
 use rules::Codes;
@@ -8,10 +8,11 @@ use rules::Kind;
 use rules::Share;
 use rules::Shares;
 ghost use mathlib.Core.Path.{_≡_};
-ghost use Prim.Native.Nat.{_+_, _≤_, _<_};
-ghost use Rattle.rules.specs.Interpolation.{share, pair, pathBy, climb, order};
+ghost use Prim.Native.Nat.{_+_, _*_, _≤_, _<_};
+ghost use Rattle.rules.specs.Units.{rowAt};
+ghost use Rattle.rules.specs.Interpolation.{share, pair, climb};
 ghost use Rattle.rules.specs.Looking.{six, shown};
-ghost use Rattle.colour.specs.Places.{Readable, Cell, ofPair, three};
+ghost use Rattle.colour.specs.Places.{Readable, Cell, ofPair, three, along};
 
 fn share_of(row: usize, weight: u64) -> Share
     requires { ⌜ weight ≤ 655_350_000 ⌝ }
@@ -48,7 +49,8 @@ fn pair_of(d: Description, m: u16, pixel: Codes, c: Colour) -> Pair
     }
 }
 
-fn line(d: Description, m: u16, pixel: Codes) -> Shares
+// Two rows and weights for each colour.
+pub fn line(d: Description, m: u16, pixel: Codes) -> Shares
     requires { ⌜ Readable d ⌝ }
     requires { ⌜ 0 < m ⌝ }
     ensures { λ r. ⌜ r ≡ shown d m pixel Kind.OneD ⌝ }
@@ -106,34 +108,17 @@ fn climbed(start: usize, den: u64, one: Step, two: Step, three: Step) -> Shares
 }
 
 // One case for each order of the three fractions, the greatest first; equal ones stand red, green, blue.
-fn path_by(n: usize, den: u64, r: Place, g: Place, b: Place) -> Shares
-    requires { ⌜ n ≤ 256 ⌝ }
+fn path_along(start: usize, den: u64, red: Step, green: Step, blue: Step) -> Shares
+    requires { ⌜ start + red .stride + green .stride + blue .stride ≤ 16_777_216 ⌝ }
     requires { ⌜ den ≤ 655_350_000 ⌝ }
-    requires { ⌜ Cell n den r ⌝ }
-    requires { ⌜ Cell n den g ⌝ }
-    requires { ⌜ Cell n den b ⌝ }
-    ensures { λ p. ⌜ p ≡ six (pathBy n den (three (r .index) (g .index) (b .index)) (three (r .fraction) (g .fraction) (b .fraction)) (order (three (r .fraction) (g .fraction) (b .fraction)))) ⌝ }
+    requires { ⌜ red .fraction ≤ den ⌝ }
+    requires { ⌜ green .fraction ≤ den ⌝ }
+    requires { ⌜ blue .fraction ≤ den ⌝ }
+    ensures { λ r. ⌜ r ≡ six (along start den (three (red .fraction) (green .fraction) (blue .fraction)) (three (red .stride) (green .stride) (blue .stride))) ⌝ }
 {
-    let fr = r.fraction;
-    let fg = g.fraction;
-    let fb = b.fraction;
-    let ir = r.index;
-    let ig = g.index;
-    let ib = b.index;
-    let square = n * n;
-    let start = ir + n * ig + square * ib;
-    let red = Step {
-        fraction: fr,
-        stride: 1,
-    };
-    let green = Step {
-        fraction: fg,
-        stride: n,
-    };
-    let blue = Step {
-        fraction: fb,
-        stride: square,
-    };
+    let fr = red.fraction;
+    let fg = green.fraction;
+    let fb = blue.fraction;
     if fr >= fg && fg >= fb {
         return climbed(start, den, red, green, blue);
     }
@@ -152,7 +137,36 @@ fn path_by(n: usize, den: u64, r: Place, g: Place, b: Place) -> Shares
     climbed(start, den, blue, green, red)
 }
 
-fn cube(d: Description, m: u16, pixel: Codes) -> Shares
+// From the row of the three i, one index up along each axis.
+fn path_by(n: usize, den: u64, r: Place, g: Place, b: Place) -> Shares
+    requires { ⌜ n ≤ 256 ⌝ }
+    requires { ⌜ den ≤ 655_350_000 ⌝ }
+    requires { ⌜ Cell n den r ⌝ }
+    requires { ⌜ Cell n den g ⌝ }
+    requires { ⌜ Cell n den b ⌝ }
+    ensures { λ s. ⌜ s ≡ six (along (rowAt n (three (r .index) (g .index) (b .index))) den (three (r .fraction) (g .fraction) (b .fraction)) (three 1 n (n * n))) ⌝ }
+{
+    let ir = r.index;
+    let ig = g.index;
+    let ib = b.index;
+    let square = n * n;
+    let red = Step {
+        fraction: r.fraction,
+        stride: 1,
+    };
+    let green = Step {
+        fraction: g.fraction,
+        stride: n,
+    };
+    let blue = Step {
+        fraction: b.fraction,
+        stride: square,
+    };
+    path_along(ir + n * ig + square * ib, den, red, green, blue)
+}
+
+// Four rows and weights for the pixel, all with the one D.
+pub fn cube(d: Description, m: u16, pixel: Codes) -> Shares
     requires { ⌜ Readable d ⌝ }
     requires { ⌜ 0 < m ⌝ }
     requires { ⌜ d .kind ≡ Kind.ThreeD ⌝ }
@@ -162,17 +176,4 @@ fn cube(d: Description, m: u16, pixel: Codes) -> Shares
     let green = place_in(d, m, pixel, Colour::Green);
     let blue = place_in(d, m, pixel, Colour::Blue);
     path_by(d.n, red.den, red, green, blue)
-}
-
-// Two rows and weights for each colour in 1D, four for the pixel in 3D.
-pub fn shares_of(d: Description, m: u16, pixel: Codes) -> Shares
-    requires { ⌜ Readable d ⌝ }
-    requires { ⌜ 0 < m ⌝ }
-    ensures { λ r. ⌜ r ≡ shown d m pixel (d .kind) ⌝ }
-{
-    let kind = d.kind;
-    match kind {
-        Kind::OneD => line(d, m, pixel),
-        Kind::ThreeD => cube(d, m, pixel),
-    }
 }

@@ -1,15 +1,14 @@
 -- In 3D N is at most 256, and the three places share D, since the colours have one domain.
-use mathlib.Core.Path.{ap, _∙_}
 use native.Mathlib.Omega.{arith}
 use borrow.Author.Needs.{needs}
 use Rattle.rules.specs.Units.{codeIn}
 use Rattle.rules.specs.Descriptions.{domain}
 use Rattle.rules.specs.Interpolation.{denOf, indexOf, fractionOf, path}
-use Rattle.rules.specs.Looking.{six, shown}
+use Rattle.rules.specs.Looking.{shown}
 use Rattle.rules.specs.declared.Colour.{Colour}
 use Rattle.rules.specs.declared.Colour.the-variants.{Red, Green, Blue}
 use Rattle.colour.specs.Places.{placeOf, Cell}
-use Rattle.colour.proofs.Orders.{three-path}
+use Rattle.colour.proofs.Orders.{along-path}
 use Rattle.colour.proofs.Readables.{sound, den-most, cell}
 use Rattle.colour.proofs.shares.cube.Statement.{statement}
 use Rattle.colour.proofs.shares.cube.Tie as tie
@@ -39,8 +38,8 @@ unfolding placeOf shown path
 returns c =
     let places = c .before in
     let a = places .before .before .before .args in
-    (rw (places .before .before .place-in .ensures, places .before .place-in2 .ensures, places .place-in3 .ensures) at (c .path-by .ensures))
-    ∙ ap six (three-path (a .d .n) (denOf (a .d) (a .m) Red) (indexOf (a .d) (a .m) (a .pixel)) (fractionOf (a .d) (a .m) (a .pixel)))
+    rw (places .before .before .place-in .ensures, places .before .place-in2 .ensures, places .place-in3 .ensures, along-path (a .d .n) (denOf (a .d) (a .m) Red) (indexOf (a .d) (a .m) (a .pixel)) (fractionOf (a .d) (a .m) (a .pixel)))
+    at (c .path-by .ensures)
 
 pub cube-spec : {M : Type 1} → statement M
 cube-spec = tie.close (tie.spec place-in-requires place-in-requires-2 place-in-requires-3 path-by-requires returns)

@@ -1,19 +1,15 @@
--- Each case knows its order by its own two tests, and the last by all that were left.
-use mathlib.Core.Path.{_≡_}
-use mathlib.Core.Logic.{inl, inr, ⊎-elim}
-use Prim.Native.Nat.{ℕ, _+_, _≤_}
+-- Three indices that are below N − 1 start a path that ends at a row of the table, and with N at most 256 no sum or product of them wraps.
+use Prim.Native.Nat.{ℕ, _+_, _*_, _≤_}
+use native.Mathlib.Nat.{mul-le-mul}
 use native.Mathlib.Omega.{arith}
-use borrow.Author.Tests.{leb-true, leb-false, ltb-true, ltb-false}
-use Rattle.rules.specs.Units.{rowAt, stride}
-use Rattle.rules.specs.Interpolation.{Order, 1st, 2nd, 3rd, rgb, rbg, brg, grb, gbr, bgr, order}
+use Rattle.rules.specs.Units.{rowAt}
+use Rattle.rules.specs.Interpolation.{rgb, pathBy, climb}
 use Rattle.rules.specs.declared.Colour.{Colour}
 use Rattle.rules.specs.declared.Colour.the-variants.{Red, Green, Blue}
+use Rattle.rules.proofs.RowsAndWeights.{path-rows}
 use Rattle.colour.specs.Places.{three}
-use Rattle.colour.proofs.Orders.{is-rgb, is-rbg, is-brg, is-grb, is-gbr, is-bgr, none-of-five, square-most, start-most, last-most, descends, climb-path}
 use Rattle.colour.proofs.shares.path_by.Statement.{statement}
 use Rattle.colour.proofs.shares.path_by.Tie as tie
-
--- ---- what holds in every case
 
 module _ (s : tie.Start) where
   abbrev n : ℕ
@@ -22,130 +18,51 @@ module _ (s : tie.Start) where
   abbrev i : Colour → ℕ
   i = three (s .args .r .index) (s .args .g .index) (s .args .b .index)
 
-  abbrev f : Colour → ℕ
-  f = three (s .args .r .fraction) (s .args .g .fraction) (s .args .b .fraction)
-
   cells : (k : Colour) → i k + 2 ≤ n
   cells Red = s .pre .1 .1 .0 .cell
   cells Green = s .pre .1 .1 .1 .0 .cell
   cells Blue = s .pre .1 .1 .1 .1 .cell
 
-  parts : (k : Colour) → f k ≤ s .args .den
-  parts Red = s .pre .1 .1 .0 .part
-  parts Green = s .pre .1 .1 .1 .0 .part
-  parts Blue = s .pre .1 .1 .1 .1 .part
+  square-most : n * n ≤ 65536
+  square-most = mul-le-mul (s .pre .0) (s .pre .0)
 
-  start : rowAt n i ≤ 16_777_216
-  start = start-most n i (s .pre .0) cells
+  cube-most : n * n * n ≤ 16_777_216
+  cube-most = mul-le-mul square-most (s .pre .0)
 
-  -- what `climbed` asks for, along the order of the fractions
-  fits : (o : Order) → order f ≡ o
-      → (rowAt n i + stride n (1st o) + stride n (2nd o) + stride n (3rd o) ≤ 16_777_216)
-      × ((s .args .den ≤ 655_350_000) × ((f (1st o) ≤ s .args .den) × ((f (2nd o) ≤ f (1st o)) × (f (3rd o) ≤ f (2nd o)))))
-  fits o e =
-      let down = descends f o e in
-      (last-most n i (s .pre .0) cells o, (s .pre .1 .0, (parts (1st o), (down .upper, down .lower))))
+  end-most : rowAt n i + 1 + n + n * n ≤ 16_777_216
+  unfolding pathBy climb
+  end-most = omega (arith, path-rows n 0 i i rgb cells .1 .1 .1 .0, cube-most)
 
 mul-square : tie.Need-mul-square
-mul-square c = omega (arith, square-most (n c) (i c) (c .pre .0) (cells c))
+mul-square c = omega (arith, square-most c)
 
-mul-start : tie.Need-mul-start
-mul-start c = omega (arith, start c)
+mul-path-along : tie.Need-mul-path-along
+mul-path-along c = omega (arith, end-most c)
 
-add-start : tie.Need-add-start
-add-start c = omega (arith, start c)
+add-path-along : tie.Need-add-path-along
+add-path-along c = omega (arith, end-most c)
 
-mul-start-2 : tie.Need-mul-start-2
-mul-start-2 c = omega (arith, start c)
+mul-path-along-2 : tie.Need-mul-path-along-2
+mul-path-along-2 c = omega (arith, end-most c)
 
-add-start-2 : tie.Need-add-start-2
-add-start-2 c = omega (arith, start c)
+add-path-along-2 : tie.Need-add-path-along-2
+add-path-along-2 c = omega (arith, end-most c)
 
--- ---- the six cases
-
-case-1 : (c : tie.Then2) → order (f (c .before .before)) ≡ rgb
-case-1 c = is-rgb _ _ _ (c .before .if1 .taken) (leb-true _ _ (c .if2 .taken))
-
-climbed-requires : tie.Need-climbed-requires
-climbed-requires c κs = fits (c .before .before) rgb (case-1 c)
+path-along-requires : tie.Need-path-along-requires
+path-along-requires c κs =
+    (end-most c, (c .pre .1 .0, (c .pre .1 .1 .0 .part, (c .pre .1 .1 .1 .0 .part, c .pre .1 .1 .1 .1 .part))))
 
 returns : tie.Need-returns
-returns c = climb-path _ _ _ _ rgb _ (case-1 (c .before)) (c .climbed .ensures)
-
-case-2 : (c : tie.Then4) → order (f (c .before .before .before)) ≡ rbg
-case-2 c = is-rbg _ _ _ (c .before .if3 .taken) (ltb-true _ _ (c .if4 .taken))
-
-climbed-requires-2 : tie.Need-climbed-requires-2
-climbed-requires-2 c κs = fits (c .before .before .before) rbg (case-2 c)
-
-returns-2 : tie.Need-returns-2
-returns-2 c = climb-path _ _ _ _ rbg _ (case-2 (c .before)) (c .climbed2 .ensures)
-
-case-3 : (c : tie.Then6) → order (f (c .before .before .before .before)) ≡ brg
-case-3 c = is-brg _ _ _ (c .before .if5 .taken) (leb-true _ _ (c .if6 .taken))
-
-climbed-requires-3 : tie.Need-climbed-requires-3
-climbed-requires-3 c κs = fits (c .before .before .before .before) brg (case-3 c)
-
-returns-3 : tie.Need-returns-3
-returns-3 c = climb-path _ _ _ _ brg _ (case-3 (c .before)) (c .climbed3 .ensures)
-
-case-4 : (c : tie.Then8) → order (f (c .before .before .before .before .before)) ≡ grb
-case-4 c = is-grb _ _ _ (c .before .if7 .taken) (leb-true _ _ (c .if8 .taken))
-
-climbed-requires-4 : tie.Need-climbed-requires-4
-climbed-requires-4 c κs = fits (c .before .before .before .before .before) grb (case-4 c)
-
-returns-4 : tie.Need-returns-4
-returns-4 c = climb-path _ _ _ _ grb _ (case-4 (c .before)) (c .climbed4 .ensures)
-
-case-5 : (c : tie.Then10) → order (f (c .before .before .before .before .before .before)) ≡ gbr
-case-5 c = is-gbr _ _ _ (c .before .if9 .taken) (ltb-true _ _ (c .if10 .taken))
-
-climbed-requires-5 : tie.Need-climbed-requires-5
-climbed-requires-5 c κs = fits (c .before .before .before .before .before .before) gbr (case-5 c)
-
-returns-5 : tie.Need-returns-5
-returns-5 c = climb-path _ _ _ _ gbr _ (case-5 (c .before)) (c .climbed5 .ensures)
-
-case-6 : (c : tie.Joined9) → order (f (c .before .before .before .before .before)) ≡ bgr
-case-6 c =
-    let j7 = c .before in
-    let j5 = j7 .before in
-    let j3 = j5 .before in
-    let j1 = j3 .before in
-    let left = none-of-five _ _ _
-    (⊎-elim (λ t. inl (leb-false _ _ (t .1 .left))) (λ e. inr (e .left)) (j1 .if1 .came))
-    (⊎-elim (λ t. inl (ltb-false _ _ (t .1 .left))) (λ e. inr (e .left)) (j3 .if3 .came))
-    (⊎-elim (λ t. inl (leb-false _ _ (t .1 .left))) (λ e. inr (e .left)) (j5 .if5 .came))
-    (⊎-elim (λ t. inl (leb-false _ _ (t .1 .left))) (λ e. inr (e .left)) (j7 .if7 .came))
-    (⊎-elim (λ t. inl (ltb-false _ _ (t .1 .left))) (λ e. inr (e .left)) (c .if9 .came)) in
-    is-bgr _ _ _ (left .0) (left .1)
-
-climbed-requires-6 : tie.Need-climbed-requires-6
-climbed-requires-6 c κs = fits (c .before .before .before .before .before) bgr (case-6 c)
-
-returns-6 : tie.Need-returns-6
-returns-6 c = climb-path _ _ _ _ bgr _ (case-6 (c .before)) (c .climbed6 .ensures)
+returns c = c .path-along .ensures
 
 pub path-by-spec : {M : Type 1} → statement M
 path-by-spec =
     tie.close
     (tie.spec
     mul-square
-    mul-start
-    add-start
-    mul-start-2
-    add-start-2
-    climbed-requires
-    returns
-    climbed-requires-2
-    returns-2
-    climbed-requires-3
-    returns-3
-    climbed-requires-4
-    returns-4
-    climbed-requires-5
-    returns-5
-    climbed-requires-6
-    returns-6)
+    mul-path-along
+    add-path-along
+    mul-path-along-2
+    add-path-along-2
+    path-along-requires
+    returns)

@@ -2,8 +2,8 @@
 use borrow.Author.Needs.{needs}
 use mathlib.Core.Path.{sym, ap, _∙_}
 use Rattle.rules.specs.Looking.{shown}
-use Rattle.colour.proofs.shares.shares_of.Statement.{statement}
-use Rattle.colour.proofs.shares.shares_of.Tie as tie
+use Rattle.colour.proofs.shares_of.Statement.{statement}
+use Rattle.colour.proofs.shares_of.Tie as tie
 
 enum-told : tie.Need-enum-told
 enum-told c = search needs
