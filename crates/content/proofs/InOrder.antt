@@ -1,11 +1,14 @@
 -- Three numbers judged left to right: the first that has no value is refused, and where each has one, the three are handed on.
-use Prim.Native.Nat.{ℕ}
+use Prim.Native.Nat.{_<_, _^_}
 use mathlib.Core.Path.{_≡_, refl}
 use mathlib.Core.Logic.{⊎-elim}
 use mathlib.Core.List.{[], _∷_}
-use mathlib.Core.Option.{Option, some}
 use native.Mathlib.Omega.{arith}
 use lib.IntN.{ℤ}
+use lib.Signed.{mag}
+use mir.Syntax.{w64}
+use mir.Val.{ofZ, toZ}
+use mir.ValLaws.{toZ-ofZ}
 use denote.Enum.Declared.{tagOf}
 use types.Run.{OneOf}
 use Rattle.rules.specs.Content.{valued, values}
@@ -20,7 +23,7 @@ use Rattle.content.specs.declared.Complaints.{Complaints}
 use Rattle.content.specs.declared.ThreeFound.{ThreeFound}
 use Rattle.content.specs.declared.ThreeFound.the-variants.{Found}
 
--- a number of any variant but the first
+-- a number that is no value, as the code's branch knows it: of any variant but the first
 abbrev pub Valueless : Number → Type 0
 Valueless n = OneOf (1 ∷ 2 ∷ 3 ∷ []) (tagOf the-type n)
 
@@ -46,3 +49,8 @@ module _ (c : Complaints) where
 
     pub all-valued : (x y z : ℤ) → t .first ≡ Value x → t .second ≡ Value y → t .third ≡ Value z → judged ≡ next x y z
     all-valued x y z p q r = rw (e, p, q, r)
+
+-- three values that an i64 each holds go on as they are
+pub held : (next : ℤ → ℤ → ℤ → Content) (x y z : ℤ) → mag x < 2 ^ 63 → mag y < 2 ^ 63 → mag z < 2 ^ 63
+    → next (toZ w64 (ofZ w64 x)) (toZ w64 (ofZ w64 y)) (toZ w64 (ofZ w64 z)) ≡ next x y z
+held next x y z p q r = rw (toZ-ofZ w64 x (record { sfits = p }), toZ-ofZ w64 y (record { sfits = q }), toZ-ofZ w64 z (record { sfits = r }))

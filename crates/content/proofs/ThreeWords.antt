@@ -2,13 +2,14 @@
 use Prim.Native.Nat.{ℕ, _-_}
 use mathlib.Core.Path.{_≡_}
 use mathlib.Core.Bool.{cond, _&&_}
-use mathlib.Core.List.{List, [], _∷_}
-use mathlib.Core.Option.{none, some}
+use mathlib.Core.List.{List, []}
+use mathlib.Core.Option.{Option, none, some}
 use lib.ListN.{take, drop}
 use Rattle.rules.specs.Lines.{wordsOf}
 use Rattle.rules.specs.Numbers.{numberOf}
 use Rattle.rules.specs.Content.{formed, threeOf}
 use Rattle.rules.specs.declared.Number.{Number}
+use Rattle.rules.specs.declared.Three.{Three}
 use Rattle.text.proofs.WordsFrom.{WordFound}
 
 module _ (places limit : ℕ) where
@@ -34,6 +35,7 @@ module _ (places limit : ℕ) where
           → x ≡ numberOf places limit (take (b - a) (drop a l))
           → y ≡ numberOf places limit (take (d - c) (drop c l))
           → z ≡ numberOf places limit (take (f - e) (drop e l))
-          → threeOf places limit (wordsOf (drop from l)) ≡ cond (formed x && (formed y && formed z)) (some (record { first = x; second = y; third = z })) none
+          → (found : Option Three) → found ≡ cond (formed x && (formed y && formed z)) (some (record { first = x; second = y; third = z })) none
+          → threeOf places limit (wordsOf (drop from l)) ≡ found
       unfolding threeOf
-      three-words n x y z p q r = rw (u .words, v .words, w .words, n, ← p, ← q, ← r)
+      three-words n x y z p q r found g = rw (u .words, v .words, w .words, n, ← p, ← q, ← r, g)

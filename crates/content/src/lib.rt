@@ -104,25 +104,25 @@ pub fn three_numbers(l: &[u8], from: usize, places: usize, limit: u64) -> ThreeF
 // ---- their values
 
 // Three values in the units that were asked for, or why there are none.
-pub enum Values {
+enum Values {
     All(Triple),
     Fault(Refusal),
 }
 
-pub struct Triple {
-    pub x: i64,
-    pub y: i64,
-    pub z: i64,
+struct Triple {
+    x: i64,
+    y: i64,
+    z: i64,
 }
 
 // Why a number is refused: for its form, beyond the limit, or no multiple of the unit.
-pub struct Complaints {
-    pub unformed: Refusal,
-    pub beyond: Refusal,
-    pub finer: Refusal,
+struct Complaints {
+    unformed: Refusal,
+    beyond: Refusal,
+    finer: Refusal,
 }
 
-// Why a number that has no value is refused.
+// Why a number that has no value is refused; of one that has, nothing is asked.
 fn complaint(n: Number, complaints: Complaints) -> Refusal
     ensures { λ r. ⌜ r ≡ complaintOf complaints n ⌝ }
 {
@@ -134,7 +134,7 @@ fn complaint(n: Number, complaints: Complaints) -> Refusal
     }
 }
 
-// The values of three numbers, left to right.
+// The values of three numbers: the form of all three comes first, then each in turn, left to right.
 fn values_of(three: ThreeFound, complaints: Complaints) -> Values
     ensures { λ r. ⌜ ((next : ℤ → ℤ → ℤ → Content) → sayValues r next ≡ values (complaints .unformed) (complaints .beyond) (complaints .finer) (foundThree three) next) ⌝ }
 {
@@ -169,11 +169,13 @@ const SAMPLE_PLACES: usize = 7;
 
 const SAMPLE_LIMIT: u64 = 10_000_000_000;
 
+// Three bounds, or why there are none.
 pub enum BoundsFound {
     AllBounds(Bounds),
     NoBounds(Refusal),
 }
 
+// A row, or why there is none.
 pub enum RowFound {
     ARow(Row),
     NoRow(Refusal),
@@ -239,7 +241,7 @@ fn greatest_n(kind: Kind) -> u64
     }
 }
 
-// The size that a word gives: digits alone, in range.
+// The size that a word gives: digits alone, in range. Digits of any length are kept at one past the greatest N, which is as far out of range as they are.
 fn size_in(kind: Kind, w: &[u8]) -> Content
     ensures { λ r. ⌜ r ≡ sizeOf kind (now (w .entry) ∷ []) ⌝ }
 {
@@ -286,7 +288,7 @@ fn after_first_word(l: &[u8]) -> usize
     end
 }
 
-// Bounds as the lower ones.
+// What bounds say as the lower ones.
 fn as_lower(found: BoundsFound) -> Content
     ensures { λ r. ⌜ r ≡ sayBounds found OfLower ⌝ }
 {
@@ -296,7 +298,7 @@ fn as_lower(found: BoundsFound) -> Content
     }
 }
 
-// Bounds as the upper ones.
+// What bounds say as the upper ones.
 fn as_upper(found: BoundsFound) -> Content
     ensures { λ r. ⌜ r ≡ sayBounds found OfUpper ⌝ }
 {
@@ -306,6 +308,7 @@ fn as_upper(found: BoundsFound) -> Content
     }
 }
 
+// What a row says.
 fn as_row(found: RowFound) -> Content
     ensures { λ r. ⌜ r ≡ sayRow found ⌝ }
 {
@@ -317,8 +320,7 @@ fn as_row(found: RowFound) -> Content
 
 // What a keyword's line says; it begins at a place of the file.
 fn keyed_content(keyword: Keyword, l: &[u8], place: usize) -> Content
-    requires { ⌜ length (now l) ≤ lineLimit ⌝ }
-    requires { ⌜ place + length (now l) ≤ 18_446_744_073_709_551_615 ⌝ }
+    requires { ⌜ (length (now l) ≤ lineLimit) × (place + length (now l) ≤ 18_446_744_073_709_551_615) ⌝ }
     ensures { λ r. ⌜ r ≡ contentBy (Keyed keyword) place (now (l .entry)) ⌝ }
 {
     let rest = after_first_word(l);
@@ -332,8 +334,7 @@ fn keyed_content(keyword: Keyword, l: &[u8], place: usize) -> Content
 
 // What a line says by itself, by its form; it begins at a place of the file.
 pub fn content_by(form: Form, l: &[u8], place: usize) -> Content
-    requires { ⌜ length (now l) ≤ lineLimit ⌝ }
-    requires { ⌜ place + length (now l) ≤ 18_446_744_073_709_551_615 ⌝ }
+    requires { ⌜ (length (now l) ≤ lineLimit) × (place + length (now l) ≤ 18_446_744_073_709_551_615) ⌝ }
     ensures { λ r. ⌜ r ≡ contentBy form place (now (l .entry)) ⌝ }
 {
     match form {

@@ -1,6 +1,6 @@
 -- The digits before the unit's point are the quotient of the exact value, those behind it the rest, and both may be kept at limit + 1.
 use Prim.Native.Nat.{ℕ, zero, suc, _+_, _-_, _*_, _/_, _%_, _^_, _≤_, _<_, min}
-use mathlib.Core.Path.{_≡_, refl, sym, ap, _∙_}
+use mathlib.Core.Path.{_≡_, sym, ap, _∙_}
 use mathlib.Core.Bool.{Bool, true, false, cond}
 use mathlib.Core.List.{List, [], _∷_, _++_}
 use native.Mathlib.Nat.{add-mul, add-zero, div-eq-of-lt, mod-eq-of-lt, mul-add-div-right, mul-add-mod-self-right, mul-assoc, mul-le-mul-right, mul-lt-mul-of-pos-right, mul-one, mul-pos, one-mul, pow-le-pow-right, zero-mul}
@@ -10,13 +10,12 @@ use borrow.Author.Tests.{lt-ltb, le-ltb, eq-eqb, ne-eqb}
 use lib.ListN.{length, take, drop, length-append, length-drop, take-append-drop, drop-of-length-le}
 use lib.Pow.{pow-add}
 use lib.Seq.{take-all}
-use Rattle.rules.specs.Grammar.{lineLimit}
 use Rattle.rules.specs.Lines.{digit, every}
 use Rattle.rules.specs.Numerals.{over, spell, under}
 use Rattle.rules.specs.Numbers.{settle}
 use Rattle.rules.specs.declared.Number.{Number}
 use Rattle.rules.proofs.Tests.{and-both, both-and}
-use Rattle.numbers.specs.Cuts.{answer, cutOf, exponentCap, kept, mostLimit, mostPlaces}
+use Rattle.numbers.specs.Cuts.{Served, answer, cutOf, exponentCap, kept, mostLimit}
 use Rattle.numbers.specs.Parts.{numeral}
 use Rattle.numbers.proofs.Digits.{spell-after, spell-append, spell-less, ten-pos}
 use Rattle.numbers.proofs.Joined.{Cut, cut}
@@ -128,7 +127,7 @@ module _ (limit : ℕ) (negative : Bool) (ds : List ℕ) where
 
 -- ---- past the cap a greater exponent changes nothing
 
--- any eighteen zeros are past every limit
+-- a number that is not 0 is past every limit with eighteen zeros after it
 kept-far : (limit m a b : ℕ) → limit ≤ mostLimit → 18 ≤ a → 18 ≤ b → kept limit (m * 10 ^ a) ≡ kept limit (m * 10 ^ b)
 kept-far limit zero a b l h k = rw (zero-mul (10 ^ a), zero-mul (10 ^ b))
 kept-far limit (suc m) a b l h k = omega (arith, large a h, large b k)
@@ -145,10 +144,9 @@ far limit negative ds b c l h k =
     let hc : length ds ≤ c = omega arith in
     rw (take-all b ds hb, take-all c ds hc, drop-of-length-le ds hb, drop-of-length-le ds hc, kept-far limit (spell 0 ds) (b - length ds) (c - length ds) l (omega arith) (omega arith))
 
-module _ (limit : ℕ) (negative : Bool) (w f power : List ℕ) (places : ℕ) (most : limit ≤ mostLimit) (w-short : length w ≤ lineLimit) (f-short : length f ≤ lineLimit) (few : places ≤ mostPlaces)
-    (w-all : every digit w ≡ true) (f-all : every digit f ≡ true) where
+module _ (places limit : ℕ) (negative : Bool) (w f power : List ℕ) (served : Served w f places limit) where
   all : every digit (w ++ f) ≡ true
-  all = every-append w f w-all f-all
+  all = every-append w f (served .whole-digits) (served .fraction-digits)
 
   capped : (down : Bool) (x : ℕ)
       → settle limit negative (spell 0 (w ++ f) * 10 ^ (places + cond down 0 x)) (10 ^ (length f + cond down x 0)) ≡ byCut limit negative (w ++ f) (cutOf (length w) places down (kept exponentCap x))
@@ -158,11 +156,11 @@ module _ (limit : ℕ) (negative : Bool) (w f power : List ℕ) (places : ℕ) (
       exactly : settle limit negative (spell 0 (w ++ f) * 10 ^ (places + x)) (10 ^ (length f + 0)) ≡ byCut limit negative (w ++ f) (length w + places + x)
       exactly = exact-cut limit negative (w ++ f) all (places + x) (length f + 0) (length w + places + x) (omega (arith, length-append w f))
 
-      by : Dec (x ≤ (exponentCap + 1)) → settle limit negative (spell 0 (w ++ f) * 10 ^ (places + x)) (10 ^ (length f + 0)) ≡ byCut limit negative (w ++ f) (length w + places + kept exponentCap x)
+      by : Dec (x ≤ exponentCap + 1) → settle limit negative (spell 0 (w ++ f) * 10 ^ (places + x)) (10 ^ (length f + 0)) ≡ byCut limit negative (w ++ f) (length w + places + kept exponentCap x)
       by (yes h) = let e : kept exponentCap x ≡ x = omega arith in rw e exactly
       by (no h) =
-          let e : kept exponentCap x ≡ (exponentCap + 1) = omega arith in
-          rw e (exactly ∙ far limit negative (w ++ f) (length w + places + x) (length w + places + (exponentCap + 1)) most (omega (arith, length-append w f)) (omega (arith, length-append w f)))
+          let e : kept exponentCap x ≡ exponentCap + 1 = omega arith in
+          rw e (exactly ∙ far limit negative (w ++ f) (length w + places + x) (length w + places + (exponentCap + 1)) (served .low-limit) (omega (arith, length-append w f)) (omega (arith, length-append w f)))
 
   -- ---- what the code computes
 

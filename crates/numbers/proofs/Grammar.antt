@@ -18,7 +18,8 @@ use Rattle.rules.proofs.Numbers.{digits-parts, spells-of}
 use Rattle.rules.proofs.Runs.{after-stops, run-starts}
 use Rattle.scan.proofs.Runs.{run-le}
 use Rattle.numbers.specs.Parts.{DigitsTo, part}
-use Rattle.numbers.proofs.Words.{drop-run, run-there, take-run}
+use Rattle.numbers.proofs.Words.{run-there}
+use Rattle.scan.proofs.Runs.{drop-run, take-run}
 
 -- ---- the exponent
 

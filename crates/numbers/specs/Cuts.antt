@@ -1,7 +1,12 @@
 -- A number's value by a cut of its digits: those before the unit's point are the quotient, those behind it the rest.
-use Prim.Native.Nat.{ℕ, _+_, _-_, min}
-use mathlib.Core.Bool.{Bool, cond}
+use Prim.Native.Nat.{ℕ, _+_, _-_, _≤_, min}
+use mathlib.Core.Path.{_≡_}
+use mathlib.Core.Bool.{Bool, true, cond}
+use mathlib.Core.List.{List}
 use lib.Dec.{eqb, ltb}
+use lib.ListN.{length}
+use Rattle.rules.specs.Grammar.{lineLimit}
+use Rattle.rules.specs.Lines.{digit, every}
 use Rattle.rules.specs.Numerals.{signed}
 use Rattle.rules.specs.declared.Number.{Number}
 use Rattle.rules.specs.declared.Number.the-variants.{Value, Beyond, Finer}
@@ -16,6 +21,15 @@ mostPlaces = 1000
 -- past it a greater exponent changes no answer: every digit stands on one side of the unit's point, and a quotient that is not 0 is past every limit
 abbrev pub exponentCap : ℕ
 exponentCap = 2000
+
+-- what a value is asked of: two runs of digits within a line, and places and a limit that are served
+pub record Served (whole fraction : List ℕ) (places limit : ℕ) : Type 0 where
+  pub whole-short : length whole ≤ lineLimit
+  pub fraction-short : length fraction ≤ lineLimit
+  pub whole-digits : every digit whole ≡ true
+  pub fraction-digits : every digit fraction ≡ true
+  pub few-places : places ≤ mostPlaces
+  pub low-limit : limit ≤ mostLimit
 
 -- a number kept at limit + 1 once it is past the limit
 abbrev pub kept : ℕ → ℕ → ℕ

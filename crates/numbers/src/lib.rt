@@ -1,18 +1,17 @@
-// A word as a number: the grammar finds where its parts stand, and their digits, cut at the unit's point, give its exact value.
+// Document 01, "Lines": a word as a number. The grammar finds where its parts stand, and their digits, cut at the unit's point, give its exact value.
 use rules::Number;
 use scan::ByteKind;
 ghost use mathlib.Core.Path.{_≡_};
-ghost use mathlib.Core.Bool.{true};
 ghost use mathlib.Core.List.{_++_};
 ghost use mathlib.Core.Option.{some};
 ghost use Prim.Native.Nat.{_+_, _-_, _*_, _^_, _≤_, min};
 ghost use lib.Dec.{eqb};
 ghost use lib.ListN.{length, drop};
 ghost use Rattle.rules.specs.Grammar.{lineLimit};
-ghost use Rattle.rules.specs.Lines.{digit, eByte, every, starts};
+ghost use Rattle.rules.specs.Lines.{eByte, starts};
 ghost use Rattle.rules.specs.Numerals.{digits, spell};
 ghost use Rattle.rules.specs.Numbers.{exponentOf, numberOf, numeralOf, unsigned, valueOf};
-ghost use Rattle.numbers.specs.Cuts.{answer, cutOf, exponentCap, kept, mostLimit, mostPlaces};
+ghost use Rattle.numbers.specs.Cuts.{Served, answer, cutOf, exponentCap, kept, mostLimit, mostPlaces};
 ghost use Rattle.numbers.specs.Parts.{DigitsTo, Inside, PowerInside, exponentAt, numeral, numeralAt};
 
 // ---- digits
@@ -168,6 +167,7 @@ fn numeral_in(w: &[u8]) -> NumeralFound
     let pointed = starts_with(&w[point..], b'.');
     let fraction = point + pointed as usize;
     let end = digits_end(w, fraction);
+    // a point has at least one digit after it; without a point there is a whole digit
     let there = if pointed {
         fraction < end
     } else {
@@ -273,9 +273,7 @@ fn value(
     places: usize,
     limit: u64,
 ) -> Number
-    requires { ⌜ (length (now whole) ≤ lineLimit) × (length (now fraction) ≤ lineLimit) ⌝ }
-    requires { ⌜ (every digit (now whole) ≡ true) × (every digit (now fraction) ≡ true) ⌝ }
-    requires { ⌜ (places ≤ mostPlaces) × (limit ≤ mostLimit) ⌝ }
+    requires { ⌜ Served (now whole) (now fraction) places limit ⌝ }
     ensures { λ r. ⌜ r ≡ valueOf places limit (some (numeral negative (now (whole .entry)) (now (fraction .entry)) down (now (power .entry)))) ⌝ }
 {
     let x = spelt(power, 0, EXPONENT_CAP);

@@ -36,6 +36,7 @@ pub mod Unique
 pub mod Checks
 pub mod Promised
 pub mod Untitled
+pub mod Crossing
 -- document 01's cases, and the wrong programs that the promises rule out
 pub mod Cases
 pub mod WrongPrograms

@@ -21,6 +21,7 @@ pub mod Picturing
 -- the paper's number and values of each answer, and what the calls promise
 pub mod Answers
 pub mod Promises
+pub mod Boundary
 -- demands 2 and 3: the other readings of a position, where an accepted file's numbers stand, and what is asked of an accepted look
 pub mod Readings
 pub mod Demands

@@ -1,5 +1,6 @@
 // The types of document 01. What the calls answer and promise over them is in specs/, the theorems are in proofs/.
 ghost use mathlib.Core.Path.{_≡_};
+ghost use Rattle.rules.specs.Answers.{refusalNumber};
 ghost use Rattle.rules.specs.Units.{depthOf};
 
 // ---- units and depths
@@ -208,6 +209,40 @@ pub enum Refusal {
     CodeTooGreat,
     CouldNotBeRead,
     InputTooLong,
+}
+
+impl Refusal {
+    // The number of document 01's table.
+    pub fn number(self) -> u32
+        ensures { λ r. ⌜ r ≡ refusalNumber self ⌝ }
+    {
+        match self {
+            Refusal::LineTooLong => 1,
+            Refusal::ByteNotPermitted => 2,
+            Refusal::NeitherDataNorKeyword => 3,
+            Refusal::KeywordAfterData => 4,
+            Refusal::KeywordRepeated => 5,
+            Refusal::ParametersWrong => 6,
+            Refusal::SizeOutOfRange => 7,
+            Refusal::DomainNumberWrong => 8,
+            Refusal::NoSize => 9,
+            Refusal::LowerNotBelowUpper => 10,
+            Refusal::DomainTooWide => 11,
+            Refusal::DomainsDiffer => 12,
+            Refusal::TableTooShort => 13,
+            Refusal::TooManyRows => 14,
+            Refusal::NotThreeNumbers => 15,
+            Refusal::SampleBeyond => 16,
+            Refusal::SampleTooFine => 17,
+            Refusal::TooFewRows => 18,
+            Refusal::DepthUnknown => 20,
+            Refusal::PictureNotPixels => 21,
+            Refusal::OutputTooShort => 22,
+            Refusal::CodeTooGreat => 23,
+            Refusal::CouldNotBeRead => 24,
+            Refusal::InputTooLong => 30,
+        }
+    }
 }
 
 // What reading answers.

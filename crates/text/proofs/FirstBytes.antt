@@ -1,11 +1,11 @@
 -- What the rules say of a list by its first byte and the rest; and of the empty list, which has none.
 use Prim.Native.Nat.{ℕ, _-_}
 use mathlib.Core.Path.{_≡_, refl}
-use mathlib.Core.Bool.{Bool, true, cond, _&&_}
+use mathlib.Core.Bool.{true, cond, _&&_}
 use mathlib.Core.List.{List, [], _∷_}
 use native.Mathlib.Omega.{arith}
 use lib.ListN.{length, drop, getD}
-use Rattle.rules.specs.Lines.{after, blank, every, hash, inTitle, quote, run, starts, wordsOf}
+use Rattle.rules.specs.Lines.{after, blank, every, hash, inTitle, quote, run, wordsOf}
 use Rattle.rules.specs.Content.{closes, formOf, quoted, wordForm}
 use Rattle.rules.specs.declared.Content.the-variants.{Says, Wrong}
 use Rattle.rules.specs.declared.Form.the-variants.{Idle}
@@ -15,11 +15,6 @@ use Rattle.rules.specs.declared.Refusal.the-variants.{ParametersWrong}
 pub empty-list : (l : List ℕ) → length l ≡ 0 → l ≡ []
 empty-list [] h = refl
 empty-list (b ∷ rest) h = absurd (omega arith)
-
-pub starts-first : (kind : ℕ → Bool) (l : List ℕ) → (length l ≡ 0 → ⊥) → starts kind l ≡ kind (getD l 0 0)
-unfolding starts
-starts-first kind [] h = absurd (h refl)
-starts-first kind (b ∷ rest) h = refl
 
 pub form-first : (l : List ℕ) → (length l ≡ 0 → ⊥) → formOf l ≡ cond (hash (getD l 0 0)) Idle (wordForm (wordsOf l))
 unfolding formOf

@@ -14,7 +14,8 @@ use Rattle.rules.proofs.Runs.{after-stops, run-after, run-every, run-starts}
 use Rattle.rules.proofs.Wordings.{words-first}
 use Rattle.text.specs.WordsFrom.{wordAt, wordEnd, wordStart}
 use Rattle.text.specs.declared.words.Word.the-variants.{At, Nothing}
-use Rattle.text.proofs.RunLaws.{after-drop, end-within, run-take}
+use Rattle.text.proofs.RunLaws.{end-within}
+use Rattle.scan.proofs.Runs.{take-run, drop-run}
 
 -- ---- the first word of a list
 
@@ -58,7 +59,7 @@ pub record WordFound (l : List ℕ) (from start end : ℕ) : Type 0 where
 
 module _ (l : List ℕ) (from : ℕ) where
   past-blanks : after blank (drop from l) ≡ drop (wordStart l from) l
-  past-blanks = after-drop blank (drop from l) ∙ drop-drop (length (run blank (drop from l))) from l
+  past-blanks = sym (drop-run blank (drop from l)) ∙ drop-drop (length (run blank (drop from l))) from l
 
   pub words-none : wordAt l from ≡ Nothing → wordsOf (drop from l) ≡ []
   words-none = split (eqb (wordStart l from) (length l)) refl
@@ -79,7 +80,7 @@ module _ (l : List ℕ) (from : ℕ) where
         onward = omega arith;
         nonempty = omega (arith, word-some x s);
         inside = end-within inWord l a i;
-        words = rw (e, ← drop-drop k a l, ← run-take inWord x, ← after-drop inWord x) (first-word (drop from l) x past-blanks s);
+        words = rw (e, ← drop-drop k a l, take-run inWord x, drop-run inWord x) (first-word (drop from l) x past-blanks s);
       }
 
   pub words-next : (start end : ℕ) → from ≤ length l → wordAt l from ≡ At start end → WordFound l from start end

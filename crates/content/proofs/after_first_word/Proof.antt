@@ -10,9 +10,6 @@ use Rattle.rules.specs.Content.{parameters}
 use Rattle.text.proofs.WordsFrom.{WordFound, words-next, words-none}
 use Rattle.content.proofs.after_first_word.Statement.{statement}
 use Rattle.content.proofs.after_first_word.Tie as tie
-use Rattle.content.proofs.after_first_word.Reads as reads
-use Rattle.content.proofs.after_first_word.Lts as lts
-use Rattle.text.proofs.next_word.Reads as next-word-reads
 
 first-word : (c : tie.After-end) → WordFound (now (c .before .before .before .before .args .l)) 0 (c .end .given .0 .0) (c .end .given .0 .1 .0)
 first-word c = words-next _ 0 _ _ (omega arith) (sym (c .before .before .next-word .ensures) ∙ c .end .given .1)

@@ -5,8 +5,6 @@ use Rattle.rules.specs.declared.Item.the-variants.{OfLower}
 use Rattle.content.specs.Found.{sayBounds}
 use Rattle.content.proofs.as_lower.Statement.{statement}
 use Rattle.content.proofs.as_lower.Tie as tie
-use Rattle.content.proofs.as_lower.Reads as reads
-use Rattle.content.proofs.as_lower.Lts as lts
 
 enum-known-found : tie.Need-enum-known-found
 enum-known-found c = search needs

@@ -4,8 +4,6 @@ use borrow.Author.Needs.{needs}
 use Rattle.content.specs.Found.{sayRow}
 use Rattle.content.proofs.as_row.Statement.{statement}
 use Rattle.content.proofs.as_row.Tie as tie
-use Rattle.content.proofs.as_row.Reads as reads
-use Rattle.content.proofs.as_row.Lts as lts
 
 enum-known-found : tie.Need-enum-known-found
 enum-known-found c = search needs

@@ -5,8 +5,6 @@ use Rattle.rules.specs.declared.Item.the-variants.{OfUpper}
 use Rattle.content.specs.Found.{sayBounds}
 use Rattle.content.proofs.as_upper.Statement.{statement}
 use Rattle.content.proofs.as_upper.Tie as tie
-use Rattle.content.proofs.as_upper.Reads as reads
-use Rattle.content.proofs.as_upper.Lts as lts
 
 enum-known-found : tie.Need-enum-known-found
 enum-known-found c = search needs

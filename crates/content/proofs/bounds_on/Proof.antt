@@ -3,8 +3,6 @@ use denote.Ref.{now}
 use mathlib.Core.Path.{_≡_, ap, _∙_}
 use borrow.Author.Needs.{needs}
 use lib.ListN.{drop}
-use mir.Syntax.{w64}
-use mir.ValLaws.{toZ-ofZ}
 use Rattle.rules.specs.Lines.{wordsOf}
 use Rattle.rules.specs.Content.{boundsAt, boundsOf, values}
 use Rattle.rules.specs.declared.Bounds.{Bounds}
@@ -12,12 +10,9 @@ use Rattle.rules.specs.declared.Content.the-variants.{Says}
 use Rattle.rules.specs.declared.Item.{Item}
 use Rattle.rules.specs.declared.Refusal.the-variants.{DomainNumberWrong, ParametersWrong}
 use Rattle.content.specs.Found.{sayValues}
+use Rattle.content.proofs.InOrder.{held}
 use Rattle.content.proofs.bounds_on.Statement.{statement}
 use Rattle.content.proofs.bounds_on.Tie as tie
-use Rattle.content.proofs.bounds_on.Reads as reads
-use Rattle.content.proofs.bounds_on.Lts as lts
-use Rattle.content.proofs.three_numbers.Reads as three-numbers-reads
-use Rattle.content.proofs.values_of.Reads as values-of-reads
 
 said : (c : tie.After-values-of) (side : Bounds → Item)
     → let a = c .before .before .before .args in
@@ -42,15 +37,10 @@ enum-known-r c = search needs
 returns : tie.Need-returns
 returns c =
     λ side.
-        let k = c .before .before .before in
-        let t = k .before .t .given in
-        let f = c .struct-told3 .given in
-        rw (
-          toZ-ofZ w64 (t .0 .0 .x) (record { sfits = f .0 .1 }),
-          toZ-ofZ w64 (t .0 .0 .y) (record { sfits = f .1 .0 .1 }),
-          toZ-ofZ w64 (t .0 .0 .z) (record { sfits = f .1 .1 .0 .1 }),
-        )
-        (rw (t .1) at (said (k .before .before .before) side))
+    let k = c .before .before .before in
+    let t = k .before .t .given in
+    let f = c .struct-told3 .given in
+    held (λ x y z. Says (side (boundsAt x y z))) (t .0 .0 .x) (t .0 .0 .y) (t .0 .0 .z) (f .0 .1) (f .1 .0 .1) (f .1 .1 .0 .1) ∙ (rw (t .1) at (said (k .before .before .before) side))
 
 returns-2 : tie.Need-returns-2
 returns-2 c = λ side. rw (c .before .r .given .1) at (said (c .before .before .before) side)

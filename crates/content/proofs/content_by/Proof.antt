@@ -1,16 +1,9 @@
 -- The form's variant picks the definition's clause.
-use denote.Ref.{now}
-use mathlib.Core.Path.{sym, ap, _∙_}
+use mathlib.Core.Path.{_∙_}
 use borrow.Author.Needs.{needs}
 use Rattle.rules.specs.Content.{contentBy}
-use Rattle.content.specs.Found.{sayRow}
 use Rattle.content.proofs.content_by.Statement.{statement}
 use Rattle.content.proofs.content_by.Tie as tie
-use Rattle.content.proofs.content_by.Reads as reads
-use Rattle.content.proofs.content_by.Lts as lts
-use Rattle.content.proofs.as_row.Reads as as-row-reads
-use Rattle.content.proofs.keyed_content.Reads as keyed-content-reads
-use Rattle.content.proofs.row_on.Reads as row-on-reads
 
 enum-told : tie.Need-enum-told
 enum-told c = search needs

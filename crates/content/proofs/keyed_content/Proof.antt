@@ -1,20 +1,10 @@
 -- The line's words past the first are the keyword's parameters; a title is found in the line itself.
-use denote.Ref.{now}
-use mathlib.Core.Path.{sym, ap, _∙_}
+use mathlib.Core.Path.{ap, _∙_}
 use borrow.Author.Needs.{needs}
 use Rattle.rules.specs.Content.{boundsOf, contentBy, sizeOf}
-use Rattle.rules.specs.declared.Form.the-variants.{Keyed}
 use Rattle.rules.specs.declared.Item.the-variants.{OfLower, OfUpper}
 use Rattle.content.proofs.keyed_content.Statement.{statement}
 use Rattle.content.proofs.keyed_content.Tie as tie
-use Rattle.content.proofs.keyed_content.Reads as reads
-use Rattle.content.proofs.keyed_content.Lts as lts
-use Rattle.content.proofs.after_first_word.Reads as after-first-word-reads
-use Rattle.content.proofs.as_lower.Reads as as-lower-reads
-use Rattle.content.proofs.as_upper.Reads as as-upper-reads
-use Rattle.content.proofs.bounds_on.Reads as bounds-on-reads
-use Rattle.content.proofs.size_on.Reads as size-on-reads
-use Rattle.text.proofs.title_of.Reads as title-of-reads
 
 after-first-word-requires : tie.Need-after-first-word-requires
 after-first-word-requires c κs = search needs

@@ -2,20 +2,15 @@
 use denote.Ref.{now}
 use mathlib.Core.Path.{_≡_, ap, _∙_}
 use borrow.Author.Needs.{needs}
-use mir.Syntax.{w64}
-use mir.ValLaws.{toZ-ofZ}
 use Rattle.rules.specs.Lines.{wordsOf}
 use Rattle.rules.specs.Content.{rowOf, samplesOn, values}
 use Rattle.rules.specs.declared.Content.the-variants.{Says}
 use Rattle.rules.specs.declared.Item.the-variants.{OfRow}
 use Rattle.rules.specs.declared.Refusal.the-variants.{NotThreeNumbers, SampleBeyond, SampleTooFine}
 use Rattle.content.specs.Found.{sayValues}
+use Rattle.content.proofs.InOrder.{held}
 use Rattle.content.proofs.row_on.Statement.{statement}
 use Rattle.content.proofs.row_on.Tie as tie
-use Rattle.content.proofs.row_on.Reads as reads
-use Rattle.content.proofs.row_on.Lts as lts
-use Rattle.content.proofs.three_numbers.Reads as three-numbers-reads
-use Rattle.content.proofs.values_of.Reads as values-of-reads
 
 said : (c : tie.After-values-of) → sayValues (c .values-of .result) (λ x y z. Says (OfRow (rowOf x y z))) ≡ samplesOn (wordsOf (now (c .before .before .before .args .l)))
 unfolding samplesOn
@@ -40,12 +35,7 @@ returns c =
     let k = c .before .before .before in
     let t = k .before .t .given in
     let f = c .struct-told3 .given in
-    rw (
-      toZ-ofZ w64 (t .0 .0 .x) (record { sfits = f .0 .1 }),
-      toZ-ofZ w64 (t .0 .0 .y) (record { sfits = f .1 .0 .1 }),
-      toZ-ofZ w64 (t .0 .0 .z) (record { sfits = f .1 .1 .0 .1 }),
-    )
-    (rw (t .1) at (said (k .before .before .before)))
+    held (λ x y z. Says (OfRow (rowOf x y z))) (t .0 .0 .x) (t .0 .0 .y) (t .0 .0 .z) (f .0 .1) (f .1 .0 .1) (f .1 .1 .0 .1) ∙ (rw (t .1) at (said (k .before .before .before)))
 
 returns-2 : tie.Need-returns-2
 returns-2 c = rw (c .before .r .given .1) at (said (c .before .before .before))

@@ -1,18 +1,11 @@
 -- The tests in the order of the definition, on N kept at one past its greatest.
-use denote.Ref.{now}
-use Prim.Native.Nat.{_<_, _≤_}
-use mathlib.Core.Path.{sym, ap, _∙_}
+use mathlib.Core.Path.{sym, _∙_}
 use native.Mathlib.Omega.{arith}
 use borrow.Author.Needs.{needs}
 use borrow.Author.Tests.{not-true, not-false}
 use Rattle.content.proofs.Sizes.{in-range, no-digits, too-great, too-small}
 use Rattle.content.proofs.size_in.Statement.{statement}
 use Rattle.content.proofs.size_in.Tie as tie
-use Rattle.content.proofs.size_in.Reads as reads
-use Rattle.content.proofs.size_in.Lts as lts
-use Rattle.content.proofs.greatest_n.Reads as greatest-n-reads
-use Rattle.numbers.proofs.is_digits.Reads as is-digits-reads
-use Rattle.numbers.proofs.spelt.Reads as spelt-reads
 
 is-digits-requires : tie.Need-is-digits-requires
 is-digits-requires c κs = search needs

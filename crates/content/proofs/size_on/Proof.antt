@@ -2,17 +2,13 @@
 use denote.Ref.{now}
 use Prim.Native.Nat.{ℕ}
 use mathlib.Core.List.{List}
-use mathlib.Core.Path.{sym, ap, _∙_}
+use mathlib.Core.Path.{sym, _∙_}
 use native.Mathlib.Omega.{arith}
 use borrow.Author.Needs.{needs}
 use Rattle.rules.specs.Content.{sizeOf}
 use Rattle.text.proofs.WordsFrom.{WordFound, words-next, words-none}
 use Rattle.content.proofs.size_on.Statement.{statement}
 use Rattle.content.proofs.size_on.Tie as tie
-use Rattle.content.proofs.size_on.Reads as reads
-use Rattle.content.proofs.size_on.Lts as lts
-use Rattle.content.proofs.size_in.Reads as size-in-reads
-use Rattle.text.proofs.next_word.Reads as next-word-reads
 
 -- the line, and the word found in it
 abbrev line : tie.After-start → List ℕ
@@ -51,10 +47,10 @@ returns-2 c =
     rw (w .words, v .words)
 
 sub-size-in : tie.Need-sub-size-in
-sub-size-in c = omega (arith, word (c .before .before .before .before) .some)
+sub-size-in c = omega (arith, word (c .before .before .before .before) .nonempty)
 
 part-size-in-start : tie.Need-part-size-in-start
-part-size-in-start c = omega (arith, word (c .before .before .before .before) .some)
+part-size-in-start c = omega (arith, word (c .before .before .before .before) .nonempty)
 
 part-size-in-end : tie.Need-part-size-in-end
 part-size-in-end c = word (c .before .before .before .before) .inside

@@ -6,9 +6,6 @@ use borrow.Author.Tests.{not-true, not-false}
 use Rattle.rules.specs.Content.{formed}
 use Rattle.content.proofs.three_formed.Statement.{statement}
 use Rattle.content.proofs.three_formed.Tie as tie
-use Rattle.content.proofs.three_formed.Reads as reads
-use Rattle.content.proofs.three_formed.Lts as lts
-use Rattle.content.proofs.is_formed.Reads as is-formed-reads
 
 first-formed : (c : tie.Else1) → formed (c .before .before .args .first) ≡ true
 first-formed c = sym (c .before .is-formed .ensures) ∙ not-false _ (c .if1 .left)

@@ -11,11 +11,6 @@ use Rattle.text.proofs.WordsFrom.{WordFound, words-next, words-none}
 use Rattle.content.proofs.ThreeWords.{more-words, no-word, one-word, three-words, two-words}
 use Rattle.content.proofs.three_numbers.Statement.{statement}
 use Rattle.content.proofs.three_numbers.Tie as tie
-use Rattle.content.proofs.three_numbers.Reads as reads
-use Rattle.content.proofs.three_numbers.Lts as lts
-use Rattle.content.proofs.three_formed.Reads as three-formed-reads
-use Rattle.numbers.proofs.number_of.Reads as number-of-reads
-use Rattle.text.proofs.next_word.Reads as next-word-reads
 
 -- the line, and the words found in it
 abbrev line : tie.After-a → List ℕ
@@ -89,10 +84,10 @@ returns-4 c =
     sym (more-words _ _ (first (v .before .before .before .before)) (second v) (third w) x)
 
 sub-number-of : tie.Need-sub-number-of
-sub-number-of c = omega (arith, first (c .before .before .before .before .before .before .before .before .before .before .before .before) .some)
+sub-number-of c = omega (arith, first (c .before .before .before .before .before .before .before .before .before .before .before .before) .nonempty)
 
 part-number-of-start : tie.Need-part-number-of-start
-part-number-of-start c = omega (arith, first (c .before .before .before .before .before .before .before .before .before .before .before .before) .some)
+part-number-of-start c = omega (arith, first (c .before .before .before .before .before .before .before .before .before .before .before .before) .nonempty)
 
 part-number-of-end : tie.Need-part-number-of-end
 part-number-of-end c = first (c .before .before .before .before .before .before .before .before .before .before .before .before) .inside
@@ -103,10 +98,10 @@ number-of-requires c κs =
     (short u (u .a .given .0 .0) (u .a .given .0 .1 .0), u .before .before .before .before .pre .1 .0, u .before .before .before .before .pre .1 .1)
 
 sub-number-of-2 : tie.Need-sub-number-of-2
-sub-number-of-2 c = omega (arith, second (c .before .before .before .before .before .before .before .before .before .before) .some)
+sub-number-of-2 c = omega (arith, second (c .before .before .before .before .before .before .before .before .before .before) .nonempty)
 
 part-number-of-start-2 : tie.Need-part-number-of-start-2
-part-number-of-start-2 c = omega (arith, second (c .before .before .before .before .before .before .before .before .before .before) .some)
+part-number-of-start-2 c = omega (arith, second (c .before .before .before .before .before .before .before .before .before .before) .nonempty)
 
 part-number-of-end-2 : tie.Need-part-number-of-end-2
 part-number-of-end-2 c = second (c .before .before .before .before .before .before .before .before .before .before) .inside
@@ -118,10 +113,10 @@ number-of-requires-2 c κs =
     (short u (v .c .given .0 .0) (v .c .given .0 .1 .0), u .before .before .before .before .pre .1 .0, u .before .before .before .before .pre .1 .1)
 
 sub-number-of-3 : tie.Need-sub-number-of-3
-sub-number-of-3 c = omega (arith, third (c .before .before .before .before .before .before .before .before) .some)
+sub-number-of-3 c = omega (arith, third (c .before .before .before .before .before .before .before .before) .nonempty)
 
 part-number-of-start-3 : tie.Need-part-number-of-start-3
-part-number-of-start-3 c = omega (arith, third (c .before .before .before .before .before .before .before .before) .some)
+part-number-of-start-3 c = omega (arith, third (c .before .before .before .before .before .before .before .before) .nonempty)
 
 part-number-of-end-3 : tie.Need-part-number-of-end-3
 part-number-of-end-3 c = third (c .before .before .before .before .before .before .before .before) .inside
@@ -144,8 +139,7 @@ returns-5 c =
     let w = end .before .before .before .before in
     let v = w .before .before .before .before in
     let n = words-none _ _ (sym (end .before .before .next-word4 .ensures) ∙ end .enum-told4 .given .1) in
-    c .three-formed .ensures
-    ∙ sym (three-words _ _ (first (v .before .before .before .before)) (second v) (third w) n _ _ _ (x .number-of .ensures) (y .number-of2 .ensures) (z .number-of3 .ensures))
+    sym (three-words _ _ (first (v .before .before .before .before)) (second v) (third w) n _ _ _ (x .number-of .ensures) (y .number-of2 .ensures) (z .number-of3 .ensures) _ (c .three-formed .ensures))
 
 pub three-numbers-spec : {M : Type 1} → statement M
 three-numbers-spec =

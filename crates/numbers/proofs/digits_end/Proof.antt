@@ -5,7 +5,7 @@ use borrow.Author.Needs.{needs}
 use lib.ListN.{length}
 use Rattle.rules.specs.Lines.{digit, run}
 use Rattle.numbers.proofs.Grammar.{digits-to}
-use Rattle.numbers.proofs.Words.{to-end}
+use Rattle.scan.proofs.Runs.{part-to-end}
 use Rattle.numbers.proofs.digits_end.Statement.{statement}
 use Rattle.numbers.proofs.digits_end.Tie as tie
 
@@ -28,7 +28,7 @@ returns : tie.Need-returns
 returns c =
     let s = c .before .before .before in
     let w = now (s .args .w) in
-    digits-to w (s .args .from) (c .run-length .result) (s .pre) (c .run-length .ensures .0 ∙ ap (λ l. length (run digit l)) (to-end w (s .args .from)))
+    digits-to w (s .args .from) (c .run-length .result) (s .pre) (c .run-length .ensures .0 ∙ ap (λ l. length (run digit l)) (part-to-end w (s .args .from)))
 
 pub digits-end-spec : {M : Type 1} → statement M
 digits-end-spec =

@@ -8,7 +8,8 @@ use lib.Dec.{eqb}
 use lib.ListN.{length}
 use Rattle.rules.specs.Lines.{digit, run}
 use Rattle.rules.specs.Numerals.{digits}
-use Rattle.numbers.proofs.Words.{run-all, run-there}
+use Rattle.numbers.proofs.Words.{run-there}
+use Rattle.scan.proofs.Runs.{every-run}
 use Rattle.numbers.proofs.is_digits.Statement.{statement}
 use Rattle.numbers.proofs.is_digits.Tie as tie
 
@@ -26,7 +27,7 @@ unfolding digits
 returns-2 c =
     let w = now (c .before .before .before .args .w) in
     rw (run-there digit w, lt-ltb 0 (length (run digit w)) (omega (arith, c .before .run-length .ensures .0)))
-    (ap (λ n. eqb n (length w)) (c .before .run-length .ensures .0) ∙ sym (run-all digit w))
+    (ap (λ n. eqb n (length w)) (c .before .run-length .ensures .0) ∙ sym (every-run digit w))
 
 pub is-digits-spec : {M : Type 1} → statement M
 is-digits-spec = tie.close (tie.spec run-length-requires returns returns-2)

@@ -12,7 +12,7 @@ use Rattle.rules.specs.Numbers.{numberOf, numeralOf, valueOf}
 use Rattle.numbers.specs.Parts.{Placed, numeral, part}
 use Rattle.numbers.specs.declared.Parts.{Parts}
 use Rattle.numbers.proofs.Grammar.{numeral-digits}
-use Rattle.numbers.proofs.Words.{to-end}
+use Rattle.scan.proofs.Runs.{part-to-end}
 use Rattle.numbers.proofs.number_of.Statement.{statement}
 use Rattle.numbers.proofs.number_of.Tie as tie
 
@@ -81,14 +81,22 @@ value-requires c κs =
     let k = c .before .before .before .before in
     let p = parts k in
     let h = k .before .before .before .before .pre in
-    ((omega (arith, part-short (word k) (p .whole) (p .point)), omega (arith, part-short (word k) (p .fraction) (p .end))), (numeral-digits (word k) _ (stands k), (h .1, h .2)))
+    let d = numeral-digits (word k) _ (stands k) in
+    record {
+      whole-short = omega (arith, part-short (word k) (p .whole) (p .point));
+      fraction-short = omega (arith, part-short (word k) (p .fraction) (p .end));
+      whole-digits = d .0;
+      fraction-digits = d .1;
+      few-places = h .1;
+      low-limit = h .2;
+    }
 
 returns-2 : tie.Need-returns-2
 unfolding numberOf
 returns-2 c =
     let k = c .before .before .before .before .before in
     let a = k .before .before .before .before .args in
-    c .value .ensures ∙ ap (λ l. valueOf (a .places) (a .limit) (some (with k l))) (to-end (word k) (parts k .power)) ∙ sym (ap (valueOf (a .places) (a .limit)) (stands k))
+    c .value .ensures ∙ ap (λ l. valueOf (a .places) (a .limit) (some (with k l))) (part-to-end (word k) (parts k .power)) ∙ sym (ap (valueOf (a .places) (a .limit)) (stands k))
 
 pub number-of-spec : {M : Type 1} → statement M
 number-of-spec =

@@ -19,7 +19,8 @@ use Rattle.rules.specs.Numbers.{assemble, exponentOf, numeralOf}
 use Rattle.numbers.specs.Parts.{PowerInside, exponentAt, part}
 use Rattle.numbers.specs.declared.PowerFound.{PowerFound}
 use Rattle.numbers.proofs.Grammar.{numeral-by}
-use Rattle.numbers.proofs.Words.{starts-room, to-end}
+use Rattle.numbers.proofs.Words.{starts-room}
+use Rattle.scan.proofs.Runs.{part-to-end}
 use Rattle.numbers.proofs.numeral_in.Statement.{statement}
 use Rattle.numbers.proofs.numeral_in.Tie as tie
 
@@ -38,7 +39,7 @@ abbrev fraction : tie.After-starts-with2 → ℕ
 fraction c = point c + boolByte (c .starts-with2 .result)
 
 is-pointed : (c : tie.After-starts-with2) → c .starts-with2 .result ≡ starts pointByte (drop (point c) (word c))
-is-pointed c = c .starts-with2 .ensures ∙ ap (starts pointByte) (to-end (word c) (point c))
+is-pointed c = c .starts-with2 .ensures ∙ ap (starts pointByte) (part-to-end (word c) (point c))
 
 fraction-in : (c : tie.After-starts-with2) → fraction c ≤ length (word c)
 fraction-in c =
@@ -84,7 +85,7 @@ says : (c : tie.After-power-in) (r : PowerFound) → c .power-in .result ≡ r �
 says c r e =
     let k = found c in
     let t = c .before .before in
-    let p = rw (to-end (word (k .before)) (end k)) at (c .power-in .ensures) in
+    let p = rw (part-to-end (word (k .before)) (end k)) at (c .power-in .ensures) in
     subst (Says k) e (ap (with k) (p .0) ∙ read k true (sym (tested (t .before)) ∙ not-false _ (t .if2 .left)), p .1)
 
 power-within : (c : tie.After-p) → let k = found (c .before .before) in end k + c .p .given .0 .0 .start ≤ length (word (k .before))

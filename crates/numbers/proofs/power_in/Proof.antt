@@ -14,7 +14,7 @@ use Rattle.rules.specs.Numerals.{digits}
 use Rattle.rules.specs.Numbers.{exponentOf}
 use Rattle.numbers.specs.Parts.{part}
 use Rattle.numbers.proofs.Grammar.{exponent-absent, exponent-by, exponent-there}
-use Rattle.numbers.proofs.Words.{to-end}
+use Rattle.scan.proofs.Runs.{part-to-end}
 use Rattle.numbers.proofs.power_in.Statement.{statement}
 use Rattle.numbers.proofs.power_in.Tie as tie
 
@@ -33,8 +33,8 @@ read c =
     let e = text k in
     let n = s .sign-length .result in
     exponent-by e (k .is-e .result) (s .before .starts-with .result) (c .is-digits .result) n (k .before .before .if1 .left) (k .is-e .ensures)
-    (s .before .starts-with .ensures ∙ ap (starts minusByte) (to-end e 1)) (rw (to-end e 1) at (s .sign-length .ensures .0))
-    (c .is-digits .ensures ∙ ap digits (to-end (part e 1 (length e)) n ∙ ap (drop n) (to-end e 1)))
+    (s .before .starts-with .ensures ∙ ap (starts minusByte) (part-to-end e 1)) (rw (part-to-end e 1) at (s .sign-length .ensures .0))
+    (c .is-digits .ensures ∙ ap digits (part-to-end (part e 1 (length e)) n ∙ ap (drop n) (part-to-end e 1)))
 
 returns : tie.Need-returns
 returns c = (exponent-absent (now (c .before .before .args .e)) (c .if1 .taken), omega arith)

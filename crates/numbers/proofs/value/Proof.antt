@@ -10,7 +10,7 @@ use lib.Seq.{length-take-le}
 use Rattle.rules.specs.Numerals.{spell}
 use Rattle.numbers.specs.Cuts.{answer, cutOf, kept}
 use Rattle.numbers.proofs.Exact.{exact}
-use Rattle.numbers.proofs.Words.{to-end}
+use Rattle.scan.proofs.Runs.{part-to-end}
 use Rattle.numbers.proofs.value.Statement.{statement}
 use Rattle.numbers.proofs.value.Tie as tie
 
@@ -87,8 +87,8 @@ returns c =
     let n = b .smaller2 .result in
     c .conclude .ensures
     ∙ ap₂ (answer limit (g .args .negative)) (q .padded .ensures ∙ ap (λ k. kept limit (k * 10 ^ (cut - m - n))) (q .before .spelt-both .ensures))
-    (r .spelt-both2 .ensures ∙ ap₂ (λ k l. kept limit (spell 0 (k ++ l))) (to-end w m) (to-end f n))
-    ∙ exact limit (g .args .negative) w f (now (g .args .power)) (g .args .places) (g .pre .1 .1 .1) (g .pre .0 .0) (g .pre .0 .1) (g .pre .1 .1 .0) (g .pre .1 .0 .0) (g .pre .1 .0 .1) (g .args .down) cut m n
+    (r .spelt-both2 .ensures ∙ ap₂ (λ k l. kept limit (spell 0 (k ++ l))) (part-to-end w m) (part-to-end f n))
+    ∙ exact (g .args .places) limit (g .args .negative) w f (now (g .args .power)) (g .pre) (g .args .down) cut m n
     (a .before .cut-at .ensures ∙ ap (cutOf (length w) (g .args .places) (g .args .down)) (x .spelt .ensures)) (a .smaller .ensures) (b .smaller2 .ensures)
 
 pub value-spec : {M : Type 1} → statement M

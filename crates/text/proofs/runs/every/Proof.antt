@@ -2,7 +2,7 @@
 use denote.Ref.{now}
 use borrow.Author.Needs.{needs}
 use Rattle.scan.specs.Kinds.{kindOf}
-use Rattle.text.proofs.RunLaws.{every-run}
+use Rattle.scan.proofs.Runs.{every-run}
 use Rattle.text.proofs.runs.every.Statement.{statement}
 use Rattle.text.proofs.runs.every.Tie as tie
 

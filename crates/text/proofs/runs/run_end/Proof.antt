@@ -7,7 +7,7 @@ use borrow.Author.Needs.{needs}
 use lib.ListN.{length}
 use Rattle.rules.specs.Lines.{run}
 use Rattle.scan.specs.Kinds.{kindOf}
-use Rattle.text.proofs.RunLaws.{part-to-end}
+use Rattle.scan.proofs.Runs.{part-to-end}
 use Rattle.text.proofs.runs.run_end.Statement.{statement}
 use Rattle.text.proofs.runs.run_end.Tie as tie
 

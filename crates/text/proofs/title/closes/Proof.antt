@@ -6,7 +6,7 @@ use borrow.Author.Needs.{needs}
 use Rattle.rules.specs.Content.{closes}
 use Rattle.rules.specs.Lines.{blank, every}
 use Rattle.text.proofs.FirstBytes.{closes-first, empty-list}
-use Rattle.text.proofs.RunLaws.{part-to-end}
+use Rattle.scan.proofs.Runs.{part-to-end}
 use Rattle.text.proofs.title.closes.Statement.{statement}
 use Rattle.text.proofs.title.closes.Tie as tie
 

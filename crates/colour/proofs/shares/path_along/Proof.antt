@@ -1,0 +1,126 @@
+-- Each case knows its order by its own two tests, and the last by all that were left.
+use mathlib.Core.Path.{_≡_}
+use mathlib.Core.Logic.{inl, inr, ⊎-elim}
+use Prim.Native.Nat.{ℕ, _+_, _≤_}
+use native.Mathlib.Omega.{arith}
+use borrow.Author.Tests.{leb-true, leb-false, ltb-true, ltb-false}
+use Rattle.rules.specs.Interpolation.{Order, 1st, 2nd, 3rd, rgb, rbg, brg, grb, gbr, bgr, order}
+use Rattle.rules.specs.declared.Colour.{Colour}
+use Rattle.rules.specs.declared.Colour.the-variants.{Red, Green, Blue}
+use Rattle.colour.specs.Places.{three}
+use Rattle.colour.proofs.Orders.{is-rgb, is-rbg, is-brg, is-grb, is-gbr, is-bgr, none-of-five, descends, in-order}
+use Rattle.colour.proofs.shares.path_along.Statement.{statement}
+use Rattle.colour.proofs.shares.path_along.Tie as tie
+
+-- ---- what holds in every case
+
+module _ (c : tie.Start) where
+  abbrev f : Colour → ℕ
+  f = three (c .args .red .fraction) (c .args .green .fraction) (c .args .blue .fraction)
+
+  abbrev s : Colour → ℕ
+  s = three (c .args .red .stride) (c .args .green .stride) (c .args .blue .stride)
+
+  parts : (k : Colour) → f k ≤ c .args .den
+  parts Red = c .pre .1 .1 .0
+  parts Green = c .pre .1 .1 .1 .0
+  parts Blue = c .pre .1 .1 .1 .1
+
+  -- in whatever order the steps are taken, they lead to the same row
+  same-end : (o : Order) → c .args .start + s (1st o) + s (2nd o) + s (3rd o) ≤ 16_777_216
+  same-end rgb = c .pre .0
+  same-end rbg = omega (arith, c .pre .0)
+  same-end brg = omega (arith, c .pre .0)
+  same-end grb = omega (arith, c .pre .0)
+  same-end gbr = omega (arith, c .pre .0)
+  same-end bgr = omega (arith, c .pre .0)
+
+  -- what `climbed` asks for
+  fits : (o : Order) → order f ≡ o
+      → (c .args .start + s (1st o) + s (2nd o) + s (3rd o) ≤ 16_777_216)
+      × ((c .args .den ≤ 655_350_000) × ((f (1st o) ≤ c .args .den) × ((f (2nd o) ≤ f (1st o)) × (f (3rd o) ≤ f (2nd o)))))
+  fits o e = let down = descends f o e in (same-end o, (c .pre .1 .0, (parts (1st o), (down .upper, down .lower))))
+
+-- ---- the six cases
+
+case-1 : (c : tie.Then2) → order (f (c .before .before)) ≡ rgb
+case-1 c = is-rgb _ _ _ (c .before .if1 .taken) (leb-true _ _ (c .if2 .taken))
+
+climbed-requires : tie.Need-climbed-requires
+climbed-requires c κs = fits (c .before .before) rgb (case-1 c)
+
+returns : tie.Need-returns
+returns c = in-order _ _ _ _ rgb _ (case-1 (c .before)) (c .climbed .ensures)
+
+case-2 : (c : tie.Then4) → order (f (c .before .before .before)) ≡ rbg
+case-2 c = is-rbg _ _ _ (c .before .if3 .taken) (ltb-true _ _ (c .if4 .taken))
+
+climbed-requires-2 : tie.Need-climbed-requires-2
+climbed-requires-2 c κs = fits (c .before .before .before) rbg (case-2 c)
+
+returns-2 : tie.Need-returns-2
+returns-2 c = in-order _ _ _ _ rbg _ (case-2 (c .before)) (c .climbed2 .ensures)
+
+case-3 : (c : tie.Then6) → order (f (c .before .before .before .before)) ≡ brg
+case-3 c = is-brg _ _ _ (c .before .if5 .taken) (leb-true _ _ (c .if6 .taken))
+
+climbed-requires-3 : tie.Need-climbed-requires-3
+climbed-requires-3 c κs = fits (c .before .before .before .before) brg (case-3 c)
+
+returns-3 : tie.Need-returns-3
+returns-3 c = in-order _ _ _ _ brg _ (case-3 (c .before)) (c .climbed3 .ensures)
+
+case-4 : (c : tie.Then8) → order (f (c .before .before .before .before .before)) ≡ grb
+case-4 c = is-grb _ _ _ (c .before .if7 .taken) (leb-true _ _ (c .if8 .taken))
+
+climbed-requires-4 : tie.Need-climbed-requires-4
+climbed-requires-4 c κs = fits (c .before .before .before .before .before) grb (case-4 c)
+
+returns-4 : tie.Need-returns-4
+returns-4 c = in-order _ _ _ _ grb _ (case-4 (c .before)) (c .climbed4 .ensures)
+
+case-5 : (c : tie.Then10) → order (f (c .before .before .before .before .before .before)) ≡ gbr
+case-5 c = is-gbr _ _ _ (c .before .if9 .taken) (ltb-true _ _ (c .if10 .taken))
+
+climbed-requires-5 : tie.Need-climbed-requires-5
+climbed-requires-5 c κs = fits (c .before .before .before .before .before .before) gbr (case-5 c)
+
+returns-5 : tie.Need-returns-5
+returns-5 c = in-order _ _ _ _ gbr _ (case-5 (c .before)) (c .climbed5 .ensures)
+
+case-6 : (c : tie.Joined9) → order (f (c .before .before .before .before .before)) ≡ bgr
+case-6 c =
+    let j7 = c .before in
+    let j5 = j7 .before in
+    let j3 = j5 .before in
+    let j1 = j3 .before in
+    let left = none-of-five _ _ _
+    (⊎-elim (λ t. inl (leb-false _ _ (t .1 .left))) (λ e. inr (e .left)) (j1 .if1 .came))
+    (⊎-elim (λ t. inl (ltb-false _ _ (t .1 .left))) (λ e. inr (e .left)) (j3 .if3 .came))
+    (⊎-elim (λ t. inl (leb-false _ _ (t .1 .left))) (λ e. inr (e .left)) (j5 .if5 .came))
+    (⊎-elim (λ t. inl (leb-false _ _ (t .1 .left))) (λ e. inr (e .left)) (j7 .if7 .came))
+    (⊎-elim (λ t. inl (ltb-false _ _ (t .1 .left))) (λ e. inr (e .left)) (c .if9 .came)) in
+    is-bgr _ _ _ (left .0) (left .1)
+
+climbed-requires-6 : tie.Need-climbed-requires-6
+climbed-requires-6 c κs = fits (c .before .before .before .before .before) bgr (case-6 c)
+
+returns-6 : tie.Need-returns-6
+returns-6 c = in-order _ _ _ _ bgr _ (case-6 (c .before)) (c .climbed6 .ensures)
+
+pub path-along-spec : {M : Type 1} → statement M
+path-along-spec =
+    tie.close
+    (tie.spec
+    climbed-requires
+    returns
+    climbed-requires-2
+    returns-2
+    climbed-requires-3
+    returns-3
+    climbed-requires-4
+    returns-4
+    climbed-requires-5
+    returns-5
+    climbed-requires-6
+    returns-6)

@@ -1,0 +1,3 @@
+-- What only the code needs: nothing here has to be believed.
+pub mod Places
+pub mod Adding

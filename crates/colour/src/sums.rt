@@ -1,0 +1,148 @@
+// Rows of the table, weighed and added up (document 01, "Interpolation").
+use rules::Colour;
+use rules::Kind;
+use rules::Share;
+use rules::Shares;
+use rules::TenMillionths;
+use whole::Whole;
+ghost use mathlib.Core.Path.{_≡_};
+ghost use mathlib.Core.List.{[], _∷_};
+ghost use Prim.Native.Nat.{_*_, _≤_};
+ghost use lib.IntN.{pos, natAbs};
+ghost use lib.ListN.{length, getD};
+ghost use Rattle.rules.specs.Units.{sampleLimit, colourPlace, sampleAt};
+ghost use Rattle.rules.specs.Demands.{used};
+ghost use Rattle.colour.specs.Adding.{RowAt, Room, Added, sumIn, SharesFit, Totalled};
+
+// A sum of weight times sample for each colour.
+pub struct Sums {
+    pub red: Whole,
+    pub green: Whole,
+    pub blue: Whole,
+}
+
+// ---- one term more
+
+fn place_of(c: Colour) -> usize
+    ensures { λ r. ⌜ r ≡ colourPlace c ⌝ }
+{
+    match c {
+        Colour::Red => 0,
+        Colour::Green => 1,
+        Colour::Blue => 2,
+    }
+}
+
+// The number of a colour in the row that this part of the table starts at.
+fn sample_of(part: &[i64], c: Colour) -> TenMillionths
+    requires { ⌜ 3 ≤ length (now part) ⌝ }
+    ensures { λ r. ⌜ r .0 ≡ getD (now (part .entry)) (colourPlace c) (pos 0) ⌝ }
+{
+    let at = place_of(c);
+    TenMillionths(part[at])
+}
+
+// The sum with one term more in front.
+fn with_term(sum: Whole, weight: Whole, sample: TenMillionths) -> Whole
+    requires { ⌜ Room (sum .0) (weight .0) ⌝ }
+    requires { ⌜ natAbs (sample .0) ≤ sampleLimit ⌝ }
+    ensures { λ r. ⌜ Added (sample .0) (weight .0) (sum .0) (r .0) ⌝ }
+{
+    let value = Whole(sample.0);
+    weight.times(value).plus(sum)
+}
+
+// The number of one colour, weighed.
+fn with_number(sum: Whole, weight: Whole, part: &[i64], c: Colour) -> Whole
+    requires { ⌜ Room (sum .0) (weight .0) ⌝ }
+    requires { ⌜ RowAt (now part) 0 ⌝ }
+    ensures { λ r. ⌜ Added (sampleAt (now (part .entry)) 0 c) (weight .0) (sum .0) (r .0) ⌝ }
+{
+    with_term(sum, weight, sample_of(part, c))
+}
+
+// The three numbers of a row at once.
+fn with_row(sums: Sums, weight: Whole, part: &[i64]) -> Sums
+    requires { ⌜ ((c : Colour) → Room (sumIn sums c) (weight .0)) ⌝ }
+    requires { ⌜ RowAt (now part) 0 ⌝ }
+    ensures { λ r. ⌜ ((c : Colour) → Added (sampleAt (now (part .entry)) 0 c) (weight .0) (sumIn sums c) (sumIn r c)) ⌝ }
+{
+    let red = sums.red;
+    let green = sums.green;
+    let blue = sums.blue;
+    Sums {
+        red: with_number(red, weight, part, Colour::Red),
+        green: with_number(green, weight, part, Colour::Green),
+        blue: with_number(blue, weight, part, Colour::Blue),
+    }
+}
+
+// ---- the numbers of row n begin at place 3n
+
+// 1D: only the number that is wanted.
+fn add_number(table: &[i64], share: Share, c: Colour, sum: Whole) -> Whole
+    requires { ⌜ Room (sum .0) (share .weight) ⌝ }
+    requires { ⌜ RowAt (now table) (3 * share .row) ⌝ }
+    ensures { λ r. ⌜ Added (sampleAt (now (table .entry)) (share .row) c) (share .weight) (sum .0) (r .0) ⌝ }
+{
+    let at = 3 * share.row;
+    with_number(sum, Whole(share.weight), &table[at..], c)
+}
+
+// 3D: all three.
+fn add_row(table: &[i64], share: Share, sums: Sums) -> Sums
+    requires { ⌜ ((c : Colour) → Room (sumIn sums c) (share .weight)) ⌝ }
+    requires { ⌜ RowAt (now table) (3 * share .row) ⌝ }
+    ensures { λ r. ⌜ ((c : Colour) → Added (sampleAt (now (table .entry)) (share .row) c) (share .weight) (sumIn sums c) (sumIn r c)) ⌝ }
+{
+    let at = 3 * share.row;
+    with_row(sums, Whole(share.weight), &table[at..])
+}
+
+// ---- S
+
+// Of the two rows of a colour.
+fn pair_sum(table: &[i64], low: Share, high: Share, c: Colour) -> Whole
+    requires { ⌜ SharesFit (now table) (low ∷ high ∷ []) ⌝ }
+    ensures { λ r. ⌜ Totalled (now (table .entry)) c (low ∷ high ∷ []) (r .0) ⌝ }
+{
+    add_number(table, low, c, add_number(table, high, c, Whole(0)))
+}
+
+// 1D: each colour by its own two rows.
+pub fn line_sums(table: &[i64], shares: Shares) -> Sums
+    requires { ⌜ ((c : Colour) → SharesFit (now table) (used Kind.OneD c shares)) ⌝ }
+    ensures { λ r. ⌜ ((c : Colour) → Totalled (now (table .entry)) c (used Kind.OneD c shares) (sumIn r c)) ⌝ }
+{
+    let first = shares.first;
+    let second = shares.second;
+    let third = shares.third;
+    let fourth = shares.fourth;
+    let fifth = shares.fifth;
+    let sixth = shares.sixth;
+    Sums {
+        red: pair_sum(table, first, second, Colour::Red),
+        green: pair_sum(table, third, fourth, Colour::Green),
+        blue: pair_sum(table, fifth, sixth, Colour::Blue),
+    }
+}
+
+// 3D: the four rows of the path for all colours.
+pub fn cube_sums(table: &[i64], shares: Shares) -> Sums
+    requires { ⌜ ((c : Colour) → SharesFit (now table) (used Kind.ThreeD c shares)) ⌝ }
+    ensures { λ r. ⌜ ((c : Colour) → Totalled (now (table .entry)) c (used Kind.ThreeD c shares) (sumIn r c)) ⌝ }
+{
+    let first = shares.first;
+    let second = shares.second;
+    let third = shares.third;
+    let fourth = shares.fourth;
+    let none = Sums {
+        red: Whole(0),
+        green: Whole(0),
+        blue: Whole(0),
+    };
+    let last = add_row(table, fourth, none);
+    let two = add_row(table, third, last);
+    let three = add_row(table, second, two);
+    add_row(table, first, three)
+}

@@ -1,0 +1,118 @@
+-- The C boundary: a description as eleven numbers, and the promises of the three calls by the same definitions.
+use Prim.Native.Nat.{ℕ, _+_}
+use mathlib.Core.Path.{_≡_}
+use mathlib.Core.Bool.{Bool, cond, _&&_}
+use mathlib.Core.List.{List, [], _∷_}
+use mathlib.Core.Option.{Option, none, some}
+use lib.Dec.{eqb}
+use lib.ListN.{length, getD}
+use lib.IntN.{ℤ, pos, natAbs}
+use lib.Signed.{nonNeg}
+use Rattle.rules.specs.Descriptions.{noTitle}
+use Rattle.rules.specs.Reading.{read, tableAfter}
+use Rattle.rules.specs.Looking.{look}
+use Rattle.rules.specs.Picturing.{picture, outputAfter}
+use Rattle.rules.specs.Answers.{readNumber, readLine, readDescription, lookNumber, lookCodes, lookRows, lookWeights, pictureNumber}
+use Rattle.rules.specs.declared.Codes.{Codes}
+use Rattle.rules.specs.declared.Description.{Description}
+use Rattle.rules.specs.declared.Domain.{Domain}
+use Rattle.rules.specs.declared.Kind.{Kind}
+use Rattle.rules.specs.declared.Kind.the-variants.{OneD, ThreeD}
+use Rattle.rules.specs.declared.Look.{Look}
+use Rattle.rules.specs.declared.Look.the-variants as L
+use Rattle.rules.specs.declared.Picture.{Picture}
+use Rattle.rules.specs.declared.Picture.the-variants as P
+use Rattle.rules.specs.declared.Refusal.the-variants.{CouldNotBeRead}
+
+-- ---- a description as eleven numbers
+
+-- 1 for 1D, 3 for 3D
+abbrev pub kindNumber : Kind → ℤ
+kindNumber OneD = pos 1
+kindNumber ThreeD = pos 3
+
+-- 0 without a title, 1 with one
+abbrev pub markNumber : Bool → ℤ
+markNumber there = cond there (pos 1) (pos 0)
+
+-- the kind, N, three lower bounds, three upper bounds, the title's mark, place and length
+abbrev pub elevenOf : Description → List ℤ
+elevenOf d =
+    kindNumber (d .kind)
+    ∷ pos (d .n)
+    ∷ d .red .lower .0
+    ∷ d .green .lower .0
+    ∷ d .blue .lower .0
+    ∷ d .red .upper .0
+    ∷ d .green .upper .0
+    ∷ d .blue .upper .0
+    ∷ markNumber (d .title .there)
+    ∷ pos (d .title .place)
+    ∷ pos (d .title .length)
+    ∷ []
+
+abbrev numberAt : List ℤ → ℕ → ℤ
+numberAt eleven k = getD eleven k (pos 0)
+
+-- anything but 1 and 3 is no kind
+abbrev pub kindIn : List ℤ → Option Kind
+kindIn eleven =
+    cond (nonNeg (numberAt eleven 0) && eqb (natAbs (numberAt eleven 0)) 1) (some OneD)
+    (cond (nonNeg (numberAt eleven 0) && eqb (natAbs (numberAt eleven 0)) 3) (some ThreeD)
+    none)
+
+abbrev domainIn : List ℤ → ℕ → Domain
+domainIn eleven c = record { lower = record { 0 = numberAt eleven (2 + c) }; upper = record { 0 = numberAt eleven (5 + c) } }
+
+abbrev describedAs : List ℤ → Option Kind → Option Description
+describedAs eleven none = none
+describedAs eleven (some k) =
+    cond (nonNeg (numberAt eleven 1))
+    (some (record { kind = k; n = natAbs (numberAt eleven 1); red = domainIn eleven 0; green = domainIn eleven 1; blue = domainIn eleven 2; title = noTitle }))
+    none
+
+-- the description that eleven numbers give, if they can; places 8 to 10 are not looked at
+unfoldable pub describedIn : List ℤ → Option Description
+describedIn eleven = describedAs eleven (kindIn eleven)
+
+-- ---- the calls, of eleven numbers: those that give no description are 24
+
+abbrev lookBy : List ℤ → ℕ → Codes → Option Description → Look
+lookBy table bits pixel none = L.Refused CouldNotBeRead
+lookBy table bits pixel (some d) = look d table bits pixel
+
+abbrev pub lookIn : List ℤ → List ℤ → ℕ → Codes → Look
+lookIn eleven table bits pixel = lookBy table bits pixel (describedIn eleven)
+
+abbrev pictureBy : List ℤ → ℕ → List ℕ → ℕ → Option Description → Picture
+pictureBy table bits src places none = P.Refused CouldNotBeRead
+pictureBy table bits src places (some d) = picture d table bits src places
+
+abbrev pub pictureIn : List ℤ → List ℤ → ℕ → List ℕ → ℕ → Picture
+pictureIn eleven table bits src places = pictureBy table bits src places (describedIn eleven)
+
+abbrev outputBy : List ℤ → ℕ → List ℕ → List ℕ → Option Description → List ℕ
+outputBy table bits src dst none = dst
+outputBy table bits src dst (some d) = outputAfter d table bits src dst (picture d table bits src (length dst))
+
+-- the output afterwards
+abbrev pub outputIn : List ℤ → List ℤ → ℕ → List ℕ → List ℕ → List ℕ
+outputIn eleven table bits src dst = outputBy table bits src dst (describedIn eleven)
+
+-- ---- the promises: the number that is returned, and everything that is lent, afterwards
+
+pub record ReadsC (file : List ℕ) (table : List ℤ) (number : ℕ) (table′ eleven′ : List ℤ) (line′ : ℕ) : Type 0 where
+  pub number-so : number ≡ readNumber (read file (length table))
+  pub line-so : line′ ≡ readLine (read file (length table))
+  pub description-so : eleven′ ≡ elevenOf (readDescription (read file (length table)))
+  pub memory : table′ ≡ tableAfter file table (read file (length table))
+
+pub record LooksC (eleven table : List ℤ) (bits : ℕ) (pixel : Codes) (number : ℕ) (codes′ rows′ : List ℕ) (weights′ : List ℤ) : Type 0 where
+  pub number-so : number ≡ lookNumber (lookIn eleven table bits pixel)
+  pub codes-so : codes′ ≡ lookCodes (lookIn eleven table bits pixel)
+  pub rows-so : rows′ ≡ lookRows (lookIn eleven table bits pixel)
+  pub weights-so : weights′ ≡ lookWeights (lookIn eleven table bits pixel)
+
+pub record PicturesC (eleven table : List ℤ) (bits : ℕ) (src dst : List ℕ) (number : ℕ) (dst′ : List ℕ) : Type 0 where
+  pub number-so : number ≡ pictureNumber (pictureIn eleven table bits src (length dst))
+  pub memory : dst′ ≡ outputIn eleven table bits src dst

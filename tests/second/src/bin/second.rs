@@ -1,0 +1,155 @@
+//! The second program for people.
+//!
+//! ```text
+//! second report < FILE            what the report program prints
+//! second read FILE                the answer of reading, with room for any table
+//! second look FILE BITS R G B     one pixel through a file's table
+//! second cases                    document 01's cases (src/cases.rs gives the format)
+//! second stream SEED TABLES LOOKS PICTURES
+//!                                 this side of `compare` alone: counts, and cases a second
+//! second reports SEED COUNT PROGRAM [ARGUMENT...]
+//!                                 compares a report program's bytes with this one's
+//! ```
+
+use second::gen::file_case;
+use second::look::look;
+use second::paper::{place, Kind};
+use second::reading::{read, Reading};
+use second::report::report;
+use second::run::{run, Wanted};
+use second::show::{escaped, list, quoted};
+use second::{cases, paper};
+use std::io::{self, Read, Write};
+use std::process::{Command, ExitCode, Stdio};
+use std::time::Instant;
+
+fn main() -> ExitCode {
+    let arguments: Vec<String> = std::env::args().skip(1).collect();
+    let words: Vec<&str> = arguments.iter().map(String::as_str).collect();
+    let done = match words.as_slice() {
+        ["report"] => print_report(),
+        ["read", file] => print_read(file),
+        ["look", file, bits, r, g, b] => print_look(file, bits, [r, g, b]),
+        ["cases"] => put(cases::printed().as_bytes()),
+        ["stream", numbers @ ..] => stream(numbers),
+        ["reports", seed, count, program @ ..] if !program.is_empty() => {
+            reports(seed, count, program)
+        }
+        _ => Err("usage: second report | read FILE | look FILE BITS R G B | cases | \
+                  stream SEED TABLES LOOKS PICTURES | reports SEED COUNT PROGRAM [ARGUMENT...]"
+            .to_string()),
+    };
+    match done {
+        Ok(()) => ExitCode::SUCCESS,
+        Err(fault) => {
+            eprintln!("{fault}");
+            ExitCode::FAILURE
+        }
+    }
+}
+
+fn put(bytes: &[u8]) -> Result<(), String> {
+    io::stdout().write_all(bytes).map_err(|fault| fault.to_string())
+}
+
+/// One byte more than the report holds is enough to know that there are too many.
+fn print_report() -> Result<(), String> {
+    let mut input = Vec::new();
+    let most = paper::REPORT_BYTES as u64 + 1;
+    io::stdin().take(most).read_to_end(&mut input).map_err(|fault| fault.to_string())?;
+    put(&report(&input))
+}
+
+/// Reads a file with as many places as the largest table needs.
+fn open(file: &str) -> Result<Reading, String> {
+    let bytes = std::fs::read(file).map_err(|fault| format!("{file}: {fault}"))?;
+    Ok(read(&bytes, 3 * Kind::ThreeD.rows(256)))
+}
+
+fn print_read(file: &str) -> Result<(), String> {
+    let reading = open(file)?;
+    println!("number {} line {}", reading.number, reading.line);
+    println!("description {}", list(&reading.description, " "));
+    for (row, sample) in reading.samples.chunks(3).enumerate() {
+        println!("row {row}: {}", list(sample, " "));
+    }
+    Ok(())
+}
+
+fn print_look(file: &str, bits: &str, pixel: [&str; 3]) -> Result<(), String> {
+    let reading = open(file)?;
+    if reading.number != 0 {
+        return Err(format!("refused: number {} line {}", reading.number, reading.line));
+    }
+    let bits = bits.parse().map_err(|_| format!("not a depth: {bits}"))?;
+    let mut codes = [0; 3];
+    for (code, word) in codes.iter_mut().zip(pixel) {
+        *code = word.parse().map_err(|_| format!("not a code: {word}"))?;
+    }
+    let look = look(&reading.description, &reading.samples, bits, codes);
+    let used = if reading.description[place::KIND] == 3 { 4 } else { 6 };
+    println!("number {}", look.number);
+    println!("codes {}", list(&look.codes, " "));
+    println!("rows {}", list(&look.rows[..used], " "));
+    println!("weights {}", list(&look.weights[..used], " "));
+    Ok(())
+}
+
+fn numbers(words: &[&str]) -> Result<Vec<u64>, String> {
+    words.iter().map(|word| word.parse().map_err(|_| format!("not a number: {word}"))).collect()
+}
+
+/// Runs this side alone; each call by itself, to tell how fast it goes.
+fn stream(words: &[&str]) -> Result<(), String> {
+    let [seed, tables, looks, pictures] = numbers(words)?[..] else {
+        return Err("stream takes SEED TABLES LOOKS PICTURES".to_string());
+    };
+    let none = Wanted { seed, tables: 0, looks: 0, pictures: 0 };
+    timed("tables", tables, &Wanted { tables, ..none })?;
+    timed("looks", looks, &Wanted { looks, ..none })?;
+    timed("pictures", pictures, &Wanted { pictures, ..none })
+}
+
+fn timed(name: &str, many: u64, wanted: &Wanted) -> Result<(), String> {
+    let start = Instant::now();
+    let counts = run(wanted, None)?;
+    let rate = many as f64 / start.elapsed().as_secs_f64();
+    print!("{many} {name}, {rate:.0} a second\n{}", counts.shown());
+    match counts.missing(wanted) {
+        missing if missing.is_empty() => Ok(()),
+        missing => Err(format!("never seen: {}", missing.join(", "))),
+    }
+}
+
+/// Puts generated files to a report program and compares what it prints.
+fn reports(seed: &str, count: &str, program: &[&str]) -> Result<(), String> {
+    let [seed, count] = numbers(&[seed, count])?[..] else {
+        return Ok(());
+    };
+    for index in 0..count {
+        let file = file_case(seed, index).file;
+        let theirs = printed_by(program, &file).map_err(|fault| fault.to_string())?;
+        if theirs != report(&file) {
+            let (own, theirs) = (escaped(&report(&file)), escaped(&theirs));
+            let file = quoted(&file);
+            return Err(format!("case {index}\nfile: {file}\nsecond: {own}\nother:  {theirs}"));
+        }
+    }
+    println!("seed {seed}: {count} reports alike");
+    Ok(())
+}
+
+/// What a program prints for an input. A program that has seen enough may close its input.
+fn printed_by(program: &[&str], input: &[u8]) -> io::Result<Vec<u8>> {
+    let mut command = Command::new(program[0]);
+    command.args(&program[1..]).stdin(Stdio::piped()).stdout(Stdio::piped());
+    let mut child = command.spawn()?;
+    if let Some(mut stdin) = child.stdin.take() {
+        if let Err(fault) = stdin.write_all(input) {
+            if fault.kind() != io::ErrorKind::BrokenPipe {
+                return Err(fault);
+            }
+        }
+    }
+    Ok(child.wait_with_output()?.stdout)
+}

@@ -1,0 +1,223 @@
+//! Document 01, "Checked by hand": every case, marked P or not.
+
+use crate::cases::{CUBE, SAMPLE_A2, SAMPLE_A3, SAMPLE_A4};
+use crate::look::{look, Look};
+use crate::paper::{Description, REFUSED_DESCRIPTION};
+use crate::picture::picture;
+use crate::reading::{read, read_into};
+use crate::report::report;
+
+/// The number for a file whose first sample is the word, and that sample if accepted.
+fn first_sample(word: &str) -> Result<i64, u32> {
+    let file = format!("LUT_1D_SIZE 2\n{word} 0 0\n0 0 0\n");
+    let reading = read(file.as_bytes(), 6);
+    match reading.number {
+        0 => Ok(reading.samples[0]),
+        refused => {
+            assert_eq!(reading.line, 2);
+            assert_eq!(reading.description, REFUSED_DESCRIPTION);
+            assert!(reading.samples.is_empty());
+            Err(refused)
+        }
+    }
+}
+
+#[test]
+fn words() {
+    let nines = "9".repeat(30);
+    assert_eq!(first_sample("1e-7"), Ok(1));
+    assert_eq!(first_sample("1e-8"), Err(17));
+    assert_eq!(first_sample("0e999"), Ok(0));
+    assert_eq!(first_sample("-.5"), Ok(-5_000_000));
+    assert_eq!(first_sample("10000e-1"), Ok(10_000_000_000));
+    assert_eq!(first_sample("1000.00000001"), Err(16));
+    assert_eq!(first_sample(&format!("1e{nines}")), Err(16));
+    assert_eq!(first_sample(&format!("1e-{nines}")), Err(17));
+    assert_eq!(first_sample("5."), Err(15));
+    assert_eq!(first_sample("+"), Err(15));
+}
+
+/// Number and line for a first line before a table that keeps the rules.
+fn with_first_line(first: &str) -> (u32, u64) {
+    let file = format!("{first}\nLUT_1D_SIZE 2\n0 0 0\n1 1 1\n");
+    let reading = read(file.as_bytes(), 6);
+    (reading.number, reading.line)
+}
+
+#[test]
+fn lines() {
+    let comment = |length: usize| format!("#{}", "x".repeat(length - 1));
+    assert_eq!(with_first_line(&comment(250)), (0, 0));
+    assert_eq!(with_first_line(&comment(251)), (1, 1));
+    assert_eq!(with_first_line(&(comment(250) + "\r")), (1, 1));
+    assert_eq!(with_first_line(&comment(251).replacen('x', "\r", 1)), (1, 1));
+    for length in 1..=249 {
+        assert_eq!(with_first_line(&(comment(length) + "\r")), (2, 1));
+    }
+    assert_eq!(with_first_line("\r"), (2, 1));
+    assert_eq!(with_first_line(" #"), (3, 1));
+}
+
+fn number_for(file: &str, places: usize) -> u32 {
+    read(file.as_bytes(), places).number
+}
+
+#[test]
+fn sizes() {
+    assert_eq!(number_for("LUT_1D_SIZE 1\n", 3), 7);
+    assert_eq!(number_for("LUT_3D_SIZE 1\n", 3), 7);
+    let whole = "LUT_1D_SIZE 65536\n".to_string() + &"0 0 0\n".repeat(65_536);
+    assert_eq!(number_for(&whole, 3 * 65_536), 0);
+    assert_eq!(number_for(&whole, 3 * 65_536 - 1), 13);
+    assert_eq!(number_for("LUT_1D_SIZE 65537\n", 0), 7);
+    assert_eq!(number_for("LUT_3D_SIZE 256\n", 0), 13);
+    assert_eq!(number_for("LUT_3D_SIZE 257\n", 0), 7);
+    assert_eq!(number_for("LUT_1D_SIZE +2\n", 6), 6);
+    assert_eq!(number_for(CUBE, 24), 0);
+    assert_eq!(number_for(CUBE, 23), 13);
+    let empty = read(b"", 0);
+    assert_eq!((empty.number, empty.line), (9, 1));
+}
+
+/// 1D, N = 2, 8 bits, all colours alike.
+fn code_of_two_rows(first: i64, second: i64, code: u16) -> u16 {
+    let description = [1, 2, 0, 0, 0, 1000, 1000, 1000, 0, 0, 0];
+    let table = [first, first, first, second, second, second];
+    let look = look(&description, &table, 8, [code; 3]);
+    assert_eq!(look.number, 0);
+    assert_eq!(look.codes, [look.codes[0]; 3]);
+    look.codes[0]
+}
+
+#[test]
+fn one_dimensional_codes() {
+    assert_eq!(code_of_two_rows(0, 5_000_000, 1), 1);
+    assert_eq!(code_of_two_rows(0, 5_000_000, 3), 2);
+    assert_eq!(code_of_two_rows(-5_000_000, 5_000_000, 127), 0);
+    assert_eq!(code_of_two_rows(-5_000_000, 5_000_000, 128), 1);
+    assert_eq!(code_of_two_rows(0, 20_000_000, 200), 255);
+}
+
+#[test]
+fn sixteen_bits() {
+    let description = [1, 3, 0, 0, 0, 1000, 1000, 1000, 0, 0, 0];
+    let look = look(&description, &[0; 9], 16, [32768; 3]);
+    assert_eq!(look.rows, [1, 2, 1, 2, 1, 2]);
+    assert_eq!(look.weights, [65_534_000, 1_000, 65_534_000, 1_000, 65_534_000, 1_000]);
+}
+
+#[test]
+fn sample_a3_blue() {
+    let reading = read(SAMPLE_A3.as_bytes(), 9);
+    let look = look(&reading.description, &reading.samples, 8, [0, 0, 255]);
+    assert_eq!(look.rows[4..], [0, 1]);
+    assert_eq!(look.weights[4..], [255_000, 510_000]);
+    assert_eq!(look.codes[2], 255);
+}
+
+#[test]
+fn narrow_domain() {
+    let description = [1, 2, 250, 250, 250, 750, 750, 750, 0, 0, 0];
+    let look = look(&description, &[0; 6], 8, [255; 3]);
+    assert_eq!(look.weights[..2], [0, 127_500]);
+}
+
+fn cube() -> (Description, Vec<i64>) {
+    let reading = read(CUBE.as_bytes(), 24);
+    (reading.description, reading.samples)
+}
+
+#[test]
+fn three_dimensional() {
+    let (description, table) = cube();
+    let expected = Look {
+        number: 0,
+        codes: [51; 3],
+        rows: [0, 4, 6, 7, 0, 0],
+        weights: [51_000, 102_000, 51_000, 51_000, 0, 0],
+    };
+    assert_eq!(look(&description, &table, 8, [51, 102, 204]), expected);
+    let mut output = [9; 7];
+    let source = [51, 102, 204, 255, 255, 255];
+    assert_eq!(picture(&description, &table, 8, &source, &mut output), 0);
+    assert_eq!(output, [51, 51, 51, 255, 255, 255, 9]);
+}
+
+#[test]
+fn the_report() {
+    let expected = "cube\t3D\t2\t8\ndomain\tred\t0\t1000\ndomain\tgreen\t0\t1000\n\
+                    domain\tblue\t0\t1000\ntitle\tno\n";
+    assert_eq!(report(CUBE.as_bytes()), expected.as_bytes());
+    assert_eq!(report(b""), b"refused\t9\t1\n");
+    assert_eq!(report(&[b'\n'; 65_536]), b"refused\t9\t65537\n");
+    assert_eq!(report(&[b'\n'; 65_537]), b"refused\t30\t0\n");
+    let titled = report(b"TITLE \"a b\"\nLUT_1D_SIZE 2\n0 0 0\n0 0 0");
+    assert!(titled.ends_with(b"title\tyes\ta b\n"));
+    assert_eq!(report(b"LUT_1D_SIZE 2731\n"), b"refused\t13\t2\n");
+    assert_eq!(report(b"LUT_1D_SIZE 2730\n"), b"refused\t18\t2\n");
+}
+
+#[test]
+fn the_samples() {
+    let a2 = read(SAMPLE_A2.as_bytes(), 96);
+    assert_eq!((a2.number, a2.line), (0, 0));
+    assert_eq!(a2.description, [1, 32, 0, 0, 0, 1000, 1000, 1000, 1, 7, 21]);
+    assert_eq!(a2.samples[..6], [4883, 4883, 4883, 7714, 7714, 7714]);
+    assert_eq!(a2.samples[93..], [7_043_000_000; 3]);
+    let a3 = read(SAMPLE_A3.as_bytes(), 9);
+    assert_eq!(a3.description, [1, 3, 0, 0, 0, 1000, 2000, 3000, 1, 7, 4]);
+    let unit = 10_000_000;
+    assert_eq!(a3.samples, [0, 0, 0, unit / 2, unit, unit * 3 / 2, unit, unit, unit]);
+    let a4 = read(SAMPLE_A4.as_bytes(), 24);
+    let mut stated = Vec::new();
+    for row in 0..8 {
+        let (r, g, b) = (row & 1, row >> 1 & 1, row >> 2);
+        stated.extend([r * unit, (3 * g + b) * unit / 4, b * unit]);
+    }
+    assert_eq!(a4.samples, stated);
+}
+
+#[test]
+fn refusals_keep_the_table_and_acceptance_keeps_later_places() {
+    let mut table = [7; 8];
+    assert_eq!(read_into(b"LUT_1D_SIZE 2\n1 1 1\n1 1 5.\n", &mut table).number, 15);
+    assert_eq!(table, [7; 8]);
+    assert_eq!(read_into(b"LUT_1D_SIZE 2\n0 0 0\n0 0 0\n", &mut table).number, 0);
+    assert_eq!(table, [0, 0, 0, 0, 0, 0, 7, 7]);
+}
+
+#[test]
+fn title_places() {
+    let place_and_length = |line: &str| {
+        let file = format!("{line}\nLUT_1D_SIZE 2\n0 0 0\n0 0 0\n");
+        let d = read(file.as_bytes(), 6).description;
+        (d[8], d[9], d[10])
+    };
+    assert_eq!(place_and_length("TITLE \"abc\""), (1, 7, 3));
+    assert_eq!(place_and_length("\n\tTITLE \t\"\"  "), (1, 10, 0));
+    assert_eq!(place_and_length("# none"), (0, 0, 0));
+    assert_eq!(place_and_length("TITLE \" # \""), (1, 7, 3));
+}
+
+#[test]
+fn order_of_checks_in_look_and_picture() {
+    let (good, table) = cube();
+    let mut bad = good;
+    bad[0] = 2;
+    let mut output = [9; 1];
+    let mut number = |d: &Description, bits, source: &[u16]| {
+        let number = picture(d, &table, bits, source, &mut output);
+        assert_eq!(output, [9]);
+        number
+    };
+    assert_eq!(number(&bad, 9, &[256, 0, 0, 0]), 24);
+    assert_eq!(number(&good, 9, &[256, 0, 0, 0]), 20);
+    assert_eq!(number(&good, 8, &[256, 0, 0, 0]), 21);
+    assert_eq!(number(&good, 8, &[256, 0, 0]), 22);
+    assert_eq!(number(&good, 9, &[]), 20);
+    assert_eq!(number(&good, 8, &[]), 0);
+    assert_eq!(picture(&good, &table, 8, &[0, 0, 256], &mut [0; 3]), 23);
+    assert_eq!(look(&bad, &table, 9, [256, 0, 0]).number, 24);
+    assert_eq!(look(&good, &table, 9, [256, 0, 0]).number, 20);
+    assert_eq!(look(&good, &table, 8, [256, 0, 0]).number, 23);
+}

@@ -1,0 +1,143 @@
+//! The cases of document 01's "Checked by hand" that are not marked P, with samples A.2
+//! and A.3, and A.4 by its stated function.
+//!
+//! `second cases` prints one line for each, in the order below, ended by a newline:
+//! `name<TAB>fields`, the fields parted by single tabs. Numbers are decimal, a minus sign
+//! in front if below 0, no plus, no zeros in front. By the kind of case the fields are:
+//!
+//! - read: number, line, the eleven numbers of the description, then every place of the
+//!   lent table afterwards. Before the call every place held 7.
+//! - look: number, three codes, six rows, six weights.
+//! - report: one field, the bytes printed, with `\n` for each newline and `\t` for each tab
+//!   (a backslash and a letter).
+//!
+//! What is read, `NL` standing for a newline and `CR` for a carriage return. WORD(w) is
+//! `LUT_1D_SIZE 2 NL w 0 0 NL 0 0 0 NL` without the blanks around NL, and ROWS is
+//! `LUT_1D_SIZE 2 NL 0 0 0 NL 0 0 0 NL` likewise; CUBE is `LUT_3D_SIZE 2 NL`, seven times
+//! `0 0 0 NL`, and `1 1 1 NL`.
+//!
+//! | name | file | places |
+//! |---|---|---|
+//! | word-0e999 | WORD(`0e999`) | 6 |
+//! | word-10000e-1 | WORD(`10000e-1`) | 6 |
+//! | word-1e-thirty-nines | WORD(`1e` and thirty `9`) | 6 |
+//! | word-1e-minus-thirty-nines | WORD(`1e-` and thirty `9`) | 6 |
+//! | word-5-point | WORD(`5.`) | 6 |
+//! | word-plus | WORD(`+`) | 6 |
+//! | line-250 | `#`, 249 `x`, NL, ROWS | 6 |
+//! | line-251 | `#`, 250 `x`, NL, ROWS | 6 |
+//! | line-251-cr | `#`, 249 `x`, CR, NL, ROWS | 6 |
+//! | line-249-crlf | `#`, 248 `x`, CR, NL, ROWS | 6 |
+//! | line-1-crlf | `#`, CR, NL, ROWS | 6 |
+//! | blank-before-comment | ` #`, NL, ROWS | 6 |
+//! | size-1d-1 | `LUT_1D_SIZE 1`, NL | 0 |
+//! | size-3d-1 | `LUT_3D_SIZE 1`, NL | 0 |
+//! | size-1d-65536 | `LUT_1D_SIZE 65536`, NL | 0 |
+//! | size-1d-65537 | `LUT_1D_SIZE 65537`, NL | 0 |
+//! | size-3d-256 | `LUT_3D_SIZE 256`, NL | 0 |
+//! | size-3d-257 | `LUT_3D_SIZE 257`, NL | 0 |
+//! | size-plus-2 | `LUT_1D_SIZE +2`, NL | 0 |
+//! | cube-24-places | CUBE | 24 |
+//! | cube-23-places | CUBE | 23 |
+//! | sample-a2 | sample A.2, each line ended by NL | 96 |
+//! | sample-a3 | sample A.3, each line ended by NL | 9 |
+//! | sample-a4 | A.4's first two lines, then r, (3g + b)/4 and b, written 0, 0.25, 0.75 or 1 | 24 |
+//!
+//! A size that passes is answered 13 here, for want of places, and not 7.
+//!
+//! Looks: 1D, N = 2, no title, 8 bits.
+//!
+//! | name | domain, each colour | rows, each colour | pixel |
+//! |---|---|---|---|
+//! | look-half-3 | 0 to 1000 | 0, 5000000 | 3 3 3 |
+//! | look-quarter-255 | 250 to 750 | 0, 10000000 | 255 255 255 |
+//!
+//! The report: `report-cube`, of CUBE.
+
+use crate::look::look;
+use crate::reading::read_into;
+use crate::report::report;
+use crate::show::list;
+
+const ROWS: &str = "LUT_1D_SIZE 2\n0 0 0\n0 0 0\n";
+pub const CUBE: &str = "LUT_3D_SIZE 2\n0 0 0\n0 0 0\n0 0 0\n0 0 0\n0 0 0\n0 0 0\n0 0 0\n1 1 1\n";
+pub const SAMPLE_A2: &str = include_str!("../../accept/sample-a2.cube");
+pub const SAMPLE_A3: &str = include_str!("../../accept/sample-a3.cube");
+pub const SAMPLE_A4: &str = include_str!("../../accept/sample-a4-by-function.cube");
+
+/// All lines that `second cases` prints.
+pub fn printed() -> String {
+    let reads = read_cases().into_iter().map(|(name, file, places)| read_line(name, &file, places));
+    let looks = [
+        look_line("look-half-3", [0, 1000], [0, 5_000_000], 3),
+        look_line("look-quarter-255", [250, 750], [0, 10_000_000], 255),
+    ];
+    let mut lines: Vec<String> = reads.collect();
+    lines.extend(looks);
+    lines.push(format!("report-cube\t{}", one_field(&report(CUBE.as_bytes()))));
+    lines.iter().map(|line| line.to_string() + "\n").collect()
+}
+
+fn word(word: &str) -> String {
+    format!("LUT_1D_SIZE 2\n{word} 0 0\n0 0 0\n")
+}
+
+/// A comment of so many bytes, then an ending, then the rows.
+fn comment(length: usize, ending: &str) -> String {
+    format!("#{}{ending}{ROWS}", "x".repeat(length - 1))
+}
+
+fn read_cases() -> Vec<(&'static str, String, usize)> {
+    let nines = "9".repeat(30);
+    vec![
+        ("word-0e999", word("0e999"), 6),
+        ("word-10000e-1", word("10000e-1"), 6),
+        ("word-1e-thirty-nines", word(&format!("1e{nines}")), 6),
+        ("word-1e-minus-thirty-nines", word(&format!("1e-{nines}")), 6),
+        ("word-5-point", word("5."), 6),
+        ("word-plus", word("+"), 6),
+        ("line-250", comment(250, "\n"), 6),
+        ("line-251", comment(251, "\n"), 6),
+        ("line-251-cr", comment(250, "\r\n"), 6),
+        ("line-249-crlf", comment(249, "\r\n"), 6),
+        ("line-1-crlf", comment(1, "\r\n"), 6),
+        ("blank-before-comment", format!(" #\n{ROWS}"), 6),
+        ("size-1d-1", "LUT_1D_SIZE 1\n".to_string(), 0),
+        ("size-3d-1", "LUT_3D_SIZE 1\n".to_string(), 0),
+        ("size-1d-65536", "LUT_1D_SIZE 65536\n".to_string(), 0),
+        ("size-1d-65537", "LUT_1D_SIZE 65537\n".to_string(), 0),
+        ("size-3d-256", "LUT_3D_SIZE 256\n".to_string(), 0),
+        ("size-3d-257", "LUT_3D_SIZE 257\n".to_string(), 0),
+        ("size-plus-2", "LUT_1D_SIZE +2\n".to_string(), 0),
+        ("cube-24-places", CUBE.to_string(), 24),
+        ("cube-23-places", CUBE.to_string(), 23),
+        ("sample-a2", SAMPLE_A2.to_string(), 96),
+        ("sample-a3", SAMPLE_A3.to_string(), 9),
+        ("sample-a4", SAMPLE_A4.to_string(), 24),
+    ]
+}
+
+fn read_line(name: &str, file: &str, places: usize) -> String {
+    let mut table = vec![7; places];
+    let reading = read_into(file.as_bytes(), &mut table);
+    let mut fields = vec![i64::from(reading.number), reading.line as i64];
+    fields.extend(reading.description);
+    fields.extend(table);
+    format!("{name}\t{}", list(&fields, "\t"))
+}
+
+fn look_line(name: &str, domain: [i64; 2], rows: [i64; 2], code: u16) -> String {
+    let ([lo, up], [first, second]) = (domain, rows);
+    let description = [1, 2, lo, lo, lo, up, up, up, 0, 0, 0];
+    let table = [first, first, first, second, second, second];
+    let look = look(&description, &table, 8, [code; 3]);
+    let mut fields = vec![i64::from(look.number)];
+    fields.extend(look.codes.map(i64::from));
+    fields.extend(look.rows.map(i64::from));
+    fields.extend(look.weights);
+    format!("{name}\t{}", list(&fields, "\t"))
+}
+
+fn one_field(bytes: &[u8]) -> String {
+    String::from_utf8_lossy(bytes).replace('\n', "\\n").replace('\t', "\\t")
+}

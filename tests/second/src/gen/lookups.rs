@@ -1,0 +1,344 @@
+//! Looks and pictures: descriptions and tables that reading could and could not have
+//! given, pixels on the borders of cells, and every depth.
+
+use super::draws::Draws;
+use super::files::{some_bounds, some_sample};
+use super::{LookCase, PictureCase};
+use crate::paper::{
+    greatest_code, place, Description, Kind, DEPTHS, GREATEST_BOUND, GREATEST_SAMPLE,
+};
+
+/// A description and a table.
+struct Lent {
+    description: Description,
+    table: Vec<i64>,
+}
+
+type Break = fn(&mut Lent, &mut Draws);
+
+/// Each clause of 24 alone and at its edge. Some keep the rules: the title's fields are
+/// not judged, nor are places after the table's 3·rows.
+const BREAKS: &[(&str, Break)] = &[
+    ("kind unknown", kind_unknown),
+    ("the other kind", other_kind),
+    ("N below 2", n_below),
+    ("N about its greatest", n_above),
+    ("N another", n_another),
+    ("a bound about its limit", bound_at_limit),
+    ("a bound extreme", bound_extreme),
+    ("a lower bound about its upper", lower_about_upper),
+    ("a domain about 10 wide", domain_wide),
+    ("domains that differ", domains_differ),
+    ("the table one place short", table_one_short),
+    ("the table empty", table_empty),
+    ("the table shorter", table_shorter),
+    ("a sample about its limit", sample_at_limit),
+    ("a sample extreme", sample_extreme),
+    ("the last sample beyond", last_sample_beyond),
+    ("a later place extreme", later_place_extreme),
+    ("title fields extreme", title_extreme),
+    ("numbers at random", at_random),
+];
+
+pub fn look(draws: &mut Draws) -> LookCase {
+    let (lent, bits, made) = lent_and_bits(draws);
+    let m = greatest_code(bits).unwrap_or(255);
+    let mut pixel = some_pixel(draws, &lent.description, m);
+    if draws.one_in(12) {
+        pixel[draws.below(3)] = above(draws, m);
+    }
+    LookCase { description: lent.description, table: lent.table, bits, pixel, made }
+}
+
+pub fn picture(draws: &mut Draws) -> PictureCase {
+    let (lent, bits, made) = lent_and_bits(draws);
+    let m = greatest_code(bits).unwrap_or(255);
+    let pixels = draws.pick(&[0, 1, 1, 2, 3, 5, 8, 13, 40]);
+    let mut source: Vec<u16> =
+        (0..pixels).flat_map(|_| some_pixel(draws, &lent.description, m)).collect();
+    if draws.one_in(8) {
+        wrong_length(draws, &mut source);
+    }
+    if draws.one_in(8) && !source.is_empty() {
+        let anywhere = draws.below(source.len());
+        let at = draws.pick(&[0, source.len() - 1, anywhere]);
+        source[at] = above(draws, m);
+    }
+    let output_len = some_output_len(draws, source.len());
+    PictureCase { description: lent.description, table: lent.table, bits, source, output_len, made }
+}
+
+/// One code or two more or fewer.
+fn wrong_length(draws: &mut Draws, source: &mut Vec<u16>) {
+    let extra = draws.below(2) + 1;
+    if draws.one_in(2) {
+        source.extend((0..extra).map(|_| draws.number() as u16 & 0xFF));
+    } else {
+        source.truncate(source.len().saturating_sub(extra));
+    }
+}
+
+fn some_output_len(draws: &mut Draws, length: usize) -> usize {
+    match draws.below(8) {
+        0 => length.saturating_sub(1),
+        1 => draws.below(length + 1),
+        2 | 3 => length + draws.below(7),
+        _ => length,
+    }
+}
+
+fn lent_and_bits(draws: &mut Draws) -> (Lent, u32, Vec<&'static str>) {
+    let mut lent = kept(draws);
+    let mut made = Vec::new();
+    let breaks = draws.pick(&[0, 0, 0, 0, 1, 1, 2]);
+    for _ in 0..breaks {
+        let (name, change) = draws.pick(BREAKS);
+        change(&mut lent, draws);
+        made.push(name);
+    }
+    (lent, some_bits(draws), made)
+}
+
+fn some_bits(draws: &mut Draws) -> u32 {
+    const UNKNOWN: &[u32] = &[0, 1, 7, 9, 11, 13, 14, 15, 17, 24, 32, 64, 264, u32::MAX, 1 << 31];
+    if draws.one_in(16) {
+        draws.pick(UNKNOWN)
+    } else {
+        draws.pick(&DEPTHS).0
+    }
+}
+
+/// A code above M if there is one of 16 bits, often by one.
+fn above(draws: &mut Draws, m: u16) -> u16 {
+    match draws.below(3) {
+        0 => m.saturating_add(1),
+        1 => u16::MAX,
+        _ => draws.between(i64::from(m), 65_535) as u16,
+    }
+}
+
+/// A description and table that reading could have given.
+fn kept(draws: &mut Draws) -> Lent {
+    let kind = draws.pick(&[Kind::OneD, Kind::OneD, Kind::ThreeD]);
+    let n = some_n(draws, kind);
+    let (lower, upper) = some_bounds(draws, kind);
+    let mut description = [kind.mark(), n, 0, 0, 0, 0, 0, 0, 0, 0, 0];
+    description[place::LOWER..place::LOWER + 3].copy_from_slice(&lower);
+    description[place::UPPER..place::UPPER + 3].copy_from_slice(&upper);
+    if draws.one_in(4) {
+        description[place::TITLE] = 1;
+        description[place::TITLE_PLACE] = draws.between(7, 5_000);
+        description[place::TITLE_LENGTH] = draws.between(0, 240);
+    }
+    let style = draws.below(5);
+    let spare = draws.pick(&[0, 0, 0, 1, 3, 10]);
+    let length = 3 * kind.rows(n) + spare;
+    Lent { description, table: (0..length).map(|_| some_sample(draws, style)).collect() }
+}
+
+/// N, mostly small; often one more than a divisor of M, so that borders fall on codes.
+fn some_n(draws: &mut Draws, kind: Kind) -> i64 {
+    let rank = draws.below(1000);
+    match (kind, rank) {
+        (Kind::OneD, 0) => draws.pick(&[65_535, 65_536, 4096]),
+        (Kind::OneD, 1..=20) => draws.pick(&[256, 1024, 1025, 257, 64]),
+        (Kind::OneD, 21..=300) => draws.pick(&[4, 6, 16, 18, 32, 52]),
+        (Kind::OneD, _) => draws.between(2, 9),
+        (Kind::ThreeD, 0..=2) => draws.pick(&[17, 33, 16]),
+        (Kind::ThreeD, 3..=40) => draws.between(5, 9),
+        (Kind::ThreeD, 41..=300) => draws.pick(&[4, 6, 3]),
+        (Kind::ThreeD, _) => draws.between(2, 3),
+    }
+}
+
+/// Three codes: apart, all alike, two alike, or whole cells apart.
+fn some_pixel(draws: &mut Draws, description: &Description, m: u16) -> [u16; 3] {
+    let mut pixel = [0, 1, 2].map(|colour| some_code(draws, description, colour, m));
+    match draws.below(5) {
+        0 => pixel = [pixel[0]; 3],
+        1 => pixel[draws.below(3)] = pixel[draws.below(3)],
+        2 => {
+            let cell = i64::from(m) / (description[place::N].clamp(2, 300) - 1);
+            let moved = i64::from(pixel[0]) + cell * draws.between(-3, 3);
+            pixel[1 + draws.below(2)] = moved.clamp(0, i64::from(m)) as u16;
+        }
+        _ => {}
+    }
+    pixel
+}
+
+/// A code from 0 to M: an end, any, or one at or beside the border of a cell.
+fn some_code(draws: &mut Draws, description: &Description, colour: usize, m: u16) -> u16 {
+    match draws.below(8) {
+        0 => 0,
+        1 => m,
+        2 | 3 => draws.between(0, i64::from(m)) as u16,
+        _ => border_code(draws, description, colour, m),
+    }
+}
+
+/// The code at or beside the place of a row (or of a bound).
+fn border_code(draws: &mut Draws, description: &Description, colour: usize, m: u16) -> u16 {
+    let wide = |index: usize| i128::from(description[index]);
+    let (m, lo) = (i128::from(m), wide(place::LOWER + colour));
+    let cells = wide(place::N).clamp(2, 65_536) - 1;
+    let row = i128::from(draws.between(0, cells as i64));
+    let thousandths = lo * cells + row * (wide(place::UPPER + colour) - lo);
+    let code = m * thousandths / (1000 * cells) + i128::from(draws.between(-1, 1));
+    code.clamp(0, m) as u16
+}
+
+// Breaking a description or a table.
+
+const EXTREMES: &[i64] = &[
+    i64::MIN,
+    i64::MAX,
+    i64::MIN + 1,
+    -1,
+    0,
+    1 << 32,
+    -(1 << 32),
+    1 << 62,
+    -(1 << 62),
+    (1 << 32) + 2,
+];
+
+fn any_bound(draws: &mut Draws) -> usize {
+    place::LOWER + draws.below(6)
+}
+
+fn kind_unknown(lent: &mut Lent, draws: &mut Draws) {
+    let near = draws.pick(&[0, 2, 4, -1, -3, 257, 259, (1 << 32) + 1, (1 << 32) + 3]);
+    lent.description[place::KIND] = if draws.one_in(3) { draws.pick(EXTREMES) } else { near };
+}
+
+fn other_kind(lent: &mut Lent, _: &mut Draws) {
+    lent.description[place::KIND] = 4 - lent.description[place::KIND].clamp(1, 3);
+}
+
+fn n_below(lent: &mut Lent, draws: &mut Draws) {
+    lent.description[place::N] = draws.pick(&[1, 0, -1, -2, i64::MIN]);
+}
+
+fn n_above(lent: &mut Lent, draws: &mut Draws) {
+    let edges = [256, 257, 65_536, 65_537, 1 << 21, 2_642_246, 1 << 32, i64::MAX, (1 << 32) + 2];
+    lent.description[place::N] = draws.pick(&edges);
+}
+
+fn n_another(lent: &mut Lent, draws: &mut Draws) {
+    let n = lent.description[place::N];
+    lent.description[place::N] = n.saturating_add(draws.between(-2, 2));
+}
+
+fn bound_at_limit(lent: &mut Lent, draws: &mut Draws) {
+    let limits = [GREATEST_BOUND, GREATEST_BOUND + 1, -GREATEST_BOUND, -GREATEST_BOUND - 1];
+    let (limit, at) = (draws.pick(&limits), draws.below(3));
+    // The other bound goes along, so that only the limit may be broken.
+    let towards = if limit > 0 { -1 } else { 1 };
+    let (kept, moved) =
+        if limit > 0 { (place::UPPER, place::LOWER) } else { (place::LOWER, place::UPPER) };
+    let alike = lent.description[place::KIND] == 3 || draws.one_in(2);
+    for colour in (0..3).filter(|colour| alike || *colour == at) {
+        lent.description[kept + colour] = limit;
+        lent.description[moved + colour] = limit + 500 * towards;
+    }
+}
+
+fn bound_extreme(lent: &mut Lent, draws: &mut Draws) {
+    lent.description[any_bound(draws)] = draws.pick(EXTREMES);
+    if draws.one_in(2) {
+        lent.description[any_bound(draws)] = draws.pick(EXTREMES);
+    }
+}
+
+/// Sets a colour's domain, or every colour's in 3D.
+fn set_domain(lent: &mut Lent, draws: &mut Draws, lower: i64, upper: i64) {
+    let at = draws.below(3);
+    let all = lent.description[place::KIND] == 3;
+    for colour in (0..3).filter(|colour| all || *colour == at) {
+        lent.description[place::LOWER + colour] = lower;
+        lent.description[place::UPPER + colour] = upper;
+    }
+}
+
+fn lower_about_upper(lent: &mut Lent, draws: &mut Draws) {
+    let lower = draws.between(-GREATEST_BOUND + 1, GREATEST_BOUND - 1);
+    let upper = lower + draws.between(-1, 1);
+    set_domain(lent, draws, lower, upper);
+}
+
+fn domain_wide(lent: &mut Lent, draws: &mut Draws) {
+    let lower = draws.between(-GREATEST_BOUND, -1);
+    let upper = lower + draws.pick(&[9_999, 10_000, 10_001]);
+    set_domain(lent, draws, lower, upper);
+}
+
+fn domains_differ(lent: &mut Lent, draws: &mut Draws) {
+    let at = any_bound(draws);
+    lent.description[at] = lent.description[at].saturating_add(draws.pick(&[-1, 1]));
+}
+
+/// The places that the description asks for, if they are within what is there.
+fn needed(lent: &Lent) -> usize {
+    let n = lent.description[place::N].clamp(0, 300_000) as usize;
+    let rows = if lent.description[place::KIND] == 3 { n.min(256).pow(3) } else { n };
+    (3 * rows).min(lent.table.len())
+}
+
+fn table_one_short(lent: &mut Lent, _: &mut Draws) {
+    lent.table.truncate(needed(lent).saturating_sub(1));
+}
+
+fn table_empty(lent: &mut Lent, _: &mut Draws) {
+    lent.table.clear();
+}
+
+fn table_shorter(lent: &mut Lent, draws: &mut Draws) {
+    let keep = draws.below(lent.table.len() + 1);
+    lent.table.truncate(keep);
+}
+
+fn set_sample(lent: &mut Lent, draws: &mut Draws, sample: i64) {
+    if !lent.table.is_empty() {
+        let at = draws.below(lent.table.len());
+        lent.table[at] = sample;
+    }
+}
+
+fn sample_at_limit(lent: &mut Lent, draws: &mut Draws) {
+    let size = GREATEST_SAMPLE + draws.between(-1, 1);
+    let sample = size * draws.pick(&[1, -1]);
+    set_sample(lent, draws, sample);
+}
+
+fn sample_extreme(lent: &mut Lent, draws: &mut Draws) {
+    let sample = draws.pick(EXTREMES);
+    set_sample(lent, draws, sample);
+}
+
+fn last_sample_beyond(lent: &mut Lent, draws: &mut Draws) {
+    if let Some(last) = needed(lent).checked_sub(1) {
+        lent.table[last] = (GREATEST_SAMPLE + 1) * draws.pick(&[1, -1]);
+    }
+}
+
+fn later_place_extreme(lent: &mut Lent, draws: &mut Draws) {
+    lent.table.push(draws.pick(&[i64::MIN, i64::MAX, GREATEST_SAMPLE + 1]));
+}
+
+fn title_extreme(lent: &mut Lent, draws: &mut Draws) {
+    for index in [place::TITLE, place::TITLE_PLACE, place::TITLE_LENGTH] {
+        lent.description[index] = draws.pick(EXTREMES);
+    }
+}
+
+fn at_random(lent: &mut Lent, draws: &mut Draws) {
+    for _ in 0..draws.below(4) + 1 {
+        let at = draws.below(11);
+        lent.description[at] = match draws.below(3) {
+            0 => draws.number() as i64,
+            1 => draws.between(-20_000, 20_000),
+            _ => draws.between(0, 4),
+        };
+    }
+}

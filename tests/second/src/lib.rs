@@ -1,0 +1,38 @@
+//! A second program for .cube tables, written from the papers alone.
+//!
+//! Document 000 is the Cube LUT Specification 1.0; document 01 decides where
+//! 000 is silent, can be read in two ways, or we are narrower. This program
+//! shares nothing with the proved one but those two papers and the C boundary
+//! over which the two are compared.
+//!
+//! | module | what document 01 calls it |
+//! |---|---|
+//! | `paper` | "Answers by number", "Units and places" |
+//! | `decimal` | "A number is an optional sign, then digits, ..." |
+//! | `reading` | "Lines", "Answers by number" |
+//! | `look` | "Interpolation" |
+//! | `picture` | "a run of pixels to corrected codes" |
+//! | `report` | "The report program" |
+//! | `cases` | "Checked by hand", the cases not marked P |
+//!
+//! `gen` makes inputs from a seed, `side` puts them to one of the two programs,
+//! `run` goes through a whole stream and counts, and `ffi` (feature `ours`)
+//! calls the proved program.
+
+pub mod cases;
+pub mod decimal;
+pub mod gen;
+pub mod look;
+pub mod paper;
+pub mod picture;
+pub mod reading;
+pub mod report;
+pub mod run;
+pub mod show;
+pub mod side;
+
+#[cfg(feature = "ours")]
+pub mod ffi;
+
+#[cfg(test)]
+mod by_hand;

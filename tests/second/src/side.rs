@@ -1,0 +1,64 @@
+//! The three calls as a comparison sees them: each side is given the same lent memory,
+//! filled with the same pattern, and answers with all of it.
+
+use crate::gen::{FileCase, LookCase, PictureCase};
+use crate::look::{look, Look};
+use crate::paper::Description;
+use crate::picture::picture;
+use crate::reading::read_into;
+
+/// All that reading leaves behind.
+#[derive(Clone, PartialEq, Eq, Debug)]
+pub struct ReadAnswer {
+    pub number: u32,
+    pub line: u64,
+    pub description: Description,
+    pub table: Vec<i64>,
+}
+
+/// All that picture leaves behind.
+#[derive(Clone, PartialEq, Eq, Debug)]
+pub struct PictureAnswer {
+    pub number: u32,
+    pub output: Vec<u16>,
+}
+
+/// A program that answers the three calls. An error tells of memory changed that was not
+/// lent, or lent for reading only.
+pub trait Side {
+    fn read(&self, case: &FileCase) -> Result<ReadAnswer, String>;
+    fn look(&self, case: &LookCase) -> Result<Look, String>;
+    fn picture(&self, case: &PictureCase) -> Result<PictureAnswer, String>;
+}
+
+/// What a lent table holds beforehand: no number that reading writes, each place its own.
+pub fn pattern(place: usize) -> i64 {
+    -0x5A5A_0000_0000_0000 + place as i64
+}
+
+/// What a lent output holds beforehand.
+pub fn code_pattern(place: usize) -> u16 {
+    0xA5C3u16.wrapping_add((place as u16).wrapping_mul(77))
+}
+
+/// This program.
+pub struct Second;
+
+impl Side for Second {
+    fn read(&self, case: &FileCase) -> Result<ReadAnswer, String> {
+        let mut table: Vec<i64> = (0..case.table_len).map(pattern).collect();
+        let reading = read_into(&case.file, &mut table);
+        let (number, line, description) = (reading.number, reading.line, reading.description);
+        Ok(ReadAnswer { number, line, description, table })
+    }
+
+    fn look(&self, case: &LookCase) -> Result<Look, String> {
+        Ok(look(&case.description, &case.table, case.bits, case.pixel))
+    }
+
+    fn picture(&self, case: &PictureCase) -> Result<PictureAnswer, String> {
+        let mut output: Vec<u16> = (0..case.output_len).map(code_pattern).collect();
+        let number = picture(&case.description, &case.table, case.bits, &case.source, &mut output);
+        Ok(PictureAnswer { number, output })
+    }
+}
