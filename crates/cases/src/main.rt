@@ -1,6 +1,8 @@
-// Document 01's cases, run by the proved leaves and printed: words as numbers, lines, sizes, codes between two samples, depths.
-mod codes;
+// Document 01's cases, run by the proved code and printed: words as numbers, lines, sizes, files, looks, depths.
+mod depths;
+mod files;
 mod lines;
+mod looks;
 mod print;
 mod sizes;
 mod words;
@@ -9,5 +11,7 @@ fn main() {
     words::run();
     lines::run();
     sizes::run();
-    codes::run();
+    files::run();
+    looks::run();
+    depths::run();
 }

@@ -1,16 +1,42 @@
-// Lines of output: a name, a colon, and what it is.
+// What is printed: names, numbers, and lines of a name and what it is.
+use whole::Whole;
 
-pub fn text(name: &[u8], answer: &[u8]) {
-    io::write_all(1, name);
-    io::write_all(1, b": ");
-    io::write_all(1, answer);
-    io::write_all(1, b"\n");
+pub fn raw(text: &[u8]) {
+    io::write_all(1, text);
 }
 
-pub fn number(name: &[u8], sign: &[u8], n: u64) {
-    io::write_all(1, name);
-    io::write_all(1, b": ");
-    io::write_all(1, sign);
+// A blank and a number.
+pub fn count(n: u64) {
+    raw(b" ");
     io::print_decimal(1, n);
-    io::write_all(1, b"\n");
+}
+
+// A blank and a number that may be negative.
+pub fn signed(n: i64) {
+    raw(b" ");
+    if n < 0 {
+        raw(b"-");
+    }
+    io::print_decimal(1, Whole(n).size());
+}
+
+pub fn text(name: &[u8], answer: &[u8]) {
+    raw(name);
+    raw(b": ");
+    raw(answer);
+    raw(b"\n");
+}
+
+pub fn number(name: &[u8], n: u64) {
+    raw(name);
+    raw(b":");
+    count(n);
+    raw(b"\n");
+}
+
+pub fn value(name: &[u8], n: i64) {
+    raw(name);
+    raw(b":");
+    signed(n);
+    raw(b"\n");
 }

@@ -10,10 +10,11 @@ fn show(name: &[u8], kind: Kind, word: &[u8]) {
         return;
     }
     match size_on(kind, word, 0) {
-        Content::Wrong(reason) => print::number(name, b"", reason.number() as u64),
+        Content::Wrong(reason) => print::number(name, reason.number() as u64),
         Content::Says(item) => {
             if let Item::OfSize(size) = item {
-                print::number(name, b"N ", size.n as u64);
+                print::raw(b"N = ");
+                print::number(word, size.n as u64);
             }
         }
     }

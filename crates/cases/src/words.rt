@@ -2,20 +2,13 @@
 use crate::print;
 use numbers::number_of;
 use rules::Number;
-use whole::Whole;
 
 fn show(w: &[u8]) {
     if w.len() > 250 {
         return;
     }
     match number_of(w, 7, 10_000_000_000) {
-        Number::Value(v) => {
-            if v < 0 {
-                print::number(w, b"-", Whole(v).size());
-            } else {
-                print::number(w, b"", Whole(v).size());
-            }
-        }
+        Number::Value(v) => print::value(w, v),
         Number::Malformed => print::text(w, b"15"),
         Number::Beyond => print::text(w, b"16"),
         Number::Finer => print::text(w, b"17"),

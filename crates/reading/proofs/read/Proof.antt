@@ -1,6 +1,6 @@
 -- The first pass gives the rules' answer. Of a refusal the table is as it was; of an acceptance the second pass leaves the samples, three to a row, and later places as they were.
 use Prim.Native.Nat.{ℕ}
-use mathlib.Core.Path.{_≡_, sym, ap, _∙_}
+use mathlib.Core.Path.{sym, ap, _∙_}
 use mathlib.Core.List.{List, _++_}
 use borrow.Author.Needs.{needs}
 use denote.Ref.{now}
