@@ -15,6 +15,7 @@ use Rattle.rules.specs.declared.Kind.{Kind}
 use Rattle.rules.specs.declared.Kind.the-variants.{OneD, ThreeD}
 use Rattle.rules.proofs.Judged.{Sound, sound-of}
 use Rattle.rules.proofs.Demand3 as D3
+use Rattle.colour.specs.Limits.{denLimit}
 use Rattle.colour.specs.Places.{Readable, placeOf, Cell}
 
 greatest-at-most : (k : Kind) → greatestN k ≤ 65536
@@ -29,7 +30,7 @@ module _ (d : Description) (r : Readable d) where
   n-most = NatL.le-trans (sound .most) (greatest-at-most (d .kind))
 
   module _ (m : ℕ) (most : m < 65536) (c : Colour) where
-    pub den-most : denOf d m c ≤ 655_350_000
+    pub den-most : denOf d m c ≤ denLimit
     den-most = NatL.mul-le-mul {n₂ = 65535} {m₂ = 10_000} (omega arith) (sound .domains c .narrow)
 
   module _ (m : ℕ) (deep : 0 < m) (pixel : Codes) (c : Colour) where

@@ -16,7 +16,8 @@ use Rattle.rules.specs.declared.Colour.{Colour}
 use Rattle.rules.specs.declared.Colour.the-variants.{Red, Green, Blue}
 use Rattle.rules.specs.declared.Share.{Share}
 use Rattle.rules.proofs.Colours.{place-below}
-use Rattle.colour.specs.Adding.{denLimit, RowAt, Room, Added, carried, Totalled}
+use Rattle.colour.specs.Limits.{denLimit}
+use Rattle.colour.specs.Adding.{RowAt, Room, Added, carried, Totalled}
 
 pub each-colour : (P : Colour → Type 0) → P Red → P Green → P Blue → (c : Colour) → P c
 each-colour P r g b Red = r

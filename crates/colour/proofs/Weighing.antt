@@ -24,7 +24,8 @@ use Rattle.rules.specs.declared.Shares.{Shares}
 use Rattle.rules.proofs.Colours.{place-below}
 use Rattle.rules.proofs.Judged.{Sound, sound-of}
 use Rattle.rules.proofs.Demand3.{short-division, right}
-use Rattle.colour.specs.Adding.{sumLimit, RowAt, sumIn, carried, SharesFit, Totalled, Weighable}
+use Rattle.colour.specs.Limits.{sumLimit}
+use Rattle.colour.specs.Adding.{RowAt, sumIn, carried, SharesFit, Totalled, Weighable}
 use Rattle.colour.specs.declared.sums.Sums.{Sums}
 use Rattle.colour.proofs.Readables.{den-most}
 use Rattle.colour.proofs.Totals.{each-colour}

@@ -4,6 +4,7 @@ use mathlib.Core.Path.{_≡_}
 use mathlib.Core.List.{List, [], _∷_}
 use lib.IntN.{ℤ, pos, natAbs, _+ℤ_, _*ℤ_}
 use lib.ListN.{length, getD}
+use lib.Signed.{_≤ℤ_}
 use Rattle.whole.specs.Nearest.{weights}
 use Rattle.rules.specs.Units.{sampleLimit, colourPlace}
 use Rattle.rules.specs.Descriptions.{rows}
@@ -14,16 +15,8 @@ use Rattle.rules.specs.declared.Colour.the-variants.{Red, Green, Blue}
 use Rattle.rules.specs.declared.Description.{Description}
 use Rattle.rules.specs.declared.Share.{Share}
 use Rattle.rules.specs.declared.Shares.{Shares}
-use lib.Signed.{_≤ℤ_}
+use Rattle.colour.specs.Limits.{denLimit, sumLimit}
 use Rattle.colour.specs.declared.sums.Sums.{Sums}
-
--- the largest S
-abbrev pub sumLimit : ℕ
-sumLimit = 6_553_500_000_000_000_000
-
--- the largest D
-abbrev pub denLimit : ℕ
-denLimit = 655_350_000
 
 -- ---- one term more
 

@@ -1,3 +1,4 @@
 -- What only the code needs: nothing here has to be believed.
+pub mod Limits
 pub mod Places
 pub mod Adding

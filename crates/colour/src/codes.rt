@@ -13,7 +13,11 @@ ghost use Rattle.whole.specs.Nearest.{code};
 ghost use Rattle.rules.specs.Units.{sampleOne, codeIn};
 ghost use Rattle.rules.specs.Descriptions.{domain, width};
 ghost use Rattle.rules.proofs.Judged.{DomainFits};
-ghost use Rattle.colour.specs.Adding.{sumLimit, sumIn};
+ghost use Rattle.colour.specs.Limits.{sumLimit};
+ghost use Rattle.colour.specs.Adding.{sumIn};
+
+// 1 as a sample, in ten-millionths.
+const SAMPLE_ONE: u64 = 10_000_000;
 
 // The code nearest to S / (w·10,000,000): the raw and the corrected depth are one, so that M falls out.
 fn code_of(sum: Whole, dom: Domain, m: u16) -> u16
@@ -22,7 +26,7 @@ fn code_of(sum: Whole, dom: Domain, m: u16) -> u16
     ensures { λ r. ⌜ r ≡ code (sum .0) (width dom * sampleOne) m ⌝ }
 {
     let w = width_of(dom);
-    let den = w * 10_000_000;
+    let den = w * SAMPLE_ONE;
     sum.nearest(den, m as u64) as u16
 }
 

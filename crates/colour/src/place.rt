@@ -14,6 +14,9 @@ ghost use Rattle.rules.specs.Descriptions.{domain, width};
 ghost use Rattle.rules.proofs.Judged.{DomainFits};
 ghost use Rattle.colour.specs.Places.{Readable, placeOf};
 
+// 1 as a bound, in thousandths.
+const BOUND_ONE: u64 = 1000;
+
 // D, the index i and the fraction f of one colour.
 pub struct Place {
     pub den: u64,
@@ -45,7 +48,7 @@ fn above_lower(lower: Thousandths, m: u16, c: u16) -> u64
     ensures { λ r. ⌜ r ≡ up (pos (boundOne * c) -ℤ (pos m *ℤ lower .0)) ⌝ }
 {
     let lo = lower.0;
-    let thousands = 1000 * c as u64;
+    let thousands = BOUND_ONE * c as u64;
     let a = Whole(thousands as i64 - m as i64 * lo);
     a.above()
 }
@@ -64,7 +67,7 @@ fn place_of(dom: Domain, m: u16, n: usize, c: u16) -> Place
     let p = a * (n as u64 - 1);
     let i = lesser(p / den, n as u64 - 2);
     Place {
-        den: den,
+        den,
         index: i as usize,
         fraction: p - i * den,
     }

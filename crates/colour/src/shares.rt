@@ -12,10 +12,11 @@ ghost use Prim.Native.Nat.{_+_, _*_, _≤_, _<_};
 ghost use Rattle.rules.specs.Units.{rowAt};
 ghost use Rattle.rules.specs.Interpolation.{share, pair, climb};
 ghost use Rattle.rules.specs.Looking.{six, shown};
+ghost use Rattle.colour.specs.Limits.{rowLimit, denLimit};
 ghost use Rattle.colour.specs.Places.{Readable, Cell, ofPair, three, along};
 
 fn share_of(row: usize, weight: u64) -> Share
-    requires { ⌜ weight ≤ 655_350_000 ⌝ }
+    requires { ⌜ weight ≤ denLimit ⌝ }
     ensures { λ r. ⌜ r ≡ share row weight ⌝ }
 {
     Share {
@@ -84,8 +85,8 @@ struct Step {
 
 // Four rows from a start, by three steps: weights D − f1, f1 − f2, f2 − f3, f3.
 fn climbed(start: usize, den: u64, one: Step, two: Step, three: Step) -> Shares
-    requires { ⌜ start + one .stride + two .stride + three .stride ≤ 16_777_216 ⌝ }
-    requires { ⌜ den ≤ 655_350_000 ⌝ }
+    requires { ⌜ start + one .stride + two .stride + three .stride ≤ rowLimit ⌝ }
+    requires { ⌜ den ≤ denLimit ⌝ }
     requires { ⌜ one .fraction ≤ den ⌝ }
     requires { ⌜ two .fraction ≤ one .fraction ⌝ }
     requires { ⌜ three .fraction ≤ two .fraction ⌝ }
@@ -109,8 +110,8 @@ fn climbed(start: usize, den: u64, one: Step, two: Step, three: Step) -> Shares
 
 // One case for each order of the three fractions, the greatest first; equal ones stand red, green, blue.
 fn path_along(start: usize, den: u64, red: Step, green: Step, blue: Step) -> Shares
-    requires { ⌜ start + red .stride + green .stride + blue .stride ≤ 16_777_216 ⌝ }
-    requires { ⌜ den ≤ 655_350_000 ⌝ }
+    requires { ⌜ start + red .stride + green .stride + blue .stride ≤ rowLimit ⌝ }
+    requires { ⌜ den ≤ denLimit ⌝ }
     requires { ⌜ red .fraction ≤ den ⌝ }
     requires { ⌜ green .fraction ≤ den ⌝ }
     requires { ⌜ blue .fraction ≤ den ⌝ }
@@ -140,7 +141,7 @@ fn path_along(start: usize, den: u64, red: Step, green: Step, blue: Step) -> Sha
 // From the row of the three i, one index up along each axis.
 fn path_by(n: usize, den: u64, r: Place, g: Place, b: Place) -> Shares
     requires { ⌜ n ≤ 256 ⌝ }
-    requires { ⌜ den ≤ 655_350_000 ⌝ }
+    requires { ⌜ den ≤ denLimit ⌝ }
     requires { ⌜ Cell n den r ⌝ }
     requires { ⌜ Cell n den g ⌝ }
     requires { ⌜ Cell n den b ⌝ }

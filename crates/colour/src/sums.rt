@@ -23,7 +23,7 @@ pub struct Sums {
 
 // ---- one term more
 
-fn place_of(c: Colour) -> usize
+fn colour_place(c: Colour) -> usize
     ensures { λ r. ⌜ r ≡ colourPlace c ⌝ }
 {
     match c {
@@ -38,7 +38,7 @@ fn sample_of(part: &[i64], c: Colour) -> TenMillionths
     requires { ⌜ 3 ≤ length (now part) ⌝ }
     ensures { λ r. ⌜ r .0 ≡ getD (now (part .entry)) (colourPlace c) (pos 0) ⌝ }
 {
-    let at = place_of(c);
+    let at = colour_place(c);
     TenMillionths(part[at])
 }
 
@@ -142,7 +142,7 @@ pub fn cube_sums(table: &[i64], shares: Shares) -> Sums
         blue: Whole(0),
     };
     let last = add_row(table, fourth, none);
-    let two = add_row(table, third, last);
-    let three = add_row(table, second, two);
-    add_row(table, first, three)
+    let last_two = add_row(table, third, last);
+    let last_three = add_row(table, second, last_two);
+    add_row(table, first, last_three)
 }

@@ -205,7 +205,7 @@ fn greater(a: TenMillionths, b: TenMillionths) -> TenMillionths
     b
 }
 
-// Each sample is from -1000 to 1000 where the least and the greatest of them, and 0, are.
+// All samples lie from -1000 to 1000 if the least and the greatest of them do.
 fn samples_fit(samples: &[i64]) -> bool
     ensures { λ r. ⌜ r ≡ samplesFit (now (samples .entry)) ⌝ }
 {

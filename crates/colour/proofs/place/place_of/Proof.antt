@@ -5,11 +5,12 @@ use native.Mathlib.Omega.{arith}
 use borrow.Author.Needs.{needs}
 use Rattle.rules.specs.Interpolation.{offset, position, index, fraction}
 use Rattle.rules.proofs.Judged.{wide-enough}
+use Rattle.colour.specs.Limits.{denLimit}
 use Rattle.colour.specs.Places.{placeOf}
 use Rattle.colour.proofs.place.place_of.Statement.{statement}
 use Rattle.colour.proofs.place.place_of.Tie as tie
 
-den-most : (c : tie.After-width-of) → c .before .args .m * c .width-of .result ≤ 655_350_000
+den-most : (c : tie.After-width-of) → c .before .args .m * c .width-of .result ≤ denLimit
 den-most c =
     let s = c .before in
     NatL.mul-le-mul {n₂ = 65535} {m₂ = 10_000} (omega (arith, s .fits .m)) (rw (c .width-of .ensures) (s .pre .0 .narrow))
@@ -18,7 +19,7 @@ den-above-0 : (c : tie.After-width-of) → 0 < c .before .args .m * c .width-of 
 den-above-0 c = NatL.mul-pos (c .before .pre .1 .0) (rw (c .width-of .ensures) (wide-enough (c .before .pre .0)))
 
 -- p = a·(N−1)
-p-most : (c : tie.After-lesser) → c .lesser .result * (c .before .before .before .before .args .n - 1) ≤ 655_350_000 * 65535
+p-most : (c : tie.After-lesser) → c .lesser .result * (c .before .before .before .before .args .n - 1) ≤ denLimit * 65535
 p-most c =
     let s = c .before .before .before .before in
     NatL.mul-le-mul {n₂ = 655_350_000} {m₂ = 65535} (omega (arith, c .lesser .ensures, den-most (c .before .before .before))) (omega (arith, s .pre))

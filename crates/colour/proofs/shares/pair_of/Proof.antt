@@ -3,6 +3,7 @@ use Prim.Native.Nat.{_≤_}
 use native.Mathlib.Omega.{arith}
 use borrow.Author.Needs.{needs}
 use Rattle.rules.specs.Interpolation.{pair, pairBy}
+use Rattle.colour.specs.Limits.{denLimit}
 use Rattle.colour.specs.Places.{placeOf}
 use Rattle.colour.specs.declared.place.Place.{Place}
 use Rattle.colour.proofs.Readables.{n-most, den-most, reads}
@@ -12,7 +13,7 @@ use Rattle.colour.proofs.shares.pair_of.Tie as tie
 -- the place lies within its cell, and the numbers are small
 record Placed (at : Place) : Type 0 where
   part : at .fraction ≤ at .den
-  den : at .den ≤ 655_350_000
+  den : at .den ≤ denLimit
   cell : at .index ≤ 65536
 
 placed : (c : tie.After-place-in) → Placed (c .place-in .result)

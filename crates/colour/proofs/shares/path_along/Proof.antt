@@ -7,6 +7,7 @@ use borrow.Author.Tests.{leb-true, leb-false, ltb-true, ltb-false}
 use Rattle.rules.specs.Interpolation.{Order, 1st, 2nd, 3rd, rgb, rbg, brg, grb, gbr, bgr, order}
 use Rattle.rules.specs.declared.Colour.{Colour}
 use Rattle.rules.specs.declared.Colour.the-variants.{Red, Green, Blue}
+use Rattle.colour.specs.Limits.{rowLimit, denLimit}
 use Rattle.colour.specs.Places.{three}
 use Rattle.colour.proofs.Orders.{is-rgb, is-rbg, is-brg, is-grb, is-gbr, is-bgr, none-of-five, descends, in-order}
 use Rattle.colour.proofs.shares.path_along.Statement.{statement}
@@ -27,7 +28,7 @@ module _ (c : tie.Start) where
   parts Blue = c .pre .1 .1 .1 .1
 
   -- in whatever order the steps are taken, they lead to the same row
-  same-end : (o : Order) → c .args .start + s (1st o) + s (2nd o) + s (3rd o) ≤ 16_777_216
+  same-end : (o : Order) → c .args .start + s (1st o) + s (2nd o) + s (3rd o) ≤ rowLimit
   same-end rgb = c .pre .0
   same-end rbg = omega (arith, c .pre .0)
   same-end brg = omega (arith, c .pre .0)
@@ -37,8 +38,8 @@ module _ (c : tie.Start) where
 
   -- what `climbed` asks for
   fits : (o : Order) → order f ≡ o
-      → (c .args .start + s (1st o) + s (2nd o) + s (3rd o) ≤ 16_777_216)
-      × ((c .args .den ≤ 655_350_000) × ((f (1st o) ≤ c .args .den) × ((f (2nd o) ≤ f (1st o)) × (f (3rd o) ≤ f (2nd o)))))
+      → (c .args .start + s (1st o) + s (2nd o) + s (3rd o) ≤ rowLimit)
+      × ((c .args .den ≤ denLimit) × ((f (1st o) ≤ c .args .den) × ((f (2nd o) ≤ f (1st o)) × (f (3rd o) ≤ f (2nd o)))))
   fits o e = let down = descends f o e in (same-end o, (c .pre .1 .0, (parts (1st o), (down .upper, down .lower))))
 
 -- ---- the six cases

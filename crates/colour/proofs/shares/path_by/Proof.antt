@@ -7,6 +7,7 @@ use Rattle.rules.specs.Interpolation.{rgb, pathBy, climb}
 use Rattle.rules.specs.declared.Colour.{Colour}
 use Rattle.rules.specs.declared.Colour.the-variants.{Red, Green, Blue}
 use Rattle.rules.proofs.RowsAndWeights.{path-rows}
+use Rattle.colour.specs.Limits.{rowLimit}
 use Rattle.colour.specs.Places.{three}
 use Rattle.colour.proofs.shares.path_by.Statement.{statement}
 use Rattle.colour.proofs.shares.path_by.Tie as tie
@@ -26,10 +27,10 @@ module _ (s : tie.Start) where
   square-most : n * n ≤ 65536
   square-most = mul-le-mul (s .pre .0) (s .pre .0)
 
-  cube-most : n * n * n ≤ 16_777_216
+  cube-most : n * n * n ≤ rowLimit
   cube-most = mul-le-mul square-most (s .pre .0)
 
-  end-most : rowAt n i + 1 + n + n * n ≤ 16_777_216
+  end-most : rowAt n i + 1 + n + n * n ≤ rowLimit
   unfolding pathBy climb
   end-most = omega (arith, path-rows n 0 i i rgb cells .1 .1 .1 .0, cube-most)
 

@@ -11,18 +11,18 @@ use Rattle.rules.proofs.Colours.{place-below}
 use Rattle.colour.proofs.sums.sample_of.Statement.{statement}
 use Rattle.colour.proofs.sums.sample_of.Tie as tie
 
-place-of-requires : tie.Need-place-of-requires
-place-of-requires c κs = search needs
+colour-place-requires : tie.Need-colour-place-requires
+colour-place-requires c κs = search needs
 
 mul-t4 : tie.Need-mul-t4
-mul-t4 c = omega (arith, c .place-of .ensures, place-below (c .before .args .c))
+mul-t4 c = omega (arith, c .colour-place .ensures, place-below (c .before .args .c))
 
 shared-slice-copy-out-t6 : tie.Need-shared-slice-copy-out-t6
-shared-slice-copy-out-t6 c = omega (arith, c .place-of .ensures, place-below (c .before .args .c), c .before .pre)
+shared-slice-copy-out-t6 c = omega (arith, c .colour-place .ensures, place-below (c .before .args .c), c .before .pre)
 
 returns : tie.Need-returns
 returns c =
-    toZ-ofZ w64 _ (sfits-of (c .t6 .given)) ∙ ap (λ k. getD (now (c .before .before .args .part)) k (pos 0)) (c .before .place-of .ensures)
+    toZ-ofZ w64 _ (sfits-of (c .t6 .given)) ∙ ap (λ k. getD (now (c .before .before .args .part)) k (pos 0)) (c .before .colour-place .ensures)
 
 pub sample-of-spec : {M : Type 1} → statement M
-sample-of-spec = tie.close (tie.spec place-of-requires mul-t4 shared-slice-copy-out-t6 returns)
+sample-of-spec = tie.close (tie.spec colour-place-requires mul-t4 shared-slice-copy-out-t6 returns)
