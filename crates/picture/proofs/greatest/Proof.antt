@@ -1,0 +1,55 @@
+-- The invariant: all codes are at most m exactly if the greatest of those passed is, and all those to come are. The measure is what is left.
+use Prim.Native.Nat.{_-_, _≤_}
+use lib.ListN.{length}
+use Rattle.picture.proofs.Maxima.{Judges, none-passed, one-more, all-passed}
+use borrow.Author.Needs.{needs}
+use native.Mathlib.Omega.{arith}
+use Rattle.picture.proofs.greatest.Statement.{statement}
+use Rattle.picture.proofs.greatest.Tie as tie
+
+abbrev Inv-loop : tie.InvT-loop
+Inv-loop codes most₀ i₀ most i = (i ≤ length codes) × Judges codes i most
+
+abbrev μ-loop : tie.MeasureT-loop
+μ-loop codes most₀ i₀ most i = length codes - i
+
+loop-holds : tie.Need-loop-holds Inv-loop μ-loop
+loop-holds c = (search needs, none-passed _)
+
+mul-greater : tie.Need-mul-greater Inv-loop μ-loop
+mul-greater c = search needs
+
+shared-slice-read-greater : tie.Need-shared-slice-read-greater Inv-loop μ-loop
+shared-slice-read-greater c = search needs
+
+greater-requires : tie.Need-greater-requires Inv-loop μ-loop
+greater-requires c κs = search needs
+
+add-i : tie.Need-add-i Inv-loop μ-loop
+add-i c = search needs
+
+loop-less : tie.Need-loop-less Inv-loop μ-loop
+loop-less c = search needs
+
+loop-again : tie.Need-loop-again Inv-loop μ-loop
+loop-again c =
+    let l = c .before .before .before in
+    (search needs, rw (c .greater .ensures) (one-more (l .before .before .args .codes .now) (l .loop .i) (l .loop .most) (omega arith) (l .loop .inv .1)))
+
+returns : tie.Need-returns Inv-loop μ-loop
+returns c = let l = c .before .loop in all-passed _ (l .i) (l .most) (omega arith) (l .inv .1)
+
+pub greatest-spec : {M : Type 1} → statement M
+greatest-spec =
+    tie.close
+    (tie.spec
+    Inv-loop
+    μ-loop
+    loop-holds
+    mul-greater
+    shared-slice-read-greater
+    greater-requires
+    add-i
+    loop-less
+    loop-again
+    returns)
