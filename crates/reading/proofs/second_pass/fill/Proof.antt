@@ -1,6 +1,6 @@
 -- The invariant is the table filled up to the cursor, and the measure what is left of the file; each turn cites the laws of the second pass.
 use Prim.Native.Nat.{ℕ, _+_, _-_}
-use mathlib.Core.Path.{sym, ap, subst, _∙_}
+use mathlib.Core.Path.{sym, _∙_}
 use mathlib.Core.List.{List}
 use native.Mathlib.Omega.{arith}
 use borrow.Author.Needs.{needs}
