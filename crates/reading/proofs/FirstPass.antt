@@ -36,29 +36,29 @@ module _ {file : List ℕ} {places : ℕ} {st : State} {c : Cursor} (here : Onwa
     abbrev text : List ℕ
     text = take (to - from) (drop from file)
 
-    -- the rest after this line
-    abbrev rest : Given → Read
-    rest st′ = readLines places (from + length text + 1) (suc (passed file c)) st′ (linesFrom file (next .at))
+    -- the rest after this line, which begins at place p
+    abbrev rest : ℕ → Given → Read
+    rest p st′ = readLines places (p + length text + 1) (suc (passed file c)) st′ (linesFrom file (next .at))
 
-    turns : read file places ≡ onward rest (suc (passed file c)) (judge places (view st) from text)
+    turns : read file places ≡ onward (rest from) (suc (passed file c)) (judge places (view st) from text)
     unfolding readLines
     turns =
         here .same
         ∙ ap (readLines places (c .at) (passed file c) (view st)) (f .lines)
-        ∙ sym (ap (λ (p : ℕ). onward (λ st′. readLines places (p + length text + 1) (suc (passed file c)) st′ (linesFrom file (next .at))) (suc (passed file c)) (judge places (view st) p text)) (f .here))
+        ∙ sym (ap (λ (p : ℕ). onward (rest p) (suc (passed file c)) (judge places (view st) p text)) (f .here))
 
     pub goes-on : (j : Judged) (st′ : State) → j ≡ Go st′ → judgedOf j ≡ judge places (view st) from text → FitJudged j → Onward file places st′ next
     goes-on j st′ e says k = record {
       standing = f .next-standing;
       fit = subst FitJudged e k;
-      same = turns ∙ ap (onward rest (suc (passed file c))) (sym says ∙ ap judgedOf e) ∙ sym (λ i. readLines places (f .place i) (f .next-passed i) (view st′) (linesFrom file (next .at)));
+      same = turns ∙ ap (onward (rest from) (suc (passed file c))) (sym says ∙ ap judgedOf e) ∙ sym (λ i. readLines places (f .place i) (f .next-passed i) (view st′) (linesFrom file (next .at)));
     }
 
     pub stops : (j : Judged) (r : Refusal) → j ≡ Refuse r → judgedOf j ≡ judge places (view st) from text → stopped places line (judgedOf j) ≡ read file places
     stops j r e says =
         ap (λ (v : Judged). stopped places line (judgedOf v)) e
         ∙ ap (Refused r) (f .number)
-        ∙ sym (turns ∙ ap (onward rest (suc (passed file c))) (sym says ∙ ap judgedOf e))
+        ∙ sym (turns ∙ ap (onward (rest from) (suc (passed file c))) (sym says ∙ ap judgedOf e))
 
   pub ends : EndFound file c → finish (c .line) (view st) (endFault places (view st)) ≡ read file places
   unfolding readLines

@@ -62,10 +62,12 @@ fn head_fault(st: State, places: usize) -> Checked
 fn keyword_fault(st: State, k: Keyword) -> Checked
     ensures { λ r. ⌜ ((places : ℕ) → faultOf r ≡ orderFault places (view st) (Keyed k)) ⌝ }
 {
-    if st.rows != 0 {
+    let late = st.rows != 0;
+    let again = st.repeats(k);
+    if late {
         return Checked::Refused(Refusal::KeywordAfterData);
     }
-    if st.repeats(k) {
+    if again {
         return Checked::Refused(Refusal::KeywordRepeated);
     }
     Checked::Passed

@@ -14,13 +14,14 @@ use Rattle.reading.proofs.SecondPass.{accepted-length}
 use Rattle.reading.proofs.read.Statement.{statement}
 use Rattle.reading.proofs.read.Tie as tie
 
+-- the file, and the table as it was
 abbrev bytes : tie.Start → List ℕ
 bytes s = now (s .args .file)
 
-abbrev places : tie.Start → List ℤ
-places s = now (s .args .table)
+abbrev old : tie.Start → List ℤ
+old s = now (s .args .table)
 
-accepts : (c : tie.After-enum-told) → let s = c .before .before .before .before in Accepts (bytes s) (length (places s))
+accepts : (c : tie.After-enum-told) → let s = c .before .before .before .before in Accepts (bytes s) (length (old s))
 accepts c = record { description = c .enum-told .given .0 .0; accepted = sym (c .before .before .judge-file .ensures) ∙ c .enum-told .given .1 }
 
 judge-file-requires : tie.Need-judge-file-requires
@@ -37,7 +38,7 @@ unfolding tableAfter
 returns c =
     let judged = c .before .before in
     let s = judged .before .before in
-    is-reads (judged .judge-file .ensures) (sym (ap (tableAfter (bytes s) (places s)) (sym (judged .judge-file .ensures) ∙ c .enum-told2 .given .1)))
+    is-reads (judged .judge-file .ensures) (sym (ap (tableAfter (bytes s) (old s)) (sym (judged .judge-file .ensures) ∙ c .enum-told2 .given .1)))
 
 fill-requires : tie.Need-fill-requires
 fill-requires c κs = accepts (c .before)
@@ -52,8 +53,8 @@ returns-2 c =
     let s = told .before .before .before .before in
     is-reads (told .before .before .judge-file .ensures)
     (c .before .fill .ensures
-    ∙ ap (λ (n : ℕ). samplesOf (linesOf (bytes s)) ++ drop n (places s)) (accepted-length (accepts told))
-    ∙ sym (ap (tableAfter (bytes s) (places s)) (accepts told .accepted)))
+    ∙ ap (λ (n : ℕ). samplesOf (linesOf (bytes s)) ++ drop n (old s)) (accepted-length (accepts told))
+    ∙ sym (ap (tableAfter (bytes s) (old s)) (accepts told .accepted)))
 
 pub read-spec : {M : Type 1} → statement M
 read-spec =
