@@ -1,6 +1,6 @@
 -- The output while it is filled: in front the corrected codes of the pixels passed, behind them what was there. A pixel's three codes are the next three of the corrected picture.
 use Prim.Native.Nat.{ℕ, suc, _+_, _*_, _/_, _%_, _≤_, _<_}
-use mathlib.Core.Path.{_≡_, refl, sym, ap, ap₂, subst, _∙_}
+use mathlib.Core.Path.{_≡_, sym, ap, ap₂, subst, _∙_}
 use mathlib.Core.Bool.{true}
 use mathlib.Core.List.{List, [], _∷_, _++_}
 use native.Mathlib.Omega.{arith}
@@ -44,14 +44,16 @@ three-from l i h =
     let two : i + 2 ≡ suc (suc i) = omega arith in
     rw (none, one, two, drop-cons l i 0 (omega arith), drop-cons l (suc i) 0 (omega arith), drop-cons l (suc (suc i)) 0 (omega arith))
 
-module _ (d : Description) (table : List ℤ) (m : ℕ) (src : List ℕ) (places : ℕ) (j : Judged d table m src places) where
-  -- places count pixels
-  thirds : (i : ℕ) → i % 3 ≡ 0 → i ≡ 3 * (i / 3)
-  thirds i z = omega arith
+-- place i is where pixel i / 3 begins
+thirds : (i : ℕ) → i % 3 ≡ 0 → i ≡ 3 * (i / 3)
+thirds i z = omega arith
 
+module _ (d : Description) (table : List ℤ) (m : ℕ) (src : List ℕ) (places : ℕ) (j : Judged d table m src places) where
+  -- a pixel that begins in the picture ends in it
   pub whole-pixel : (i : ℕ) → i % 3 ≡ 0 → i < length src → i + 2 < length src
   whole-pixel i z h = omega (arith, j .whole)
 
+  -- and no code of it is above m
   pub next-within : (i : ℕ) → i % 3 ≡ 0 → i < length src → within m (pixelFrom src i) ≡ true
   next-within i z h =
       let e = thirds i z in
@@ -69,13 +71,16 @@ module _ (d : Description) (table : List ℤ) (m : ℕ) (src : List ℕ) (places
             corrected-at d table bits src k n l h
             ∙ ap (λ r. getD (lookCodes r) n 0) (look-0 d table bits (pixelAt src k) (record { greatest = m }) (j .could) known (pixel-within m src (j .inside) k h))
 
+    -- so what is written at place i goes on from what is there
     next-codes : (i : ℕ) → i % 3 ≡ 0 → i < length src
         → take (i + 3) (corrected d table bits src) ≡ take i (corrected d table bits src) ++ codesOf (correct d table m m (pixelFrom src i))
     next-codes i z h =
         let w = whole-pixel i z h in
         let e = thirds i z in
-        take-add i 3 _
-        ∙ ap (λ l. take i (corrected d table bits src) ++ l) (subst (λ n. take 3 (drop n (corrected d table bits src)) ≡ codesOf (correct d table m m (pixelFrom src n))) (sym e) (pixel-codes (i / 3) (omega arith)))
+        let goal = corrected d table bits src in
+        take-add i 3 goal
+        ∙ ap (λ l. take i goal ++ l)
+        (subst (λ n. take 3 (drop n goal) ≡ codesOf (correct d table m m (pixelFrom src n))) (sym e) (pixel-codes (i / 3) (omega arith)))
 
 -- ---- pixel by pixel
 

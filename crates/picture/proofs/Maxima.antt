@@ -13,11 +13,11 @@ use lib.Seq.{drop-cons}
 use Rattle.rules.specs.Lines.{every}
 use Rattle.rules.proofs.Checks.{within-all}
 
--- the first i codes are judged by their greatest, `most`
-abbrev pub Judges : List ℕ → ℕ → ℕ → Type 0
-Judges codes i most = (m : ℕ) → within-all m codes ≡ leb most m && within-all m (drop i codes)
+-- the greatest of the first i codes, `most`, stands for them
+abbrev pub StandsFor : List ℕ → ℕ → ℕ → Type 0
+StandsFor codes i most = (m : ℕ) → within-all m codes ≡ leb most m && within-all m (drop i codes)
 
-pub none-passed : (codes : List ℕ) → Judges codes 0 0
+pub none-passed : (codes : List ℕ) → StandsFor codes 0 0
 none-passed codes m = rw leb·zero
 
 leb-max : (a b n : ℕ) → leb (max a b) n ≡ leb b n && leb a n
@@ -29,7 +29,7 @@ leb-max a b n = by (decLe a n) (decLe b n)
     by p (no q) = rw (lt-leb b n (omega arith)) (lt-leb (max a b) n (omega arith))
 
 -- one code more
-pub one-more : (codes : List ℕ) (i most : ℕ) → i < length codes → Judges codes i most → Judges codes (i + 1) (max (getD codes i 0) most)
+pub one-more : (codes : List ℕ) (i most : ℕ) → i < length codes → StandsFor codes i most → StandsFor codes (i + 1) (max (getD codes i 0) most)
 unfolding every
 one-more codes i most h s m =
     let c = getD codes i 0 in
@@ -39,6 +39,6 @@ one-more codes i most h s m =
     ∙ rw (add-one, leb-max c most m)
 
 -- none to come
-pub all-passed : (codes : List ℕ) (i most : ℕ) → length codes ≤ i → Judges codes i most → (m : ℕ) → leb most m ≡ within-all m codes
+pub all-passed : (codes : List ℕ) (i most : ℕ) → length codes ≤ i → StandsFor codes i most → (m : ℕ) → leb most m ≡ within-all m codes
 unfolding every
 all-passed codes i most h s m = sym (s m ∙ ap (λ l. leb most m && within-all m l) (drop-of-length-le codes h) ∙ and-true (leb most m))

@@ -1,14 +1,14 @@
 -- The invariant: all codes are at most m exactly if the greatest of those passed is, and all those to come are. The measure is what is left.
 use Prim.Native.Nat.{_-_, _≤_}
-use lib.ListN.{length}
-use Rattle.picture.proofs.Maxima.{Judges, none-passed, one-more, all-passed}
-use borrow.Author.Needs.{needs}
 use native.Mathlib.Omega.{arith}
+use borrow.Author.Needs.{needs}
+use lib.ListN.{length}
+use Rattle.picture.proofs.Maxima.{StandsFor, none-passed, one-more, all-passed}
 use Rattle.picture.proofs.greatest.Statement.{statement}
 use Rattle.picture.proofs.greatest.Tie as tie
 
 abbrev Inv-loop : tie.InvT-loop
-Inv-loop codes most₀ i₀ most i = (i ≤ length codes) × Judges codes i most
+Inv-loop codes most₀ i₀ most i = (i ≤ length codes) × StandsFor codes i most
 
 abbrev μ-loop : tie.MeasureT-loop
 μ-loop codes most₀ i₀ most i = length codes - i

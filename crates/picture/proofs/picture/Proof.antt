@@ -48,6 +48,9 @@ entry c = c .before .before .before .before
 abbrev depth : tie.After-known-told → Depth
 depth c = c .before .depth .given .0 .0
 
+abbrev found : tie.Else4 → tie.After-known-told
+found c = c .before .before .before .before
+
 -- ---- what has been passed
 
 -- not 24
@@ -59,9 +62,6 @@ known : (c : tie.After-known-told) → depthOf (entry (asked c) .args .bits) ≡
 known c = sym (c .before .before .before .of .ensures) ∙ c .before .depth .given .1
 
 -- none of the five
-abbrev found : tie.Else4 → tie.After-known-told
-found c = c .before .before .before .before
-
 judged : (c : tie.Else4)
     → let a = entry (asked (found c)) .args in
     Judged (a .d) (now (a .table)) (depth (found c) .greatest) (now (a .src)) (length (now (a .dst)))
