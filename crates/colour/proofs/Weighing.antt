@@ -10,7 +10,7 @@ use Rattle.whole.specs.Nearest.{code, weights}
 use Rattle.whole.proofs.Halves as H
 use Rattle.rules.specs.Units.{sampleOne, colourPlace, codeIn}
 use Rattle.rules.specs.Descriptions.{rows, domain, width, couldBeRead}
-use Rattle.rules.specs.Interpolation.{denOf, weighed, total, pair, pairBy, path, pathBy, climb, sharesFor, codeBy}
+use Rattle.rules.specs.Interpolation.{denOf, weighed, total, sharesFor, codeBy}
 use Rattle.rules.specs.Looking.{shown, correct}
 use Rattle.rules.specs.Demands.{Each, used}
 use Rattle.rules.specs.declared.Codes.{Codes}
@@ -18,12 +18,11 @@ use Rattle.rules.specs.declared.Colour.{Colour}
 use Rattle.rules.specs.declared.Colour.the-variants.{Red, Green, Blue}
 use Rattle.rules.specs.declared.Description.{Description}
 use Rattle.rules.specs.declared.Kind.{Kind}
-use Rattle.rules.specs.declared.Kind.the-variants.{OneD, ThreeD}
 use Rattle.rules.specs.declared.Share.{Share}
 use Rattle.rules.specs.declared.Shares.{Shares}
 use Rattle.rules.proofs.Colours.{place-below}
 use Rattle.rules.proofs.Judged.{Sound, sound-of}
-use Rattle.rules.proofs.Demand3.{short-division, right}
+use Rattle.rules.proofs.Demand3.{short-division, right, used-shown}
 use Rattle.colour.specs.Limits.{sumLimit}
 use Rattle.colour.specs.Adding.{RowAt, sumIn, carried, SharesFit, Totalled, Weighable}
 use Rattle.colour.specs.declared.sums.Sums.{Sums}
@@ -92,13 +91,6 @@ shown-weighed {d} {table} {m} pixel could deep most e = rw e (record { could = c
     weighable c =
         let r = right d table m m pixel could deep c in
         record { in-table = r .in-table; not-negative = r .not-negative; add-up = r .add-up }
-
-used-shown : (d : Description) (m : ℕ) (pixel : Codes) (k : Kind) (c : Colour) → used k c (shown d m pixel k) ≡ sharesFor d m pixel k c
-unfolding shown pair path pairBy pathBy climb
-used-shown d m pixel OneD Red = refl
-used-shown d m pixel OneD Green = refl
-used-shown d m pixel OneD Blue = refl
-used-shown d m pixel ThreeD c = refl
 
 same-codes : (r s : Codes) → ((c : Colour) → codeIn r c ≡ codeIn s c) → r ≡ s
 same-codes r s h i = record { red = h Red i; green = h Green i; blue = h Blue i }

@@ -1,7 +1,7 @@
 -- Numbers lie within a limit exactly if the lowest and the highest of them do: how far these are below and above 0 is all that the test looks at.
 use Prim.Native.Nat.{ℕ, zero, suc, _+_, _≤_, _<_, max}
 use mathlib.Core.Path.{_≡_, refl, sym, ap, ap₂, _∙_}
-use mathlib.Core.Bool.{Bool, true, false, not, _&&_}
+use mathlib.Core.Bool.{Bool, true, false, not, _&&_, and-true, and-assoc}
 use mathlib.Core.List.{List, [], _∷_}
 use native.Mathlib.Decide.{decLe}
 use native.Mathlib.Numerals.{add-one}
@@ -17,15 +17,7 @@ use Rattle.rules.specs.Descriptions.{samplesFit}
 
 -- ---- one test of two numbers
 
-and-true : (t : Bool) → t && true ≡ t
-and-true true = refl
-and-true false = refl
-
-and-assoc : (a b c : Bool) → (a && b) && c ≡ a && (b && c)
-and-assoc true b c = refl
-and-assoc false b c = refl
-
-leb-max : (a b n : ℕ) → leb (max a b) n ≡ leb a n && leb b n
+pub leb-max : (a b n : ℕ) → leb (max a b) n ≡ leb a n && leb b n
 leb-max a b n = by (decLe a n) (decLe b n)
   where
     by : Dec (a ≤ n) → Dec (b ≤ n) → leb (max a b) n ≡ leb a n && leb b n

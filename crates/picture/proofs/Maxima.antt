@@ -3,15 +3,13 @@ use Prim.Native.Nat.{ℕ, _+_, _≤_, _<_, max}
 use mathlib.Core.Path.{_≡_, sym, ap, _∙_}
 use mathlib.Core.Bool.{_&&_, and-true, and-assoc}
 use mathlib.Core.List.{List}
-use native.Mathlib.Decide.{decLe}
 use native.Mathlib.Numerals.{add-one}
-use native.Mathlib.Omega.{arith}
-use borrow.Author.Tests.{le-leb, lt-leb}
 use lib.Dec.{leb, leb·zero}
 use lib.ListN.{length, drop, getD, drop-of-length-le}
 use lib.Seq.{drop-cons}
 use Rattle.rules.specs.Lines.{every}
 use Rattle.rules.proofs.Checks.{within-all}
+use Rattle.judge.proofs.Spans.{leb-max}
 
 -- the greatest of the first i codes, `most`, stands for them
 abbrev pub StandsFor : List ℕ → ℕ → ℕ → Type 0
@@ -20,23 +18,15 @@ StandsFor codes i most = (m : ℕ) → within-all m codes ≡ leb most m && with
 pub none-passed : (codes : List ℕ) → StandsFor codes 0 0
 none-passed codes m = rw leb·zero
 
-leb-max : (a b n : ℕ) → leb (max a b) n ≡ leb b n && leb a n
-leb-max a b n = by (decLe a n) (decLe b n)
-  where
-    by : Dec (a ≤ n) → Dec (b ≤ n) → leb (max a b) n ≡ leb b n && leb a n
-    by (yes p) (yes q) = rw (le-leb a n p, le-leb b n q) (le-leb (max a b) n (omega arith))
-    by (no p) (yes q) = rw (lt-leb a n (omega arith), le-leb b n q) (lt-leb (max a b) n (omega arith))
-    by p (no q) = rw (lt-leb b n (omega arith)) (lt-leb (max a b) n (omega arith))
-
 -- one code more
-pub one-more : (codes : List ℕ) (i most : ℕ) → i < length codes → StandsFor codes i most → StandsFor codes (i + 1) (max (getD codes i 0) most)
+pub one-more : (codes : List ℕ) (i most : ℕ) → i < length codes → StandsFor codes i most → StandsFor codes (i + 1) (max most (getD codes i 0))
 unfolding every
 one-more codes i most h s m =
     let c = getD codes i 0 in
     s m
     ∙ ap (λ l. leb most m && within-all m l) (drop-cons codes i 0 h)
     ∙ sym (and-assoc (leb most m) (leb c m) _)
-    ∙ rw (add-one, leb-max c most m)
+    ∙ rw (add-one, leb-max most c m)
 
 -- none to come
 pub all-passed : (codes : List ℕ) (i most : ℕ) → length codes ≤ i → StandsFor codes i most → (m : ℕ) → leb most m ≡ within-all m codes

@@ -30,7 +30,7 @@ fn greatest(codes: &[u16]) -> u16
     let mut most = 0;
     let mut i = 0;
     while i < codes.len() {
-        most = greater(codes[i], most);
+        most = greater(most, codes[i]);
         i += 1;
     }
     most

@@ -171,7 +171,7 @@ short-division d table m c ss deep =
 -- ---- of the definitions
 
 -- of the six rows and weights those of a colour are the ones that its code is made of
-used-shown : (d : Description) (m : ℕ) (pixel : Codes) (k : Kind) (c : Colour) → used k c (shown d m pixel k) ≡ sharesFor d m pixel k c
+pub used-shown : (d : Description) (m : ℕ) (pixel : Codes) (k : Kind) (c : Colour) → used k c (shown d m pixel k) ≡ sharesFor d m pixel k c
 unfolding shown pair path pairBy pathBy climb
 used-shown d m pixel OneD Red = refl
 used-shown d m pixel OneD Green = refl
