@@ -47,7 +47,7 @@ pub reads-c-one : {file : List ℕ} {table t u v w : List ℤ} {m n k l : ℕ} �
 reads-c-one p q =
     (p .number-so ∙ sym (q .number-so), p .memory ∙ sym (q .memory), p .description-so ∙ sym (q .description-so), p .line-so ∙ sym (q .line-so))
 
-pub looks-c-one : {eleven table v w : List ℤ} {bits m n : ℕ} {pixel : Codes} {a b r s : List ℕ} → LooksC eleven table bits pixel m a r v → LooksC eleven table bits pixel n b s w
+pub looks-c-one : {eleven table v w : List ℤ} {bits m n : ℕ} {pixel a b r s : List ℕ} → LooksC eleven table bits pixel m a r v → LooksC eleven table bits pixel n b s w
     → (m ≡ n) × (a ≡ b) × (r ≡ s) × (v ≡ w)
 looks-c-one p q = (p .number-so ∙ sym (q .number-so), p .codes-so ∙ sym (q .codes-so), p .rows-so ∙ sym (q .rows-so), p .weights-so ∙ sym (q .weights-so))
 

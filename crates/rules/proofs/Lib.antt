@@ -37,6 +37,7 @@ pub mod Checks
 pub mod Promised
 pub mod Untitled
 pub mod Crossing
+pub mod Fits
 -- document 01's cases, and the wrong programs that the promises rule out
 pub mod Cases
 pub mod WrongPrograms

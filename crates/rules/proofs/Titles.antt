@@ -1,7 +1,7 @@
 -- The title's place and length are those of the file's own bytes.
 use Prim.Native.Nat.{ℕ, _+_}
 use mathlib.Core.Path.{_≡_, refl, sym, ap, subst, _∙_}
-use mathlib.Core.Logic.{inl, inr}
+use mathlib.Core.Logic.{_⊎_, inl, inr}
 use mathlib.Core.Bool.{Bool, true, false, cond}
 use mathlib.Core.List.{List, [], _∷_, _++_, append-assoc}
 use mathlib.Core.Option.{Option, none, some}
@@ -124,10 +124,17 @@ titled-lines pre s (l ∷ ls) (i ∷ is) t ts b e h g = split (titleIn i) refl g
         subst (λ (v : List ℕ). Titled v t) f (again pre′ s′ (inr (pre ++ l, sym (append-assoc pre l (10 ∷ [])))) y (subst (λ (p : ℕ). Lines p ls is) n (h .1)) q)
 
 -- a file that keeps the specification and has a title has it where the description says
-pub title-stands : (file : List ℕ) (places : ℕ) (d : Description) (samples : List ℤ) → Keeps file places d samples → d .title .there ≡ true → Titled file (d .title)
-title-stands file places d samples k h = split (gather titleIn (k .items)) refl (k .title)
+pub title-or-none : (file : List ℕ) (places : ℕ) (d : Description) (samples : List ℤ) → Keeps file places d samples → (d .title ≡ noTitle) ⊎ Titled file (d .title)
+title-or-none file places d samples k = split (gather titleIn (k .items)) refl (k .title)
   where
-    split : (ts : List Title) → gather titleIn (k .items) ≡ ts → AtMostOne ts noTitle (d .title) → Titled file (d .title)
-    split [] e g = absurd (no-true (sym (sym (ap (λ (t : Title). t .there) g) ∙ h)))
-    split (t ∷ []) e g = subst (λ (u : Title). Titled file u) (sym g) (titled-lines [] file (linesOf file) (k .items) t [] (inl refl) refl (k .lines) e)
+    split : (ts : List Title) → gather titleIn (k .items) ≡ ts → AtMostOne ts noTitle (d .title) → (d .title ≡ noTitle) ⊎ Titled file (d .title)
+    split [] e g = inl g
+    split (t ∷ []) e g = inr (subst (λ (u : Title). Titled file u) (sym g) (titled-lines [] file (linesOf file) (k .items) t [] (inl refl) refl (k .lines) e))
     split (t ∷ u ∷ us) e g = absurd g
+
+pub title-stands : (file : List ℕ) (places : ℕ) (d : Description) (samples : List ℤ) → Keeps file places d samples → d .title .there ≡ true → Titled file (d .title)
+title-stands file places d samples k h = by (title-or-none file places d samples k)
+  where
+    by : (d .title ≡ noTitle) ⊎ Titled file (d .title) → Titled file (d .title)
+    by (inl none-there) = absurd (no-true (sym (sym (ap (λ (t : Title). t .there) none-there) ∙ h)))
+    by (inr stands) = stands

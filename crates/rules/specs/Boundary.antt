@@ -11,7 +11,7 @@ use lib.Signed.{nonNeg}
 use Rattle.rules.specs.Descriptions.{noTitle}
 use Rattle.rules.specs.Reading.{read, tableAfter}
 use Rattle.rules.specs.Looking.{look}
-use Rattle.rules.specs.Picturing.{picture, outputAfter}
+use Rattle.rules.specs.Picturing.{pixelOf, picture, outputAfter}
 use Rattle.rules.specs.Answers.{readNumber, readLine, readDescription, lookNumber, lookCodes, lookRows, lookWeights, pictureNumber}
 use Rattle.rules.specs.declared.Codes.{Codes}
 use Rattle.rules.specs.declared.Description.{Description}
@@ -51,7 +51,7 @@ elevenOf d =
     ∷ pos (d .title .length)
     ∷ []
 
-abbrev numberAt : List ℤ → ℕ → ℤ
+abbrev pub numberAt : List ℤ → ℕ → ℤ
 numberAt eleven k = getD eleven k (pos 0)
 
 -- anything but 1 and 3 is no kind
@@ -61,10 +61,10 @@ kindIn eleven =
     (cond (nonNeg (numberAt eleven 0) && eqb (natAbs (numberAt eleven 0)) 3) (some ThreeD)
     none)
 
-abbrev domainIn : List ℤ → ℕ → Domain
+abbrev pub domainIn : List ℤ → ℕ → Domain
 domainIn eleven c = record { lower = record { 0 = numberAt eleven (2 + c) }; upper = record { 0 = numberAt eleven (5 + c) } }
 
-abbrev describedAs : List ℤ → Option Kind → Option Description
+abbrev pub describedAs : List ℤ → Option Kind → Option Description
 describedAs eleven none = none
 describedAs eleven (some k) =
     cond (nonNeg (numberAt eleven 1))
@@ -75,9 +75,13 @@ describedAs eleven (some k) =
 unfoldable pub describedIn : List ℤ → Option Description
 describedIn eleven = describedAs eleven (kindIn eleven)
 
+-- the pixel of three codes, as they are lent
+abbrev pub pixelIn : List ℕ → Codes
+pixelIn codes = pixelOf (getD codes 0 0) (getD codes 1 0) (getD codes 2 0)
+
 -- ---- the calls, of eleven numbers: those that give no description are 24
 
-abbrev lookBy : List ℤ → ℕ → Codes → Option Description → Look
+abbrev pub lookBy : List ℤ → ℕ → Codes → Option Description → Look
 lookBy table bits pixel none = L.Refused CouldNotBeRead
 lookBy table bits pixel (some d) = look d table bits pixel
 
@@ -107,11 +111,11 @@ pub record ReadsC (file : List ℕ) (table : List ℤ) (number : ℕ) (table′ 
   pub description-so : eleven′ ≡ elevenOf (readDescription (read file (length table)))
   pub memory : table′ ≡ tableAfter file table (read file (length table))
 
-pub record LooksC (eleven table : List ℤ) (bits : ℕ) (pixel : Codes) (number : ℕ) (codes′ rows′ : List ℕ) (weights′ : List ℤ) : Type 0 where
-  pub number-so : number ≡ lookNumber (lookIn eleven table bits pixel)
-  pub codes-so : codes′ ≡ lookCodes (lookIn eleven table bits pixel)
-  pub rows-so : rows′ ≡ lookRows (lookIn eleven table bits pixel)
-  pub weights-so : weights′ ≡ lookWeights (lookIn eleven table bits pixel)
+pub record LooksC (eleven table : List ℤ) (bits : ℕ) (pixel : List ℕ) (number : ℕ) (codes′ rows′ : List ℕ) (weights′ : List ℤ) : Type 0 where
+  pub number-so : number ≡ lookNumber (lookIn eleven table bits (pixelIn pixel))
+  pub codes-so : codes′ ≡ lookCodes (lookIn eleven table bits (pixelIn pixel))
+  pub rows-so : rows′ ≡ lookRows (lookIn eleven table bits (pixelIn pixel))
+  pub weights-so : weights′ ≡ lookWeights (lookIn eleven table bits (pixelIn pixel))
 
 pub record PicturesC (eleven table : List ℤ) (bits : ℕ) (src dst : List ℕ) (number : ℕ) (dst′ : List ℕ) : Type 0 where
   pub number-so : number ≡ pictureNumber (pictureIn eleven table bits src (length dst))

@@ -1,0 +1,24 @@
+-- A description that was found, or none; and a look at a description that crossed as eleven numbers.
+use Prim.Native.Nat.{ℕ}
+use mathlib.Core.Path.{_≡_}
+use mathlib.Core.List.{List}
+use mathlib.Core.Option.{Option, none, some}
+use lib.IntN.{ℤ}
+use Rattle.rules.specs.Answers.{lookNumber, lookCodes, lookRows, lookWeights}
+use Rattle.rules.specs.Boundary.{lookIn}
+use Rattle.rules.specs.declared.Codes.{Codes}
+use Rattle.rules.specs.declared.Description.{Description}
+use Rattle.rules.specs.declared.Look.{Look}
+use Rattle.erythmoda.specs.declared.layout.DescriptionFound.{DescriptionFound}
+use Rattle.erythmoda.specs.declared.layout.DescriptionFound.the-variants.{Known, Unknown}
+
+abbrev pub crossed : Option Description → DescriptionFound
+crossed none = Unknown
+crossed (some d) = Known d
+
+-- r answers as look of eleven numbers does
+pub record LooksIn (eleven table : List ℤ) (bits : ℕ) (pixel : Codes) (r : Look) : Type 0 where
+  pub number : lookNumber r ≡ lookNumber (lookIn eleven table bits pixel)
+  pub codes : lookCodes r ≡ lookCodes (lookIn eleven table bits pixel)
+  pub rows : lookRows r ≡ lookRows (lookIn eleven table bits pixel)
+  pub weights : lookWeights r ≡ lookWeights (lookIn eleven table bits pixel)

@@ -1,0 +1,92 @@
+// The C boundary: what loggers link. Each call asks the proved call behind it and lays the answer out in lent memory.
+use answers::description_of;
+use answers::look_codes;
+use answers::look_number;
+use answers::look_shares;
+use answers::picture_number;
+use answers::read_line;
+use answers::read_number;
+use colour::look;
+use layout::DescriptionFound;
+use layout::codes_laid;
+use layout::described;
+use layout::eleven_of;
+use layout::pixel_of;
+use layout::rows_laid;
+use layout::weights_laid;
+use picture::picture;
+use reading::read;
+use rules::Codes;
+use rules::Look;
+use rules::Picture;
+use rules::Refusal;
+ghost use mathlib.Core.Path.{_≡_};
+ghost use Rattle.rules.specs.Boundary.{ReadsC, LooksC, PicturesC};
+ghost use Rattle.erythmoda.specs.Layout.{LooksIn};
+
+mod answers;
+mod layout;
+
+// Reads a file into the lent table; the description as eleven numbers, and the line of a refusal.
+#[no_mangle]
+pub extern "C" fn erythmoda_read(
+    file: &[u8],
+    table: &mut [i64],
+    description: &mut [i64; 11],
+    line: &mut u64,
+) -> u32
+    ensures { λ r. ⌜ ReadsC (now (file .entry)) (now (table .entry)) r (now (table .exit)) (now (description .exit)) (now (line .exit)) ⌝ }
+{
+    let answer = read(file, table);
+    *description = eleven_of(description_of(answer));
+    *line = read_line(answer);
+    read_number(answer)
+}
+
+// Look, of a description as eleven numbers.
+fn look_in(description: &[i64; 11], table: &[i64], bits: u32, pixel: Codes) -> Look
+    ensures { λ r. ⌜ LooksIn (now (description .entry)) (now (table .entry)) bits pixel r ⌝ }
+{
+    let DescriptionFound::Known(d) = described(description) else {
+        return Look::Refused(Refusal::CouldNotBeRead);
+    };
+    look(d, table, bits, pixel)
+}
+
+// One pixel to three corrected codes, with the six rows and weights.
+#[no_mangle]
+pub extern "C" fn erythmoda_look(
+    description: &[i64; 11],
+    table: &[i64],
+    bits: u32,
+    pixel: &[u16; 3],
+    codes: &mut [u16; 3],
+    rows: &mut [u32; 6],
+    weights: &mut [i64; 6],
+) -> u32
+    ensures { λ r. ⌜ LooksC (now (description .entry)) (now (table .entry)) bits (now (pixel .entry)) r (now (codes .exit)) (now (rows .exit)) (now (weights .exit)) ⌝ }
+{
+    let answer = look_in(description, table, bits, pixel_of(pixel));
+    let shares = look_shares(answer);
+    *codes = codes_laid(look_codes(answer));
+    *rows = rows_laid(shares);
+    *weights = weights_laid(shares);
+    look_number(answer)
+}
+
+// A run of pixels to corrected codes.
+#[no_mangle]
+pub extern "C" fn erythmoda_picture(
+    description: &[i64; 11],
+    table: &[i64],
+    bits: u32,
+    src: &[u16],
+    dst: &mut [u16],
+) -> u32
+    ensures { λ r. ⌜ PicturesC (now (description .entry)) (now (table .entry)) bits (now (src .entry)) (now (dst .entry)) r (now (dst .exit)) ⌝ }
+{
+    let DescriptionFound::Known(d) = described(description) else {
+        return picture_number(Picture::Refused(Refusal::CouldNotBeRead));
+    };
+    picture_number(picture(d, table, bits, src, dst))
+}
