@@ -12,7 +12,6 @@ ghost use mathlib.Core.Path.{_≡_};
 ghost use mathlib.Core.List.{map};
 ghost use Prim.Native.Nat.{_<_};
 ghost use mathlib.Core.Option.{some};
-ghost use lib.IntN.{pos};
 ghost use Rattle.rules.specs.Answers.{codesOf, sharesOf};
 ghost use Rattle.rules.proofs.Fits.{Crossable, RowsFit};
 ghost use Rattle.rules.specs.Boundary.{elevenOf, describedAs, describedIn, domainIn, pixelIn, kindNumber, markNumber};
@@ -20,49 +19,44 @@ ghost use Rattle.erythmoda.specs.Layout.{crossed};
 
 // ---- a description as eleven numbers
 
-fn kind_number(kind: Kind) -> i64
-    ensures { λ r. ⌜ r ≡ kindNumber kind ⌝ }
+fn kind_number(kind: Kind) -> Whole
+    ensures { λ r. ⌜ r .0 ≡ kindNumber kind ⌝ }
 {
     match kind {
-        Kind::OneD => 1,
-        Kind::ThreeD => 3,
+        Kind::OneD => Whole(1),
+        Kind::ThreeD => Whole(3),
     }
 }
 
-fn mark_number(there: bool) -> i64
-    ensures { λ r. ⌜ r ≡ markNumber there ⌝ }
+fn mark_number(there: bool) -> Whole
+    ensures { λ r. ⌜ r .0 ≡ markNumber there ⌝ }
 {
-    if there { 1 } else { 0 }
-}
-
-// A count of things in memory, as a signed number.
-fn signed(n: usize) -> i64
-    requires { ⌜ n < 9_223_372_036_854_775_808 ⌝ }
-    ensures { λ r. ⌜ r ≡ pos n ⌝ }
-{
-    n as i64
+    if there { Whole(1) } else { Whole(0) }
 }
 
 pub fn eleven_of(d: Description) -> [i64; 11]
     requires { ⌜ Crossable d ⌝ }
     ensures { λ r. ⌜ r ≡ elevenOf d ⌝ }
 {
-    let red = d.red;
-    let green = d.green;
-    let blue = d.blue;
+    let kind_of = d.kind;
     let title = d.title;
+    let kind = kind_number(kind_of);
+    let n = Whole::of(d.n as u64);
+    let there = mark_number(title.there);
+    let place = Whole::of(title.place as u64);
+    let length = Whole::of(title.length as u64);
     [
-        kind_number(d.kind),
-        signed(d.n),
-        red.lower.0,
-        green.lower.0,
-        blue.lower.0,
-        red.upper.0,
-        green.upper.0,
-        blue.upper.0,
-        mark_number(title.there),
-        signed(title.place),
-        signed(title.length),
+        kind.0,
+        n.0,
+        d.red.lower.0,
+        d.green.lower.0,
+        d.blue.lower.0,
+        d.red.upper.0,
+        d.green.upper.0,
+        d.blue.upper.0,
+        there.0,
+        place.0,
+        length.0,
     ]
 }
 
