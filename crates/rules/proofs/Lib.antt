@@ -40,3 +40,6 @@ pub mod Crossing
 -- document 01's cases, and the wrong programs that the promises rule out
 pub mod Cases
 pub mod WrongPrograms
+-- the bytes that the report program prints
+pub mod Decimals
+pub mod Reported
