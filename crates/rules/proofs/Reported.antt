@@ -11,7 +11,7 @@ use borrow.Author.Tests.{leb-true, leb-false, lt-leb}
 use lib.Dec.{leb, eqb}
 use lib.ListN.{length, take, drop, length-append, length-take, getD, replicate}
 use lib.Seq.{take-all, length-take-le}
-use Rattle.rules.specs.Units.{greatestN}
+use Rattle.rules.specs.Units.{greatestN, rowsOf}
 use Rattle.rules.specs.Descriptions.{rows, domain, noTitle, boundsFit}
 use Rattle.rules.specs.Lines.{bytes, linesOf, newlines}
 use Rattle.rules.specs.Items.{titleIn}
@@ -19,10 +19,11 @@ use Rattle.rules.specs.Grammar.{lineLimit, Line, gather, Keeps}
 use Rattle.rules.specs.Judge.{start}
 use Rattle.rules.specs.Reading.{read, samplesOf}
 use Rattle.rules.specs.Answers.{refusalNumber}
-use Rattle.rules.specs.Reporting.{reportBytes, reportPlaces, report, decimalIn, decimal, signedDecimal, lineOf, kindName, cubeLine, domainLine, titleLine, refusedLine, answerText, reportText, Reports}
+use Rattle.rules.specs.Reporting.{reportBytes, reportPlaces, report, decimalIn, decimal, signedDecimal, lineOf, cubeLine, domainLine, titleLine, refusedLine, answerText, reportText, Reports}
 use Rattle.rules.specs.declared.Colour.{Colour}
 use Rattle.rules.specs.declared.Colour.the-variants.{Red, Green, Blue}
 use Rattle.rules.specs.declared.Description.{Description}
+use Rattle.rules.specs.declared.Domain.{Domain}
 use Rattle.rules.specs.declared.Item.{Item}
 use Rattle.rules.specs.declared.Kind.{Kind}
 use Rattle.rules.specs.declared.Kind.the-variants.{OneD, ThreeD}
@@ -83,19 +84,16 @@ module _ (file : List ℕ) (places : ℕ) (d : Description) (accepted : read fil
 -- ---- the text fits 512 bytes
 
 -- lengths of the lines: names, tabs and newline beside the fields
-cube-length : (d : Description) → length (cubeLine d) ≡ 10 + length (decimal (d .n)) + length (decimal (rows d))
+cube-length : (k : Kind) (n : ℕ) → length (cubeLine k n) ≡ 10 + length (decimal n) + length (decimal (rowsOf k n))
 unfolding cubeLine lineOf bytes
-cube-length d = by-kind (d .kind)
-  where
-    by-kind : (k : Kind) → length (lineOf (bytes "cube" ∷ kindName k ∷ decimal (d .n) ∷ decimal (rows d) ∷ [])) ≡ 10 + length (decimal (d .n)) + length (decimal (rows d))
-    by-kind OneD = simp length-append (omega arith)
-    by-kind ThreeD = simp length-append (omega arith)
+cube-length OneD n = simp length-append (omega arith)
+cube-length ThreeD n = simp length-append (omega arith)
 
-domain-length : (d : Description) (c : Colour) → length (domainLine d c) ≤ 15 + length (signedDecimal (domain d c .lower .0)) + length (signedDecimal (domain d c .upper .0))
+domain-length : (c : Colour) (dom : Domain) → length (domainLine c dom) ≤ 15 + length (signedDecimal (dom .lower .0)) + length (signedDecimal (dom .upper .0))
 unfolding domainLine lineOf bytes
-domain-length d Red = simp length-append (omega arith)
-domain-length d Green = simp length-append (omega arith)
-domain-length d Blue = simp length-append (omega arith)
+domain-length Red dom = simp length-append (omega arith)
+domain-length Green dom = simp length-append (omega arith)
+domain-length Blue dom = simp length-append (omega arith)
 
 title-length : (input : List ℕ) (t : Title) → length (titleLine input t) ≤ 11 + t .length
 unfolding titleLine lineOf bytes
@@ -121,11 +119,11 @@ module _ (file : List ℕ) (d : Description) (accepted : read file reportPlaces 
       by-kind OneD h = h
       by-kind ThreeD h = omega arith
 
-  domain-fits : (c : Colour) → length (domainLine d c) ≤ 27
+  domain-fits : (c : Colour) → length (domainLine c (domain d c)) ≤ 27
   domain-fits c =
       let dom = domain d c in
       let b = bounds-within dom (every-each boundsFit d (bounds-fit file reportPlaces d _ keeps) c) in
-      omega (arith, domain-length d c, signed-within 4 (dom .lower .0) (omega arith), signed-within 4 (dom .upper .0) (omega arith))
+      omega (arith, domain-length c dom, signed-within 4 (dom .lower .0) (omega arith), signed-within 4 (dom .upper .0) (omega arith))
 
   accepted-fits : length (answerText file (Accepted d)) ≤ 365
   unfolding answerText
@@ -133,7 +131,7 @@ module _ (file : List ℕ) (d : Description) (accepted : read file reportPlaces 
       simp length-append
       (omega (
         arith,
-        cube-length d,
+        cube-length (d .kind) (d .n),
         decimal-within 4 (d .n) (omega (arith, n-within)),
         decimal-within 3 (rows d) (omega (arith, keeps .room)),
         domain-fits Red,

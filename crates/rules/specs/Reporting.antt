@@ -6,13 +6,13 @@ use mathlib.Core.List.{List, [], _∷_, _++_}
 use lib.Dec.{ltb, leb}
 use lib.IntN.{ℤ, pos, negsuc}
 use lib.ListN.{length, take, drop}
-use Rattle.rules.specs.Descriptions.{rows, domain}
+use Rattle.rules.specs.Units.{rowsOf}
 use Rattle.rules.specs.Lines.{bytes}
 use Rattle.rules.specs.Reading.{read}
 use Rattle.rules.specs.Answers.{readNumber, readLine}
 use Rattle.rules.specs.declared.Colour.{Colour}
 use Rattle.rules.specs.declared.Colour.the-variants.{Red, Green, Blue}
-use Rattle.rules.specs.declared.Description.{Description}
+use Rattle.rules.specs.declared.Domain.{Domain}
 use Rattle.rules.specs.declared.Kind.{Kind}
 use Rattle.rules.specs.declared.Kind.the-variants.{OneD, ThreeD}
 use Rattle.rules.specs.declared.Read.{Read}
@@ -72,16 +72,19 @@ colourName Green = bytes "green"
 colourName Blue = bytes "blue"
 
 -- kind, N, rows
-unfoldable pub cubeLine : Description → List ℕ
-cubeLine d = lineOf (bytes "cube" ∷ kindName (d .kind) ∷ decimal (d .n) ∷ decimal (rows d) ∷ [])
+unfoldable pub cubeLine : Kind → ℕ → List ℕ
+cubeLine k n = lineOf (bytes "cube" ∷ kindName k ∷ decimal n ∷ decimal (rowsOf k n) ∷ [])
 
 -- colour, lower, upper in thousandths
-unfoldable pub domainLine : Description → Colour → List ℕ
-domainLine d c = lineOf (bytes "domain" ∷ colourName c ∷ signedDecimal (domain d c .lower .0) ∷ signedDecimal (domain d c .upper .0) ∷ [])
+unfoldable pub domainLine : Colour → Domain → List ℕ
+domainLine c dom = lineOf (bytes "domain" ∷ colourName c ∷ signedDecimal (dom .lower .0) ∷ signedDecimal (dom .upper .0) ∷ [])
 
 -- with a title: yes, the text
 unfoldable pub titleLine : List ℕ → Title → List ℕ
-titleLine input t = cond (t .there) (lineOf (bytes "title" ∷ bytes "yes" ∷ take (t .length) (drop (t .place) input) ∷ [])) (lineOf (bytes "title" ∷ bytes "no" ∷ []))
+titleLine input t =
+    cond (t .there)
+    (lineOf (bytes "title" ∷ bytes "yes" ∷ take (t .length) (drop (t .place) input) ∷ []))
+    (lineOf (bytes "title" ∷ bytes "no" ∷ []))
 
 -- refused, number, line
 unfoldable pub refusedLine : ℕ → ℕ → List ℕ
@@ -90,7 +93,12 @@ refusedLine number line = lineOf (bytes "refused" ∷ decimal number ∷ decimal
 -- ---- the bytes printed
 
 unfoldable pub answerText : List ℕ → Read → List ℕ
-answerText input (Accepted d) = cubeLine d ++ (domainLine d Red ++ (domainLine d Green ++ (domainLine d Blue ++ titleLine input (d .title))))
+answerText input (Accepted d) =
+    cubeLine (d .kind) (d .n)
+    ++ (domainLine Red (d .red)
+    ++ (domainLine Green (d .green)
+    ++ (domainLine Blue (d .blue)
+    ++ titleLine input (d .title))))
 answerText input (Refused r n) = refusedLine (readNumber (Refused r n)) (readLine (Refused r n))
 
 unfoldable pub reportText : List ℕ → List ℕ
