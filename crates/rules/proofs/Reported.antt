@@ -55,6 +55,10 @@ reports-one {input} {out} p q =
     let e = p .count ∙ sym (q .count) in
     (e, p .memory ∙ ap (λ k. reportText input ++ drop k out) e ∙ sym (q .memory))
 
+-- the text stands whole in the bytes
+pub text-inside : {input out out′ : List ℕ} {n : ℕ} → Reports input out n out′ → n ≤ length out′
+text-inside {input} {out} {out′} {n} p = omega (arith, p .count, ap length (p .memory), length-append (reportText input) (drop n out))
+
 -- ---- a title in an accepted file
 
 module _ (file : List ℕ) (places : ℕ) (d : Description) (accepted : read file places ≡ Accepted d) where
