@@ -3,6 +3,7 @@ use whole::Whole;
 ghost use Rattle.rules.specs.Reporting.{decimal, signedDecimal};
 ghost use Rattle.lettering.specs.Putting.{Room, Puts};
 
+// Bytes as they are; all others stay.
 pub fn put(out: &mut [u8], at: usize, text: &[u8]) -> usize
     requires { ⌜ Room (now out) at (now text) ⌝ }
     ensures { λ r. ⌜ Puts (now (out .entry)) at (now (text .entry)) r (now (out .exit)) ⌝ }

@@ -59,35 +59,8 @@ reports-one {input} {out} p q =
 pub text-inside : {input out out′ : List ℕ} {n : ℕ} → Reports input out n out′ → n ≤ length out′
 text-inside {input} {out} {out′} {n} p = omega (arith, p .count, ap length (p .memory), length-append (reportText input) (drop n out))
 
--- ---- a title in an accepted file
+-- ---- how long the lines are: names, tabs and newline beside the fields
 
-module _ (file : List ℕ) (places : ℕ) (d : Description) (accepted : read file places ≡ Accepted d) where
-  kept : Keeps file places d (samplesOf (linesOf file))
-  kept = accepted-keeps file places d accepted
-
-  -- lies within the file
-  pub title-inside : d .title .there ≡ true → d .title .place + d .title .length ≤ length file
-  title-inside there =
-      let t = title-stands file places d (samplesOf (linesOf file)) kept there in
-      let l = t .line-so in
-      let e = ap (λ (x : Title). x .place + x .length) (l .title-so) in
-      let f = simp length-append at (ap length (t .file-so)) in
-      let g = simp length-append at (ap length (l .line)) in
-      omega arith
-
-  -- and is no longer than a line
-  title-short : d .title .length ≤ lineLimit
-  title-short = only-one (λ t. t .length ≤ lineLimit) (gather titleIn (kept .items)) noTitle (d .title) (omega arith) (gathered titleIn _ short 0 (linesOf file) (kept .items) (kept .lines)) (kept .title)
-    where
-      short : (p : ℕ) (l : List ℕ) (i : Item) (t : Title) → titleIn i ≡ some t → Line p l i → t .length ≤ lineLimit
-      short p l i t e h =
-          let k = subst (λ (j : Item). Line p l j) (title-item i t e) h in
-          let g = simp length-append at (ap length (k .gives .line)) in
-          omega (arith, ap (λ (x : Title). x .length) (k .gives .title-so), k .short)
-
--- ---- the text fits 512 bytes
-
--- lengths of the lines: names, tabs and newline beside the fields
 cube-length : (k : Kind) (n : ℕ) → length (cubeLine k n) ≡ 10 + length (decimal n) + length (decimal (rowsOf k n))
 unfolding cubeLine lineOf bytes
 cube-length OneD n = simp length-append (omega arith)
@@ -111,39 +84,66 @@ refused-length : (number line : ℕ) → length (refusedLine number line) ≡ 10
 unfolding refusedLine lineOf bytes
 refused-length number line = simp length-append (omega arith)
 
--- at most five digits for N, a bound and a line, four for the rows, two for a number, and a title that is no longer than a line
-module _ (file : List ℕ) (d : Description) (accepted : read file reportPlaces ≡ Accepted d) where
-  keeps : Keeps file reportPlaces d (samplesOf (linesOf file))
-  keeps = accepted-keeps file reportPlaces d accepted
+-- ---- what an accepted file tells: the title lies within it, and every line is short
+
+module _ (file : List ℕ) (places : ℕ) (d : Description) (accepted : read file places ≡ Accepted d) where
+  kept : Keeps file places d (samplesOf (linesOf file))
+  kept = accepted-keeps file places d accepted
+
+  pub title-inside : d .title .there ≡ true → d .title .place + d .title .length ≤ length file
+  title-inside there =
+      let t = title-stands file places d (samplesOf (linesOf file)) kept there in
+      let l = t .line-so in
+      let e = ap (λ (x : Title). x .place + x .length) (l .title-so) in
+      let f = simp length-append at (ap length (t .file-so)) in
+      let g = simp length-append at (ap length (l .line)) in
+      omega arith
+
+  -- a title is no longer than its line
+  title-short : d .title .length ≤ lineLimit
+  title-short =
+      only-one (λ t. t .length ≤ lineLimit) (gather titleIn (kept .items)) noTitle (d .title) (omega arith)
+      (gathered titleIn _ short 0 (linesOf file) (kept .items) (kept .lines)) (kept .title)
+    where
+      short : (p : ℕ) (l : List ℕ) (i : Item) (t : Title) → titleIn i ≡ some t → Line p l i → t .length ≤ lineLimit
+      short p l i t e h =
+          let k = subst (λ (j : Item). Line p l j) (title-item i t e) h in
+          let g = simp length-append at (ap length (k .gives .line)) in
+          omega (arith, ap (λ (x : Title). x .length) (k .gives .title-so), k .short)
 
   n-within : d .n ≤ 65_536
-  n-within = by-kind (d .kind) (leb-true _ _ (and-both (leb 2 (d .n)) _ (in-range file reportPlaces d _ keeps) .1))
+  n-within = by-kind (d .kind) (leb-true _ _ (and-both (leb 2 (d .n)) _ (in-range file places d _ kept) .1))
     where
       by-kind : (k : Kind) → d .n ≤ greatestN k → d .n ≤ 65_536
       by-kind OneD h = h
       by-kind ThreeD h = omega arith
 
-  domain-fits : (c : Colour) → length (domainLine c (domain d c)) ≤ 27
-  domain-fits c =
+  -- five digits and a sign for each bound
+  domain-short : (c : Colour) → length (domainLine c (domain d c)) ≤ 27
+  domain-short c =
       let dom = domain d c in
-      let b = bounds-within dom (every-each boundsFit d (bounds-fit file reportPlaces d _ keeps) c) in
+      let b = bounds-within dom (every-each boundsFit d (bounds-fit file places d _ kept) c) in
       omega (arith, domain-length c dom, signed-within 4 (dom .lower .0) (omega arith), signed-within 4 (dom .upper .0) (omega arith))
 
-  accepted-fits : length (answerText file (Accepted d)) ≤ 365
-  unfolding answerText
-  accepted-fits =
-      simp length-append
-      (omega (
-        arith,
-        cube-length (d .kind) (d .n),
-        decimal-within 4 (d .n) (omega (arith, n-within)),
-        decimal-within 3 (rows d) (omega (arith, keeps .room)),
-        domain-fits Red,
-        domain-fits Green,
-        domain-fits Blue,
-        title-length file (d .title),
-        title-short file reportPlaces d accepted,
-      ))
+-- ---- the text fits 512 bytes
+
+-- at most five digits for N, and four for the rows, three times which are at most 8,190
+accepted-fits : (file : List ℕ) (d : Description) → read file reportPlaces ≡ Accepted d → length (answerText file (Accepted d)) ≤ 365
+unfolding answerText
+accepted-fits file d e =
+    let short = domain-short file reportPlaces d e in
+    simp length-append
+    (omega (
+      arith,
+      cube-length (d .kind) (d .n),
+      decimal-within 4 (d .n) (omega (arith, n-within file reportPlaces d e)),
+      decimal-within 3 (rows d) (omega (arith, kept file reportPlaces d e .room)),
+      short Red,
+      short Green,
+      short Blue,
+      title-length file (d .title),
+      title-short file reportPlaces d e,
+    ))
 
 newlines-within : (s : List ℕ) → newlines s ≤ length s
 unfolding newlines
@@ -162,6 +162,7 @@ line-within file places r line refused = split (refused-first file places r line
     split (at-line before l rest is e m x y z) = omega (arith, simp length-append at (ap length e), lines-count file, newlines-within file)
     split (at-end is m x y z) = omega (arith, lines-count file, newlines-within file)
 
+-- two digits for the number, and five for the line
 refused-fits : (file : List ℕ) (r : Refusal) (line : ℕ) → line < 100_000 → length (answerText file (Refused r line)) ≤ 17
 unfolding answerText
 refused-fits file r line h =
