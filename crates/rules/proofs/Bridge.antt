@@ -29,12 +29,12 @@ use Rattle.rules.proofs.Sorts.{lower-item, upper-item, size-item, row-i
 
 -- ---- what each line of a sort has, all that are gathered have
 
-abbrev All : {A : Type 0} → (A → Type 0) → List A → Type 0
+abbrev pub All : {A : Type 0} → (A → Type 0) → List A → Type 0
 All P [] = Unit {0}
 All P (x ∷ xs) = P x × All P xs
 
 module _ {A : Type 0} (pick : Item → Option A) (P : A → Type 0) (each : (p : ℕ) (l : List ℕ) (i : Item) (a : A) → pick i ≡ some a → Line p l i → P a) where
-  gathered : (p : ℕ) (ls : List (List ℕ)) (is : List Item) → Lines p ls is → All P (gather pick is)
+  pub gathered : (p : ℕ) (ls : List (List ℕ)) (is : List Item) → Lines p ls is → All P (gather pick is)
   unfolding gather
   gathered p [] [] h = tt
   gathered p [] (i ∷ is) h = absurd h
@@ -46,7 +46,7 @@ module _ {A : Type 0} (pick : Item → Option A) (P : A → Type 0) (each : (p :
       split (some a) e r = (each p l i a e (h .0), r)
 
 -- the only one, or the default, has it where the default does
-only-one : {A : Type 0} (P : A → Type 0) (xs : List A) (default x : A) → P default → All P xs → AtMostOne xs default x → P x
+pub only-one : {A : Type 0} (P : A → Type 0) (xs : List A) (default x : A) → P default → All P xs → AtMostOne xs default x → P x
 only-one P [] default x d a e = subst P (sym e) d
 only-one P (y ∷ []) default x d a e = subst P (sym e) (a .0)
 only-one P (y ∷ z ∷ more) default x d a e = absurd e
@@ -83,7 +83,7 @@ rows-fit (r ∷ rs) a =
 -- ---- the bridge
 
 module _ (file : List ℕ) (places : ℕ) (d : Description) (samples : List ℤ) (k : Keeps file places d samples) where
-  in-range : inRange (d .kind) (d .n) ≡ true
+  pub in-range : inRange (d .kind) (d .n) ≡ true
   in-range = (rw (k .size) at (gathered sizeIn (λ s. inRange (s .kind) (s .n) ≡ true) sized 0 (linesOf file) (k .items) (k .lines))) .0
 
   lowers-within : WithinBounds (lowers d)
@@ -92,7 +92,7 @@ module _ (file : List ℕ) (places : ℕ) (d : Description) (samples : List ℤ)
   uppers-within : WithinBounds (uppers d)
   uppers-within = only-one WithinBounds (gather upperIn (k .items)) highest (uppers d) (omega arith, (omega arith, omega arith)) (gathered upperIn WithinBounds high 0 (linesOf file) (k .items) (k .lines)) (k .upper)
 
-  bounds-fit : everyColour boundsFit d ≡ true
+  pub bounds-fit : everyColour boundsFit d ≡ true
   unfolding boundsFit
   bounds-fit =
       let lo = lowers-within in

@@ -42,3 +42,6 @@ pub mod Fits
 pub mod Cases
 pub mod WrongPrograms
 pub mod WrongCalls
+-- the bytes that the report program prints
+pub mod Decimals
+pub mod Reported

@@ -1,10 +1,13 @@
 -- Each promise decides its answer and the memory afterwards: the paper's numbers and values, put together again, are the answer that they were taken from.
-use Prim.Native.Nat.{ℕ}
+use Prim.Native.Nat.{ℕ, _<_}
 use mathlib.Core.Path.{_≡_, refl, sym, ap, _∙_}
+use mathlib.Core.Bool.{Bool, true, false}
 use mathlib.Core.List.{List, [], _∷_}
 use mathlib.Core.Option.{Option, none, some}
+use borrow.Author.Tests.{leb-true, leb-false}
+use lib.Dec.{leb}
 use lib.IntN.{ℤ, pos}
-use lib.ListN.{length, getD}
+use lib.ListN.{length, getD, List·getD-eq-default}
 use Rattle.rules.specs.Reading.{read, tableAfter}
 use Rattle.rules.specs.Looking.{look}
 use Rattle.rules.specs.Picturing.{picture, outputAfter}
@@ -101,6 +104,14 @@ same-refusal {r} {s} e =
 -- and no refusal has the number of acceptance
 pub refused-not-0 : (r : Refusal) → refusalNumber r ≡ 0 → ⊥
 refused-not-0 r e = no-some r (sym (refusal-of-number r) ∙ ap refusalOf e)
+
+-- the last number is 30
+pub number-below : (r : Refusal) → refusalNumber r < 31
+number-below r = split (leb 31 (refusalNumber r)) refl
+  where
+    split : (t : Bool) → leb 31 (refusalNumber r) ≡ t → refusalNumber r < 31
+    split true e = absurd (no-some r (sym (refusal-of-number r) ∙ List·getD-eq-default numbered none {n = refusalNumber r} (leb-true 31 (refusalNumber r) e)))
+    split false e = leb-false _ _ e
 
 -- ---- look, put together again
 

@@ -13,7 +13,6 @@ pub mod Numbers
 pub mod Content
 pub mod Judge
 pub mod Reading
-pub mod Reporting
 -- interpolation, look and picture
 pub mod Interpolation
 pub mod Looking
@@ -21,6 +20,7 @@ pub mod Picturing
 -- the paper's number and values of each answer, and what the calls promise
 pub mod Answers
 pub mod Promises
+pub mod Reporting
 pub mod Boundary
 -- demands 2 and 3: the other readings of a position, where an accepted file's numbers stand, and what is asked of an accepted look
 pub mod Readings

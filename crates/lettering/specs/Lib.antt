@@ -1,0 +1,2 @@
+-- What a text put into lent bytes does to them.
+pub mod Putting

@@ -1,0 +1,54 @@
+-- The answer's text, put from the first byte on, is what the promise asks for.
+use Prim.Native.Nat.{ℕ, _+_, _≤_, _<_}
+use mathlib.Core.Path.{_≡_, sym, ap, _∙_}
+use mathlib.Core.List.{List, _++_}
+use native.Mathlib.Omega.{arith}
+use borrow.Author.Tests.{le-leb, lt-leb}
+use lib.ListN.{length, drop}
+use Rattle.rules.specs.Answers.{refusalNumber}
+use Rattle.rules.specs.Lines.{linesOf}
+use Rattle.rules.specs.Reading.{read, samplesOf}
+use Rattle.rules.specs.Reporting.{reportBytes, reportPlaces, report, refusedLine, answerText, reportText, Reports}
+use Rattle.rules.specs.declared.Description.{Description}
+use Rattle.rules.specs.declared.Read.{Read}
+use Rattle.rules.specs.declared.Read.the-variants.{Accepted}
+use Rattle.rules.specs.declared.Refusal.the-variants.{InputTooLong}
+use Rattle.rules.proofs.Acceptance.{accepted-keeps}
+use Rattle.rules.proofs.Bridge.{in-range}
+use Rattle.rules.proofs.Reported.{title-inside, report-fits}
+use Rattle.lettering.specs.Putting.{Room, Puts}
+use Rattle.reporting.specs.Telling.{Tellable}
+
+-- ---- the text by the answer
+
+module _ (input : List ℕ) where
+  pub too-long : reportBytes < length input → reportText input ≡ refusedLine (refusalNumber InputTooLong) 0
+  unfolding reportText report answerText
+  too-long h = rw (lt-leb (length input) reportBytes h)
+
+  pub answered : length input ≤ reportBytes → {r : Read} → r ≡ read input reportPlaces → reportText input ≡ answerText input r
+  unfolding reportText report
+  answered h e = rw (le-leb (length input) reportBytes h) (ap (answerText input) (sym e))
+
+  -- what an accepted file's text asks of the description
+  pub tellable : {d : Description} → Accepted d ≡ read input reportPlaces → Tellable input d
+  tellable {d} e =
+      let accepted = sym e in
+      record {
+        range = in-range input reportPlaces d (samplesOf (linesOf input)) (accepted-keeps input reportPlaces d accepted);
+        title = record { within = title-inside input reportPlaces d accepted };
+      }
+
+-- ---- the lent bytes
+
+module _ (input : List ℕ) {text : List ℕ} (text-so : reportText input ≡ text) {out : List ℕ} where
+  pub room : length out ≡ 512 → Room out 0 text
+  room e = record { fits = omega (arith, report-fits input, ap length text-so) }
+
+  pub reports : {r : ℕ} {out′ : List ℕ} → Puts out 0 text r out′ → Reports input out r out′
+  reports {r} p =
+      let n : 0 + length text ≡ length text = omega arith in
+      record {
+        count = p .after ∙ n ∙ ap length (sym text-so);
+        memory = p .memory ∙ ap (λ k. text ++ drop k out) (sym (p .after)) ∙ ap (λ t. t ++ drop r out) (sym text-so);
+      }
