@@ -7,9 +7,6 @@ use reading::read;
 use rules::Description;
 use rules::Read;
 use rules::Refusal;
-ghost use mathlib.Core.Path.{_≡_};
-ghost use Prim.Native.Nat.{_≤_};
-ghost use lib.ListN.{length};
 ghost use Rattle.desk.specs.Loads.{Fetches, Loads, LoadsAll};
 
 // The description of the table and how many bytes its file has, or nothing, once that was said on standard error.
@@ -65,6 +62,19 @@ fn say_too_long(program: &[u8], path: &[u8], most: usize) {
     write(STDERR_FILENO, b" bytes\n");
 }
 
+// The same, and where there is nothing to judge it is said.
+fn fetch_or_say(program: &[u8], path: &[u8], fd: i32, file: &mut [u8]) -> Fetched
+    ensures { λ r. ⌜ Fetches (now (file .exit)) r ⌝ }
+{
+    let fetched = fetch(fd, &mut *file);
+    match fetched {
+        Fetched::Bytes(_) => {}
+        Fetched::TooLong => say_too_long(program, path, file.len()),
+        Fetched::Failed => say_failure(program, b": cannot read ", path),
+    }
+    fetched
+}
+
 // As `explain: a.cube: refused 5 on line 3: keyword repeated`.
 fn say_refused(program: &[u8], path: &[u8], reason: Refusal, line: usize) {
     write(STDERR_FILENO, program);
@@ -104,17 +114,10 @@ pub fn load(program: &[u8], path: &[u8], file: &mut [u8], table: &mut [i64]) -> 
         say_failure(program, b": cannot open ", path);
         return Loaded::Nothing;
     }
-    let fetched = fetch(fd, &mut *file);
-    if let Fetched::Failed = fetched {
-        say_failure(program, b": cannot read ", path);
-    }
+    let fetched = fetch_or_say(program, path, fd, &mut *file);
     libc::close(fd);
-    match fetched {
-        Fetched::Bytes(bytes) => load_bytes(program, path, &file[..bytes], table),
-        Fetched::TooLong => {
-            say_too_long(program, path, file.len());
-            Loaded::Nothing
-        }
-        Fetched::Failed => Loaded::Nothing,
-    }
+    let Fetched::Bytes(bytes) = fetched else {
+        return Loaded::Nothing;
+    };
+    load_bytes(program, path, &file[..bytes], table)
 }
