@@ -1,0 +1,71 @@
+use native.Mathlib.Omega.{arith}
+use borrow.Author.Needs.{needs}
+use Rattle.explain.proofs.rows.four_of.Statement.{statement}
+use Rattle.explain.proofs.rows.four_of.Tie as tie
+use Rattle.explain.proofs.rows.four_of.Reads as reads
+use Rattle.explain.proofs.rows.four_of.Lts as lts
+use Rattle.explain.proofs.rows.two.Reads as two-reads
+
+enum-told : tie.Need-enum-told
+enum-told c = search needs
+
+-- src/rows.rt:52:9
+enum-told-2 : tie.Need-enum-told-2
+enum-told-2 c = search needs
+
+-- src/rows.rt:52:9
+returns : tie.Need-returns
+returns c = search needs
+
+-- src/rows.rt:60:24
+enum-told-3 : tie.Need-enum-told-3
+enum-told-3 c = search needs
+
+-- src/rows.rt:60:24
+two-requires : tie.Need-two-requires
+two-requires c κs = search needs
+
+-- src/rows.rt:61:26
+enum-told-4 : tie.Need-enum-told-4
+enum-told-4 c = search needs
+
+-- src/rows.rt:61:26
+two-requires-2 : tie.Need-two-requires-2
+two-requires-2 c κs = search needs
+
+-- src/rows.rt:62:25
+enum-told-5 : tie.Need-enum-told-5
+enum-told-5 c = search needs
+
+-- src/rows.rt:62:25
+two-requires-3 : tie.Need-two-requires-3
+two-requires-3 c κs = search needs
+
+-- src/rows.rt:42:1
+returns-2 : tie.Need-returns-2
+returns-2 c = search needs
+
+-- src/rows.rt:42:1
+returns-3 : tie.Need-returns-3
+returns-3 c = search needs
+
+-- src/rows.rt:42:1
+returns-4 : tie.Need-returns-4
+returns-4 c = search needs
+
+pub four-of-spec : {M : Type 1} → statement M
+four-of-spec =
+    tie.close
+    (tie.spec
+    enum-told
+    enum-told-2
+    returns
+    enum-told-3
+    two-requires
+    enum-told-4
+    two-requires-2
+    enum-told-5
+    two-requires-3
+    returns-2
+    returns-3
+    returns-4)
