@@ -13,7 +13,9 @@ fn is_data(l: &[u8]) -> bool
 {
     match form_of(l) {
         Form::Data => true,
-        Form::Idle | Form::Keyed(_) | Form::Neither => false,
+        Form::Idle => false,
+        Form::Keyed(_) => false,
+        Form::Neither => false,
     }
 }
 

@@ -14,7 +14,8 @@ use question::pixel_of;
 use question::read_arguments;
 use show::explain;
 
-fn main() {
+// The question that the arguments ask, answered with lent space for the file and the table.
+fn answer(file: &mut [u8], table: &mut [i64]) {
     let Asked::Plainly {
         bits,
         red,
@@ -27,18 +28,22 @@ fn main() {
     };
     let mut path = io::buffer();
     let length = os::arg(1, &mut path);
-    let mut file = [0u8; FILE_BYTES];
-    let mut table = [0i64; TABLE_PLACES];
     let Loaded::Table { description, bytes } =
-        load(b"explain", &path[..length], &mut file, &mut table)
+        load(b"explain", &path[..length], &mut *file, &mut *table)
     else {
         return;
     };
     explain(
         description,
         &file[..bytes],
-        &table,
+        table,
         bits,
         pixel_of(red, green, blue),
     );
+}
+
+fn main() {
+    let mut file = [0u8; FILE_BYTES];
+    let mut table = [0i64; TABLE_PLACES];
+    answer(&mut file, &mut table);
 }

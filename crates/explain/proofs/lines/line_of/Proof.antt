@@ -1,5 +1,13 @@
-use borrow.Author.Needs.{needs}
+-- The invariant is the search from the cursor on, and the measure what is left of the file; each turn cites the laws of seeking.
+use Prim.Native.Nat.{ℕ, _+_, _-_, _<_}
+use mathlib.Core.Path.{sym, _∙_}
+use mathlib.Core.List.{List}
 use native.Mathlib.Omega.{arith}
+use borrow.Author.Needs.{needs}
+use denote.Ref.{now}
+use lib.ListN.{length}
+use Rattle.text.proofs.Standing.{LineFound, step-end, step-line}
+use Rattle.explain.proofs.Seeking.{Sought, begins, ends, here, one-less, passes}
 use Rattle.explain.proofs.lines.line_of.Statement.{statement}
 use Rattle.explain.proofs.lines.line_of.Tie as tie
 use Rattle.explain.proofs.lines.line_of.Reads as reads
@@ -9,74 +17,84 @@ use Rattle.text.proofs.cursor.Cursor.new.Reads as new-reads
 use Rattle.text.proofs.cursor.Cursor.next_line.Reads as next-line-reads
 
 abbrev Inv-loop : tie.InvT-loop
-Inv-loop file row c₀ rows-before₀ c rows-before = ?
+Inv-loop file row c₀ rows-before₀ c rows-before = Sought file row c rows-before
 
 abbrev μ-loop : tie.MeasureT-loop
-μ-loop file row c₀ rows-before₀ c rows-before = ?
+μ-loop file row c₀ rows-before₀ c rows-before = length file + 1 - c .at
 
--- src/lines.rt:24:9
+-- the file
+abbrev text : tie.At-loop Inv-loop μ-loop → List ℕ
+text l = now (l .before .before .before .args .file)
+
+-- the line that the cursor found
+line-found : (f : tie.After-start Inv-loop μ-loop)
+    → let l = f .before .before .before in LineFound (text l) (l .loop .c) (f .start .given .0 .0) (f .start .given .0 .1 .0) (f .start .given .0 .1 .1 .0) (f .start .given .0 .1 .1 .1 .0)
+line-found f =
+    let l = f .before .before .before in
+    step-line (text l) (l .loop .c) (l .loop .inv .standing) _ _ _ _ (sym (f .before .before .next-line .ensures) ∙ f .start .given .1)
+
+-- past a line less of the file is left
+nearer : (f : tie.After-start Inv-loop μ-loop) → let l = f .before .before .before in length (text l) + 1 - f .start .given .0 .1 .1 .1 .0 .at < length (text l) + 1 - l .loop .c .at
+nearer f = let found = line-found f in omega (arith, found .here, found .order, found .inside, found .place)
+
 new-requires : tie.Need-new-requires Inv-loop μ-loop
 new-requires c κs = search needs
 
--- src/lines.rt:26:5
 loop-holds : tie.Need-loop-holds Inv-loop μ-loop
-loop-holds c = search needs
+loop-holds c = begins (now (c .before .before .args .file)) (c .before .before .args .row) _ (c .new .ensures .0) (c .new .ensures .1)
 
--- src/lines.rt:32:13
 next-line-requires : tie.Need-next-line-requires Inv-loop μ-loop
-next-line-requires c κs = search needs
+next-line-requires c κs = c .loop .inv .standing .small
 
--- src/lines.rt:28:13
 enum-known-start : tie.Need-enum-known-start Inv-loop μ-loop
 enum-known-start c = search needs
 
--- src/lines.rt:34:13
 enum-told : tie.Need-enum-told Inv-loop μ-loop
 enum-told c = search needs
 
--- src/lines.rt:34:13
 returns : tie.Need-returns Inv-loop μ-loop
-returns c = search needs
+returns c =
+    let l = c .before .before .before in
+    sym (ends (l .loop .inv) (step-end (text l) (l .loop .c) (l .loop .inv .standing) (sym (c .before .before .next-line .ensures) ∙ c .enum-told .given .1)))
 
--- src/lines.rt:36:20
 sub-is-data : tie.Need-sub-is-data Inv-loop μ-loop
-sub-is-data c = search needs
+sub-is-data c = line-found (c .before) .order
 
--- src/lines.rt:36:20
 part-is-data-start : tie.Need-part-is-data-start Inv-loop μ-loop
-part-is-data-start c = search needs
+part-is-data-start c = line-found (c .before) .order
 
--- src/lines.rt:36:20
 part-is-data-end : tie.Need-part-is-data-end Inv-loop μ-loop
-part-is-data-end c = search needs
+part-is-data-end c = line-found (c .before) .inside
 
--- src/lines.rt:36:12
 is-data-requires : tie.Need-is-data-requires Inv-loop μ-loop
 is-data-requires c κs = search needs
 
--- src/lines.rt:38:17
 returns-2 : tie.Need-returns-2 Inv-loop μ-loop
-returns-2 c = search needs
+returns-2 c =
+    let i = c .before .before in
+    let f = i .before .before .before in
+    sym (here (f .before .before .before .loop .inv) (line-found f) (sym (i .is-data .ensures) ∙ c .before .if1 .taken) (c .if2 .taken))
 
--- src/lines.rt:40:13
 sub-rows-before : tie.Need-sub-rows-before Inv-loop μ-loop
 sub-rows-before c = search needs
 
--- src/lines.rt:26:5
 loop-less : tie.Need-loop-less Inv-loop μ-loop
-loop-less c = search needs
+loop-less c = nearer (c .before .before .before .before .before)
 
--- src/lines.rt:26:5
 loop-again : tie.Need-loop-again Inv-loop μ-loop
-loop-again c = search needs
+loop-again c =
+    let i = c .before .before in
+    let f = i .before .before .before in
+    one-less (f .before .before .before .loop .inv) (line-found f) (sym (i .is-data .ensures) ∙ c .before .if1 .taken) (c .if2 .left)
 
--- src/lines.rt:26:5
 loop-less-2 : tie.Need-loop-less-2 Inv-loop μ-loop
-loop-less-2 c = search needs
+loop-less-2 c = nearer (c .before .before .before .before)
 
--- src/lines.rt:26:5
 loop-again-2 : tie.Need-loop-again-2 Inv-loop μ-loop
-loop-again-2 c = search needs
+loop-again-2 c =
+    let i = c .before in
+    let f = i .before .before .before in
+    passes (f .before .before .before .loop .inv) (line-found f) (sym (i .is-data .ensures) ∙ c .if1 .left)
 
 pub line-of-spec : {M : Type 1} → statement M
 line-of-spec =

@@ -1,4 +1,8 @@
+-- A number that is found is within 65,535.
+use Prim.Native.Nat.{_≤_}
+use mathlib.Core.Path.{subst}
 use native.Mathlib.Omega.{arith}
+use Rattle.desk.specs.Arguments.{UpTo}
 use borrow.Author.Needs.{needs}
 use Rattle.explain.proofs.question.value_at.Statement.{statement}
 use Rattle.explain.proofs.question.value_at.Tie as tie
@@ -20,7 +24,10 @@ enum-known-n c = search needs
 
 -- src/question.rt:35:45
 cast-t6 : tie.Need-cast-t6
-cast-t6 c = search needs
+cast-t6 c =
+    let n = c .before in
+    let small : n .n .given .0 .0 ≤ 65535 = subst (UpTo 65535) (n .n .given .1) (n .before .before .number-at .ensures) in
+    record { fits = omega (arith, small) }
 
 -- src/question.rt:36:44
 enum-told : tie.Need-enum-told

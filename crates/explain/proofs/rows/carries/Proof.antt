@@ -1,5 +1,10 @@
-use borrow.Author.Needs.{needs}
-use native.Mathlib.Omega.{arith}
+-- The weight is an i64.
+use mathlib.Core.Path.{ap}
+use lib.IntN.{pos}
+use lib.Signed.{ltZ}
+use mir.Syntax.{w64}
+use mir.ValLaws.{toZ-ofZ}
+use Rattle.explain.specs.Spans.{carries}
 use Rattle.explain.proofs.rows.carries.Statement.{statement}
 use Rattle.explain.proofs.rows.carries.Tie as tie
 use Rattle.explain.proofs.rows.carries.Reads as reads
@@ -7,7 +12,8 @@ use Rattle.explain.proofs.rows.carries.Lts as lts
 
 -- src/rows.rt:67:1
 returns : tie.Need-returns
-returns c = search needs
+unfolding carries
+returns c = ap (ltZ (pos 0)) (toZ-ofZ w64 (c .before .before .args .share .weight) (record { sfits = c .struct-told .given .1 .0 .1 }))
 
 pub carries-spec : {M : Type 1} → statement M
 carries-spec = tie.close (tie.spec returns)

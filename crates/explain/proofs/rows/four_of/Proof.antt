@@ -1,10 +1,16 @@
-use native.Mathlib.Omega.{arith}
+-- By the kind, and in 1D by the colour.
+use mathlib.Core.Path.{refl, _∙_}
+use Rattle.rules.specs.declared.Shares.{Shares}
+use Rattle.explain.proofs.Spanning.{four-for}
 use borrow.Author.Needs.{needs}
 use Rattle.explain.proofs.rows.four_of.Statement.{statement}
 use Rattle.explain.proofs.rows.four_of.Tie as tie
 use Rattle.explain.proofs.rows.four_of.Reads as reads
 use Rattle.explain.proofs.rows.four_of.Lts as lts
 use Rattle.explain.proofs.rows.two.Reads as two-reads
+
+abbrev shares : tie.After-enum-told → Shares
+shares c = c .before .before .before .before .before .before .before .before .args .shares
 
 enum-told : tie.Need-enum-told
 enum-told c = search needs
@@ -15,7 +21,7 @@ enum-told-2 c = search needs
 
 -- src/rows.rt:52:9
 returns : tie.Need-returns
-returns c = search needs
+returns c = four-for (c .before .before .before .before .before .before .before .before .args .shares) (c .enum-told2 .given .1) refl
 
 -- src/rows.rt:60:24
 enum-told-3 : tie.Need-enum-told-3
@@ -43,15 +49,21 @@ two-requires-3 c κs = search needs
 
 -- src/rows.rt:42:1
 returns-2 : tie.Need-returns-2
-returns-2 c = search needs
+returns-2 c =
+    let kind = c .before .before .before in
+    c .two .ensures ∙ four-for (shares kind) (kind .enum-told .given .1) (c .before .enum-told3 .given .1)
 
 -- src/rows.rt:42:1
 returns-3 : tie.Need-returns-3
-returns-3 c = search needs
+returns-3 c =
+    let kind = c .before .before .before in
+    c .two2 .ensures ∙ four-for (shares kind) (kind .enum-told .given .1) (c .before .enum-told4 .given .1)
 
 -- src/rows.rt:42:1
 returns-4 : tie.Need-returns-4
-returns-4 c = search needs
+returns-4 c =
+    let kind = c .before .before .before in
+    c .two3 .ensures ∙ four-for (shares kind) (kind .enum-told .given .1) (c .before .enum-told5 .given .1)
 
 pub four-of-spec : {M : Type 1} → statement M
 four-of-spec =

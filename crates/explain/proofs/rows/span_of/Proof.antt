@@ -1,4 +1,8 @@
-use native.Mathlib.Omega.{arith}
+-- From the last row to the first, as the definition adds them.
+use mathlib.Core.Path.{ap, _∙_}
+use denote.Ref.{now}
+use Rattle.rules.specs.Interpolation.{rowCode}
+use Rattle.explain.specs.Spans.{widened, spanOf}
 use borrow.Author.Needs.{needs}
 use Rattle.explain.proofs.rows.span_of.Statement.{statement}
 use Rattle.explain.proofs.rows.span_of.Tie as tie
@@ -24,7 +28,15 @@ wider-requires-4 c κs = search needs
 
 -- src/rows.rt:100:1
 returns : tie.Need-returns
-returns c = search needs
+unfolding spanOf
+returns c den wide =
+    let three = c .before in
+    let two = three .before in
+    let one = two .before in
+    let a = one .before .args in
+    let more = widened (rowCode (a .m) den (now (a .table)) (a .c)) in
+    c .wider4 .ensures den wide
+    ∙ ap (more (a .four .first)) (three .wider3 .ensures den wide ∙ ap (more (a .four .second)) (two .wider2 .ensures den wide ∙ ap (more (a .four .third)) (one .wider .ensures den wide)))
 
 pub span-of-spec : {M : Type 1} → statement M
 span-of-spec =

@@ -1,4 +1,7 @@
-use native.Mathlib.Omega.{arith}
+-- A row that carries no weight leaves the span; another adds its code.
+use mathlib.Core.Path.{sym, _∙_}
+use borrow.Author.Tests.{not-true, not-false}
+use Rattle.explain.proofs.Spanning.{idle-same, carrying-widens}
 use borrow.Author.Needs.{needs}
 use Rattle.explain.proofs.rows.wider.Statement.{statement}
 use Rattle.explain.proofs.rows.wider.Tie as tie
@@ -15,7 +18,9 @@ carries-requires c κs = search needs
 
 -- src/rows.rt:91:9
 returns : tie.Need-returns
-returns c = search needs
+returns c den wide =
+    let flag = c .before in
+    idle-same _ (flag .before .args .share) (flag .before .args .span) (sym (flag .carries .ensures) ∙ not-true _ (c .if1 .taken))
 
 -- src/rows.rt:93:9
 row-code-requires : tie.Need-row-code-requires
@@ -31,7 +36,12 @@ greater-requires c κs = search needs
 
 -- src/rows.rt:86:1
 returns-2 : tie.Need-returns-2
-returns-2 c = search needs
+returns-2 c den wide =
+    let least = c .before in
+    let code = least .before in
+    let flag = code .before .before in
+    carrying-widens _ (flag .before .args .share) (flag .before .args .span) (code .row-code .result) _ _
+    (sym (flag .carries .ensures) ∙ not-false _ (code .before .if1 .left)) (code .row-code .ensures den wide) (least .lesser .ensures) (c .greater .ensures)
 
 pub wider-spec : {M : Type 1} → statement M
 wider-spec =
