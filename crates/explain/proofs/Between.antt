@@ -1,6 +1,6 @@
 -- Demand 3 at the desk: an accepted look can be shown, and its code never lies outside the codes that are shown beside it.
-use Prim.Native.Nat.{ℕ, _≤_, min, max}
-use mathlib.Core.Path.{_≡_, refl, sym, ap, subst, _∙_}
+use Prim.Native.Nat.{ℕ, _≤_}
+use mathlib.Core.Path.{_≡_, refl, sym, ap, _∙_}
 use mathlib.Core.Bool.{Bool, true, false}
 use mathlib.Core.List.{List, [], _∷_}
 use native.Mathlib.Omega.{arith}
@@ -8,11 +8,10 @@ use lib.IntN.{ℤ, pos}
 use lib.Signed.{_<ℤ_, ltZ}
 use Rattle.whole.proofs.Held.{true-by}
 use Rattle.rules.specs.Units.{depthOf, codeIn}
-use Rattle.rules.specs.Descriptions.{rows}
 use Rattle.rules.specs.Interpolation.{denOf, rowCode}
 use Rattle.rules.specs.Answers.{lookNumber}
 use Rattle.rules.specs.Promises.{Looks}
-use Rattle.rules.specs.Demands.{used, Each, Carried, Right}
+use Rattle.rules.specs.Demands.{used, Carried, Right}
 use Rattle.rules.specs.declared.Codes.{Codes}
 use Rattle.rules.specs.declared.Colour.{Colour}
 use Rattle.rules.specs.declared.Depth.{Depth}
@@ -22,10 +21,10 @@ use Rattle.rules.specs.declared.Look.{Look}
 use Rattle.rules.specs.declared.Look.the-variants.{Accepted}
 use Rattle.rules.specs.declared.Share.{Share}
 use Rattle.rules.specs.declared.Shares.{Shares}
-use Rattle.rules.proofs.Checks.{LookPassed, look-passed}
+use Rattle.rules.proofs.Checks.{look-passed}
 use Rattle.rules.proofs.Demand3.{AllRight, looks-right}
 use Rattle.rules.proofs.Depths.{depth-bounds}
-use Rattle.explain.specs.Spans.{carries, widened, spanOf, Seen}
+use Rattle.explain.specs.Spans.{carries, widened, spanOf, shownSpan, Seen}
 use Rattle.explain.specs.declared.rows.Span.{Span}
 
 -- ---- of any shares: what carries weight has its code within the span
@@ -66,10 +65,6 @@ module _ (codeOf : ℕ → ℕ) (m : ℕ) where
   greatest-above a (s ∷ ss) h =
       let w = wider s (spanOf codeOf m ss) in
       (λ p. omega (arith, w .own-high (carrying s p)), greatest-above a ss (omega (arith, w .higher)))
-
--- the span that is shown of a colour
-abbrev pub shownSpan : Description → List ℤ → ℕ → Shares → Colour → Span
-shownSpan d table m shares c = spanOf (rowCode m (denOf d m c) table c) m (used (d .kind) c shares)
 
 right-between : {d : Description} {table : List ℤ} {m : ℕ} {pixel codes : Codes} {shares : Shares} {c : Colour} → Right d table m m pixel codes shares c
     → (shownSpan d table m shares c .least ≤ codeIn codes c) × (codeIn codes c ≤ shownSpan d table m shares c .greatest)

@@ -9,6 +9,7 @@ use borrow.Author.Tests.{le-leb}
 use lib.IntN.{ℤ}
 use Rattle.rules.specs.Units.{rowsOf, inRange}
 use Rattle.rules.specs.Descriptions.{rows}
+use Rattle.rules.specs.Interpolation.{denOf, rowCode}
 use Rattle.rules.specs.Demands.{used, Each}
 use Rattle.rules.specs.declared.Colour.{Colour}
 use Rattle.rules.specs.declared.Colour.the-variants.{Red, Green, Blue}
@@ -18,11 +19,12 @@ use Rattle.rules.specs.declared.Kind.the-variants.{OneD, ThreeD}
 use Rattle.rules.specs.declared.Share.{Share}
 use Rattle.rules.specs.declared.Shares.{Shares}
 use Rattle.rules.proofs.Tests.{both-and}
-use Rattle.rules.proofs.Judged.{Sound, sound-of}
+use Rattle.rules.proofs.Judged.{Sound, sound-of, wide-enough}
 use Rattle.colour.specs.Adding.{RowAt}
 use Rattle.colour.proofs.Weighing.{row-stands}
+use Rattle.explain.specs.declared.rows.Four.{Four}
 use Rattle.explain.specs.declared.rows.Span.{Span}
-use Rattle.explain.specs.Spans.{carries, widened, spanOf, fourOf, Seen}
+use Rattle.explain.specs.Spans.{carries, widened, spanOf, shownSpan, listed, fourOf, Seen}
 
 pub four-for : {k kind : Kind} {x c : Colour} (shares : Shares) → kind ≡ k → c ≡ x → fourOf k x shares ≡ fourOf kind c shares
 four-for shares e f = ap₂ (λ a b. fourOf a b shares) (sym e) (sym f)
@@ -75,3 +77,14 @@ module _ {d : Description} {table : List ℤ} {m : ℕ} {shares : Shares} (seen 
 
   pub in-range : inRange (d .kind) (d .n) ≡ true
   in-range = both-and _ _ (le-leb _ _ (sound .least)) (le-leb _ _ (sound .most))
+
+  pub den-there : (c : Colour) → 0 < denOf d m c
+  den-there c = mul-pos (seen .deep) (wide-enough (sound .domains c))
+
+  pub listed-stand : (c : Colour) (four : Four) → listed four ≡ fourOf (d .kind) c shares → Each (λ s. RowAt table (3 * s .row)) (listed four)
+  listed-stand c four e = subst (Each (λ s. RowAt table (3 * s .row))) (sym e) (four-stand (d .kind) refl c)
+
+  -- the span of the four is what is shown
+  pub four-shown : (c : Colour) (four : Four) → listed four ≡ fourOf (d .kind) c shares
+      → spanOf (rowCode m (denOf d m c) table c) m (listed four) ≡ shownSpan d table m shares c
+  four-shown c four e = let codeOf = rowCode m (denOf d m c) table c in ap (spanOf codeOf m) e ∙ four-spans codeOf m (d .kind) c shares

@@ -6,7 +6,7 @@ use mathlib.Core.List.{List, [], _∷_, _++_}
 use lib.IntN.{ℤ, pos}
 use lib.Signed.{ltZ}
 use Rattle.rules.specs.Descriptions.{rows, couldBeRead}
-use Rattle.rules.specs.Interpolation.{share}
+use Rattle.rules.specs.Interpolation.{share, denOf, rowCode}
 use Rattle.rules.specs.Demands.{used, Each}
 use Rattle.rules.specs.declared.Colour.{Colour}
 use Rattle.rules.specs.declared.Description.{Description}
@@ -30,6 +30,10 @@ widened codeOf s span =
 unfoldable pub spanOf : (ℕ → ℕ) → ℕ → List Share → Span
 spanOf codeOf m [] = record { least = m; greatest = 0 }
 spanOf codeOf m (s ∷ ss) = widened codeOf s (spanOf codeOf m ss)
+
+-- what is shown of a colour
+abbrev pub shownSpan : Description → List ℤ → ℕ → Shares → Colour → Span
+shownSpan d table m shares c = spanOf (rowCode m (denOf d m c) table c) m (used (d .kind) c shares)
 
 -- ---- as the code keeps a colour's rows: in 1D with two that carry nothing
 

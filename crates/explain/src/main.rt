@@ -28,9 +28,12 @@ fn answer(file: &mut [u8], table: &mut [i64]) {
     };
     let mut path = io::buffer();
     let length = os::arg(1, &mut path);
-    let Loaded::Table { description, bytes } =
-        load(b"explain", &path[..length], &mut *file, &mut *table)
-    else {
+    let Loaded::Table { description, bytes } = load(
+        b"explain",
+        &path[..length],
+        &mut *file,
+        &mut *table,
+    ) else {
         return;
     };
     explain(

@@ -1,6 +1,7 @@
 // The rows that a colour's code is made of, and the least and the greatest of their codes.
 use colour::row_code;
 use rules::Colour;
+use rules::Description;
 use rules::Kind;
 use rules::Share;
 use rules::Shares;
@@ -10,7 +11,7 @@ ghost use Prim.Native.Nat.{ℕ, _*_, _<_, min, max};
 ghost use Rattle.rules.specs.Interpolation.{share, rowCode};
 ghost use Rattle.rules.specs.Demands.{Each};
 ghost use Rattle.colour.specs.Adding.{RowAt};
-ghost use Rattle.explain.specs.Spans.{carries, widened, spanOf, listed, fourOf};
+ghost use Rattle.explain.specs.Spans.{carries, widened, spanOf, shownSpan, listed, fourOf, Seen};
 
 // A colour's rows and weights: in 1D two, and two that carry nothing.
 pub struct Four {
@@ -96,8 +97,8 @@ fn wider(span: Span, table: &[i64], m: u16, c: Colour, share: Share) -> Span
     Span { least, greatest }
 }
 
-// The least and the greatest code of the rows that carry weight.
-pub fn span_of(table: &[i64], m: u16, c: Colour, four: Four) -> Span
+// The least and the greatest code of the rows that carry weight; the last is added first.
+fn span_of(table: &[i64], m: u16, c: Colour, four: Four) -> Span
     requires { ⌜ Each (λ s. RowAt (now table) (3 * s .row)) (listed four) ⌝ }
     ensures { λ r. ⌜ ((den : ℕ) → 0 < den → r ≡ spanOf (rowCode m den (now (table .entry)) c) m (listed four)) ⌝ }
 {
@@ -109,4 +110,13 @@ pub fn span_of(table: &[i64], m: u16, c: Colour, four: Four) -> Span
     let last_two = wider(last, table, m, c, four.third);
     let last_three = wider(last_two, table, m, c, four.second);
     wider(last_three, table, m, c, four.first)
+}
+
+// The least and the greatest code of the rows that a colour's code is made of. The code never lies outside them.
+pub fn span_shown(d: Description, table: &[i64], m: u16, shares: Shares, c: Colour) -> Span
+    requires { ⌜ Seen d (now table) m shares ⌝ }
+    ensures { λ r. ⌜ r ≡ shownSpan d (now (table .entry)) m shares c ⌝ }
+{
+    let kind = d.kind;
+    span_of(table, m, c, four_of(kind, c, shares))
 }

@@ -4,7 +4,7 @@ use crate::question::Pixel;
 use crate::rows::Span;
 use crate::rows::carries;
 use crate::rows::four_of;
-use crate::rows::span_of;
+use crate::rows::span_shown;
 use colour::den_of;
 use colour::look;
 use colour::row_code;
@@ -141,7 +141,7 @@ fn show_colour(
     let kind = d.kind;
     let four = four_of(kind, c, shares);
     let den = den_of(d, m, c);
-    show_span(c, codes, span_of(table, m, c, four));
+    show_span(c, codes, span_shown(d, table, m, shares, c));
     show_row(file, table, m, c, den, four.first);
     show_row(file, table, m, c, den, four.second);
     show_row(file, table, m, c, den, four.third);

@@ -8,114 +8,83 @@ use Rattle.desk.specs.Loads.{Loads}
 use borrow.Author.Needs.{needs}
 use Rattle.explain.proofs.answer.Statement.{statement}
 use Rattle.explain.proofs.answer.Tie as tie
-use Rattle.explain.proofs.answer.Reads as reads
-use Rattle.explain.proofs.answer.Lts as lts
-use Rattle.desk.proofs.load.Reads as load-reads
-use Rattle.explain.proofs.help.show.Reads as show-reads
-use Rattle.explain.proofs.question.pixel_of.Reads as pixel-of-reads
-use Rattle.explain.proofs.question.read_arguments.Reads as read-arguments-reads
-use Rattle.explain.proofs.show.explain.Reads as explain-reads
-use Rattle.io.proofs.buffer.Reads as buffer-reads
-use Rattle.os.proofs.arg.Reads as arg-reads
 
 -- the count of the file's bytes is within the space that was lent for them
 within : (d : tie.After-description) → let l = d .before .before .before .before .before in d .description .given .0 .1 .0 ≤ length (l .load .last .1 .1 .0)
 within d =
     let l = d .before .before .before .before .before in
-    subst (λ r. Loads (l .load .last .1 .1 .0) (now (l .before .before .before .before .before .before .before .before .before .before .before .before .before .before .args .table)) r (l .load .last .1 .1 .1 .0)) (d .description .given .1) (l .load .ensures) .0
+    let s = l .before .before .before .before .before .before .before .before .before .before .before .before .before .before in
+    subst (λ r. Loads (l .load .last .1 .1 .0) (now (s .args .table)) r (l .load .last .1 .1 .1 .0)) (d .description .given .1) (l .load .ensures) .0
 
 read-arguments-requires : tie.Need-read-arguments-requires
 read-arguments-requires c κs = search needs
 
--- src/main.rt:20:9
 enum-known-bits : tie.Need-enum-known-bits
 enum-known-bits c = search needs
 
--- src/main.rt:26:9
 enum-told : tie.Need-enum-told
 enum-told c = search needs
 
--- src/main.rt:26:9
 show-requires : tie.Need-show-requires
 show-requires c κs = search needs
 
--- src/main.rt:27:9
 returns : tie.Need-returns
 returns c = search needs
 
--- src/main.rt:29:20
 buffer-requires : tie.Need-buffer-requires
 buffer-requires c κs = search needs
 
--- src/main.rt:30:29
 slice-aggregate-arg : tie.Need-slice-aggregate-arg
 slice-aggregate-arg c = search needs
 
--- src/main.rt:30:9
 arg-requires : tie.Need-arg-requires
 arg-requires c κs = search needs
 
--- src/main.rt:32:14
 slice-aggregate-load : tie.Need-slice-aggregate-load
 slice-aggregate-load c = search needs
 
--- src/main.rt:32:26
 array-share-prefix-path : tie.Need-array-share-prefix-path
 array-share-prefix-path c = search needs
 
--- src/main.rt:32:26
 slice-aggregate-load-2 : tie.Need-slice-aggregate-load-2
 slice-aggregate-load-2 c = search needs
 
--- src/main.rt:32:9
 load-requires : tie.Need-load-requires
 load-requires c κs = search needs
 
--- src/main.rt:31:25
 enum-known-description : tie.Need-enum-known-description
 enum-known-description c = search needs
 
--- src/main.rt:34:9
 enum-told-2 : tie.Need-enum-told-2
 enum-told-2 c = search needs
 
--- src/main.rt:34:9
 same-length : tie.Need-same-length
 same-length c = search needs
 
--- src/main.rt:34:9
 same-length-2 : tie.Need-same-length-2
 same-length-2 c = search needs
 
--- src/main.rt:34:9
 returns-2 : tie.Need-returns-2
 returns-2 c = search needs
 
--- src/main.rt:38:9
 slice-reshare-prefix-explain : tie.Need-slice-reshare-prefix-explain
 slice-reshare-prefix-explain c = within (c .before)
 
--- src/main.rt:38:9
 slice-aggregate-explain : tie.Need-slice-aggregate-explain
 slice-aggregate-explain c = sym (length-take-le _ _ (within (c .before .before)))
 
--- src/main.rt:41:9
 pixel-of-requires : tie.Need-pixel-of-requires
 pixel-of-requires c κs = search needs
 
--- src/main.rt:36:5
 explain-requires : tie.Need-explain-requires
 explain-requires c κs = search needs
 
--- src/main.rt:18:1
 same-length-3 : tie.Need-same-length-3
 same-length-3 c = search needs
 
--- src/main.rt:18:1
 same-length-4 : tie.Need-same-length-4
 same-length-4 c = search needs
 
--- src/main.rt:18:1
 returns-3 : tie.Need-returns-3
 returns-3 c = search needs
 

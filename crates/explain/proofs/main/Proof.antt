@@ -3,27 +3,19 @@ use Prim.Native.Nat.{ℕ}
 use mathlib.Core.Path.{sym}
 use lib.IntN.{pos}
 use lib.ListN.{length-replicate}
-use native.Mathlib.Omega.{arith}
 use borrow.Author.Needs.{needs}
 use Rattle.explain.proofs.main.Statement.{statement}
 use Rattle.explain.proofs.main.Tie as tie
-use Rattle.explain.proofs.main.Reads as reads
-use Rattle.explain.proofs.main.Lts as lts
-use Rattle.explain.proofs.answer.Reads as answer-reads
 
--- src/main.rt:48:12
 slice-aggregate-answer : tie.Need-slice-aggregate-answer
-slice-aggregate-answer c = sym (length-replicate {ℓ = 0} {A = ℕ} 4194304 0)
+slice-aggregate-answer c = sym (length-replicate {0} {A = ℕ} 4194304 0)
 
--- src/main.rt:48:23
 slice-aggregate-answer-2 : tie.Need-slice-aggregate-answer-2
 slice-aggregate-answer-2 c = sym (length-replicate 196608 (pos 0))
 
--- src/main.rt:48:5
 answer-requires : tie.Need-answer-requires
 answer-requires c κs = search needs
 
--- src/main.rt:45:1
 returns : tie.Need-returns
 returns c = search needs
 

@@ -4,43 +4,31 @@ use Rattle.rules.specs.Demands.{isData}
 use borrow.Author.Needs.{needs}
 use Rattle.explain.proofs.lines.is_data.Statement.{statement}
 use Rattle.explain.proofs.lines.is_data.Tie as tie
-use Rattle.explain.proofs.lines.is_data.Reads as reads
-use Rattle.explain.proofs.lines.is_data.Lts as lts
-use Rattle.text.proofs.form_of.Reads as form-of-reads
 
--- src/lines.rt:14:11
 form-of-requires : tie.Need-form-of-requires
 form-of-requires c κs = search needs
 
--- src/lines.rt:15:23
 enum-told : tie.Need-enum-told
 enum-told c = search needs
 
--- src/lines.rt:16:23
 enum-told-2 : tie.Need-enum-told-2
 enum-told-2 c = search needs
 
--- src/lines.rt:17:27
 enum-told-3 : tie.Need-enum-told-3
 enum-told-3 c = search needs
 
--- src/lines.rt:18:26
 enum-told-4 : tie.Need-enum-told-4
 enum-told-4 c = search needs
 
--- src/lines.rt:11:1
 returns : tie.Need-returns
 returns c = sym (ap isData (sym (c .before .before .form-of .ensures) ∙ c .enum-told .given .1))
 
--- src/lines.rt:11:1
 returns-2 : tie.Need-returns-2
 returns-2 c = sym (ap isData (sym (c .before .before .form-of .ensures) ∙ c .enum-told2 .given .1))
 
--- src/lines.rt:11:1
 returns-3 : tie.Need-returns-3
 returns-3 c = sym (ap isData (sym (c .before .before .form-of .ensures) ∙ c .enum-told3 .given .1))
 
--- src/lines.rt:11:1
 returns-4 : tie.Need-returns-4
 returns-4 c = sym (ap isData (sym (c .before .before .form-of .ensures) ∙ c .enum-told4 .given .1))
 

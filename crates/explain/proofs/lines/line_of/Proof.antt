@@ -10,11 +10,6 @@ use Rattle.text.proofs.Standing.{LineFound, step-end, step-line}
 use Rattle.explain.proofs.Seeking.{Sought, begins, ends, here, one-less, passes}
 use Rattle.explain.proofs.lines.line_of.Statement.{statement}
 use Rattle.explain.proofs.lines.line_of.Tie as tie
-use Rattle.explain.proofs.lines.line_of.Reads as reads
-use Rattle.explain.proofs.lines.line_of.Lts as lts
-use Rattle.explain.proofs.lines.is_data.Reads as is-data-reads
-use Rattle.text.proofs.cursor.Cursor.new.Reads as new-reads
-use Rattle.text.proofs.cursor.Cursor.next_line.Reads as next-line-reads
 
 abbrev Inv-loop : tie.InvT-loop
 Inv-loop file row c₀ rows-before₀ c rows-before = Sought file row c rows-before

@@ -7,10 +7,7 @@ use mir.ValLaws.{toZ-ofZ}
 use Rattle.explain.specs.Spans.{carries}
 use Rattle.explain.proofs.rows.carries.Statement.{statement}
 use Rattle.explain.proofs.rows.carries.Tie as tie
-use Rattle.explain.proofs.rows.carries.Reads as reads
-use Rattle.explain.proofs.rows.carries.Lts as lts
 
--- src/rows.rt:67:1
 returns : tie.Need-returns
 unfolding carries
 returns c = ap (ltZ (pos 0)) (toZ-ofZ w64 (c .before .before .args .share .weight) (record { sfits = c .struct-told .given .1 .0 .1 }))

@@ -5,9 +5,6 @@ use Rattle.explain.proofs.Spanning.{four-for}
 use borrow.Author.Needs.{needs}
 use Rattle.explain.proofs.rows.four_of.Statement.{statement}
 use Rattle.explain.proofs.rows.four_of.Tie as tie
-use Rattle.explain.proofs.rows.four_of.Reads as reads
-use Rattle.explain.proofs.rows.four_of.Lts as lts
-use Rattle.explain.proofs.rows.two.Reads as two-reads
 
 abbrev shares : tie.After-enum-told → Shares
 shares c = c .before .before .before .before .before .before .before .before .args .shares
@@ -15,51 +12,40 @@ shares c = c .before .before .before .before .before .before .before .before .ar
 enum-told : tie.Need-enum-told
 enum-told c = search needs
 
--- src/rows.rt:52:9
 enum-told-2 : tie.Need-enum-told-2
 enum-told-2 c = search needs
 
--- src/rows.rt:52:9
 returns : tie.Need-returns
 returns c = four-for (c .before .before .before .before .before .before .before .before .args .shares) (c .enum-told2 .given .1) refl
 
--- src/rows.rt:60:24
 enum-told-3 : tie.Need-enum-told-3
 enum-told-3 c = search needs
 
--- src/rows.rt:60:24
 two-requires : tie.Need-two-requires
 two-requires c κs = search needs
 
--- src/rows.rt:61:26
 enum-told-4 : tie.Need-enum-told-4
 enum-told-4 c = search needs
 
--- src/rows.rt:61:26
 two-requires-2 : tie.Need-two-requires-2
 two-requires-2 c κs = search needs
 
--- src/rows.rt:62:25
 enum-told-5 : tie.Need-enum-told-5
 enum-told-5 c = search needs
 
--- src/rows.rt:62:25
 two-requires-3 : tie.Need-two-requires-3
 two-requires-3 c κs = search needs
 
--- src/rows.rt:42:1
 returns-2 : tie.Need-returns-2
 returns-2 c =
     let kind = c .before .before .before in
     c .two .ensures ∙ four-for (shares kind) (kind .enum-told .given .1) (c .before .enum-told3 .given .1)
 
--- src/rows.rt:42:1
 returns-3 : tie.Need-returns-3
 returns-3 c =
     let kind = c .before .before .before in
     c .two2 .ensures ∙ four-for (shares kind) (kind .enum-told .given .1) (c .before .enum-told4 .given .1)
 
--- src/rows.rt:42:1
 returns-4 : tie.Need-returns-4
 returns-4 c =
     let kind = c .before .before .before in

@@ -5,36 +5,24 @@ use Rattle.explain.proofs.Spanning.{idle-same, carrying-widens}
 use borrow.Author.Needs.{needs}
 use Rattle.explain.proofs.rows.wider.Statement.{statement}
 use Rattle.explain.proofs.rows.wider.Tie as tie
-use Rattle.explain.proofs.rows.wider.Reads as reads
-use Rattle.explain.proofs.rows.wider.Lts as lts
-use Rattle.colour.proofs.row_code.Reads as row-code-reads
-use Rattle.explain.proofs.rows.carries.Reads as carries-reads
-use Rattle.explain.proofs.rows.greater.Reads as greater-reads
-use Rattle.explain.proofs.rows.lesser.Reads as lesser-reads
 
--- src/rows.rt:90:9
 carries-requires : tie.Need-carries-requires
 carries-requires c κs = search needs
 
--- src/rows.rt:91:9
 returns : tie.Need-returns
 returns c den wide =
     let flag = c .before in
     idle-same _ (flag .before .args .share) (flag .before .args .span) (sym (flag .carries .ensures) ∙ not-true _ (c .if1 .taken))
 
--- src/rows.rt:93:9
 row-code-requires : tie.Need-row-code-requires
 row-code-requires c κs = search needs
 
--- src/rows.rt:94:9
 lesser-requires : tie.Need-lesser-requires
 lesser-requires c κs = search needs
 
--- src/rows.rt:95:9
 greater-requires : tie.Need-greater-requires
 greater-requires c κs = search needs
 
--- src/rows.rt:86:1
 returns-2 : tie.Need-returns-2
 returns-2 c den wide =
     let least = c .before in
