@@ -1,0 +1,4 @@
+-- Laws that the proofs of the functions cite: of the gap before a number, of codes and bytes by their places, and of what is put in front of a list.
+pub mod Gaps
+pub mod Codes
+pub mod Putting
