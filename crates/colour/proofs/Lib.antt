@@ -3,3 +3,4 @@ pub mod Readables
 pub mod Orders
 pub mod Totals
 pub mod Weighing
+pub mod RowCodes

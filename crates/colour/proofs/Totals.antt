@@ -54,11 +54,13 @@ module _ (table : List ℤ) (row : ℕ) (r : RowAt table (3 * row)) where
   abbrev part : List ℤ
   part = take (length table - 3 * row) (drop (3 * row) table)
 
-  pub part-sample : (c : Colour) → sampleAt part 0 c ≡ sampleAt table row c
-  part-sample c =
-      first-row part c
-      ∙ getD-take (length table - 3 * row) (drop (3 * row) table) (colourPlace c) (pos 0) (omega (arith, place-below c, r .inside))
+  pub part-number : (c : Colour) → getD part (colourPlace c) (pos 0) ≡ sampleAt table row c
+  part-number c =
+      getD-take (length table - 3 * row) (drop (3 * row) table) (colourPlace c) (pos 0) (omega (arith, place-below c, r .inside))
       ∙ getD-drop (3 * row) table (colourPlace c) (pos 0)
+
+  pub part-sample : (c : Colour) → sampleAt part 0 c ≡ sampleAt table row c
+  part-sample c = first-row part c ∙ part-number c
 
   pub part-row : RowAt part 0
   part-row =

@@ -32,7 +32,7 @@ use Rattle.colour.proofs.Totals.{each-colour}
 -- ---- rows of the table, and weights that come to D
 
 module _ (d : Description) (table : List ℤ) (s : Sound d table) where
-  row-stands : (row : ℕ) → row < rows d → RowAt table (3 * row)
+  pub row-stands : (row : ℕ) → row < rows d → RowAt table (3 * row)
   row-stands row h =
       record { inside = omega (arith, s .long); small = λ c. s .samples (3 * row + colourPlace c) (omega (arith, place-below c)) }
 

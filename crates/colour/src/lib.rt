@@ -1,6 +1,8 @@
 // One pixel to three corrected codes, with the rows and weights used: two halves, and look, which joins them.
 use codes::codes_by;
 use judge::could_be_read;
+pub use rows::den_of;
+pub use rows::row_code;
 use rules::Codes;
 use rules::Colour;
 use rules::Depth;
@@ -28,6 +30,7 @@ ghost use Rattle.colour.specs.Adding.{Weighable};
 
 mod codes;
 mod place;
+mod rows;
 mod shares;
 mod sums;
 

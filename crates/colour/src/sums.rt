@@ -34,7 +34,7 @@ fn colour_place(c: Colour) -> usize
 }
 
 // The number of a colour in the row that this part of the table starts at.
-fn sample_of(part: &[i64], c: Colour) -> TenMillionths
+pub fn sample_of(part: &[i64], c: Colour) -> TenMillionths
     requires { ⌜ 3 ≤ length (now part) ⌝ }
     ensures { λ r. ⌜ r .0 ≡ getD (now (part .entry)) (colourPlace c) (pos 0) ⌝ }
 {

@@ -1,0 +1,28 @@
+-- The width is that of the colour's domain, and D is at most 655,350,000.
+use Prim.Native.Nat.{_*_}
+use mathlib.Core.Path.{_≡_, sym, subst}
+use native.Mathlib.Omega.{arith}
+use Rattle.rules.specs.Interpolation.{denOf}
+use Rattle.rules.proofs.Judged.{DomainFits}
+use Rattle.colour.proofs.Readables.{sound, den-most}
+use borrow.Author.Needs.{needs}
+use Rattle.colour.proofs.rows.den_of.Statement.{statement}
+use Rattle.colour.proofs.rows.den_of.Tie as tie
+
+product : (c : tie.After-width-of) → let a = c .before .before .args in a .m * c .width-of .result ≡ denOf (a .d) (a .m) (a .c)
+product c = rw (c .width-of .ensures, c .before .domain-of .ensures)
+
+domain-of-requires : tie.Need-domain-of-requires
+domain-of-requires c κs = search needs
+
+width-of-requires : tie.Need-width-of-requires
+width-of-requires c κs = subst DomainFits (sym (c .domain-of .ensures)) (sound (c .before .args .d) (c .before .pre) .domains (c .before .args .c))
+
+mul-result : tie.Need-mul-result
+mul-result c = omega (arith, product c, den-most (c .before .before .args .d) (c .before .before .pre) (c .before .before .args .m) (omega (arith, c .before .before .fits .m)) (c .before .before .args .c))
+
+returns : tie.Need-returns
+returns c = product c
+
+pub den-of-spec : {M : Type 1} → statement M
+den-of-spec = tie.close (tie.spec domain-of-requires width-of-requires mul-result returns)

@@ -1,0 +1,27 @@
+-- A number kept at one past the limit is judged as the number is: too great where it is, and itself where it is not.
+use Prim.Native.Nat.{ℕ, _≤_, _<_}
+use mathlib.Core.Path.{_≡_}
+use mathlib.Core.Bool.{true, false}
+use mathlib.Core.List.{List}
+use native.Mathlib.Omega.{arith}
+use borrow.Author.Tests.{le-leb, lt-leb}
+use Rattle.rules.specs.Numerals.{digits, spell}
+use Rattle.numbers.specs.Cuts.{kept}
+use Rattle.desk.specs.Arguments.{argumentOf}
+use Rattle.desk.specs.declared.arguments.Argument.the-variants.{Number, TooGreat, NoNumber}
+
+module _ (most : ℕ) (text : List ℕ) where
+  pub no-digits : digits text ≡ false → argumentOf most text ≡ NoNumber
+  unfolding argumentOf
+  no-digits d = rw d
+
+  module _ (d : digits text ≡ true) (n : ℕ) (e : n ≡ kept most (spell 0 text)) where
+    pub too-great : most < n → argumentOf most text ≡ TooGreat
+    unfolding argumentOf
+    too-great h = rw (d, lt-leb (spell 0 text) most (omega arith))
+
+    pub at-most : n ≤ most → argumentOf most text ≡ Number n
+    unfolding argumentOf
+    at-most h =
+        let s : spell 0 text ≡ n = omega arith in
+        rw (d, s, le-leb n most h)

@@ -1,0 +1,3 @@
+-- What an argument says, and what loading a table leaves.
+pub mod Arguments
+pub mod Loads

@@ -1,0 +1,50 @@
+// A refusal in words: its number, and what document 01's table says that the number means.
+use crate::printing::write;
+use crate::printing::write_count;
+use libc::STDERR_FILENO;
+use rules::Refusal;
+
+pub fn write_meaning(fd: i32, reason: Refusal) {
+    match reason {
+        Refusal::LineTooLong => write(fd, b"line over 250 bytes"),
+        Refusal::ByteNotPermitted => write(fd, b"byte not permitted"),
+        Refusal::NeitherDataNorKeyword => write(fd, b"neither data nor known keyword"),
+        Refusal::KeywordAfterData => write(fd, b"keyword after data"),
+        Refusal::KeywordRepeated => write(fd, b"keyword repeated"),
+        Refusal::ParametersWrong => write(fd, b"parameters of a keyword wrong in count or form"),
+        Refusal::SizeOutOfRange => write(fd, b"N out of range"),
+        Refusal::DomainNumberWrong => write(
+            fd,
+            b"domain number beyond -10 to 10 or no multiple of 0.001",
+        ),
+        Refusal::NoSize => write(fd, b"no size"),
+        Refusal::LowerNotBelowUpper => write(fd, b"a lower bound not below its upper bound"),
+        Refusal::DomainTooWide => write(fd, b"a domain wider than 10"),
+        Refusal::DomainsDiffer => write(fd, b"3D with domains that differ between colours"),
+        Refusal::TableTooShort => write(fd, b"more rows than this program has room for"),
+        Refusal::TooManyRows => write(fd, b"more data lines than rows"),
+        Refusal::NotThreeNumbers => write(fd, b"data line is not three numbers"),
+        Refusal::SampleBeyond => write(fd, b"sample beyond -1000 to 1000"),
+        Refusal::SampleTooFine => write(fd, b"sample no multiple of 0.0000001"),
+        Refusal::TooFewRows => write(fd, b"file ends with too few rows"),
+        Refusal::DepthUnknown => write(fd, b"depth unknown"),
+        Refusal::PictureNotPixels => write(fd, b"picture length no multiple of 3"),
+        Refusal::OutputTooShort => write(fd, b"output shorter than picture"),
+        Refusal::CodeTooGreat => write(fd, b"code above M"),
+        Refusal::CouldNotBeRead => write(
+            fd,
+            b"description and table that reading could not have given",
+        ),
+        Refusal::InputTooLong => write(fd, b"report input over 65,536 bytes"),
+    }
+}
+
+// One line on standard error, as `explain: refused 20: depth unknown`.
+pub fn say_refusal(program: &[u8], reason: Refusal) {
+    write(STDERR_FILENO, program);
+    write(STDERR_FILENO, b": refused ");
+    write_count(STDERR_FILENO, reason.number() as u64);
+    write(STDERR_FILENO, b": ");
+    write_meaning(STDERR_FILENO, reason);
+    write(STDERR_FILENO, b"\n");
+}
