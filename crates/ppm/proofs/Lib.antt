@@ -1,4 +1,5 @@
--- Laws that the proofs of the functions cite: of the gap before a number, of codes and bytes by their places, and of what is put in front of a list.
+-- Laws that the proofs of the functions cite: of the gap before a number, of codes and bytes by their places, of what is put in front of a list, and of what maxval says.
 pub mod Gaps
 pub mod Codes
 pub mod Putting
+pub mod Scaling

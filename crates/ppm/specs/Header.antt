@@ -4,7 +4,7 @@
 use Prim.Native.Nat.{ℕ, _+_, _-_, _≤_}
 use mathlib.Core.Bool.{Bool, true, false, cond, not, _&&_, _||_}
 use mathlib.Core.List.{List, [], _∷_}
-use lib.Dec.{eqb, leb}
+use lib.Dec.{eqb, leb, ltb}
 use lib.ListN.{length, take, drop, getD}
 use Rattle.rules.specs.Lines.{digit, hash, run}
 use Rattle.rules.specs.Numerals.{spell}
@@ -78,7 +78,7 @@ EndsWithin s (Lacks fault) = Unit {0}
 
 -- P6 and a whitespace byte
 unfoldable pub startsP6 : List ℕ → Bool
-startsP6 s = leb 3 (length s) && (eqb (getD s 0 0) 80 && (eqb (getD s 1 0) 54 && whitespace (getD s 2 0)))
+startsP6 s = eqb (getD s 0 0) 80 && (eqb (getD s 1 0) 54 && whitespace (getD s 2 0))
 
 -- the greatest width and height, and the greatest maxval
 abbrev pub mostSize : ℕ
@@ -108,4 +108,7 @@ withWidth s (Says width) = afterWidth s width
 
 -- what the header at the start of the bytes says
 unfoldable pub headerOf : List ℕ → Header
-headerOf s = cond (startsP6 s) (withWidth s (fieldAt Width mostSize s 3)) (Wrong NotP6)
+headerOf s =
+    cond (ltb (length s) 3) (Wrong EndsEarly)
+    (cond (startsP6 s) (withWidth s (fieldAt Width mostSize s 3))
+    (Wrong NotP6))

@@ -163,11 +163,9 @@ fn field_at(s: &[u8], from: usize, limit: u64, part: Part) -> Field
 
 // Whether the bytes start with P6 and whitespace.
 fn starts_p6(s: &[u8]) -> bool
+    requires { ⌜ 3 ≤ length (now s) ⌝ }
     ensures { λ r. ⌜ r ≡ startsP6 (now (s .entry)) ⌝ }
 {
-    if s.len() < 3 {
-        return false;
-    }
     if s[0] != b'P' {
         return false;
     }
@@ -212,6 +210,9 @@ fn after_width(s: &[u8], width: Count) -> Header
 pub fn header_of(s: &[u8]) -> Header
     ensures { λ r. ⌜ r ≡ headerOf (now (s .entry)) ⌝ }
 {
+    if s.len() < 3 {
+        return Header::Wrong(Fault::EndsEarly);
+    }
     if !starts_p6(s) {
         return Header::Wrong(Fault::NotP6);
     }

@@ -1,7 +1,11 @@
-// Binary PPM pictures: what the header says and where it ends, and pixels as bytes and as codes.
+// Binary PPM pictures: what the header says and where it ends, what maxval says of the codes, and pixels as bytes and as codes.
+mod depth;
 mod header;
 mod raster;
 
+pub use depth::Scale;
+pub use depth::ScaleFound;
+pub use depth::scale_of;
 pub use header::Fault;
 pub use header::Frame;
 pub use header::Header;
