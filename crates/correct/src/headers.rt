@@ -5,8 +5,10 @@ use ppm::Fault;
 use ppm::Frame;
 use ppm::Header;
 use ppm::header_of;
-ghost use Prim.Native.Nat.{_<_};
+ghost use Prim.Native.Nat.{_<_, _≤_};
 ghost use lib.ListN.{length};
+ghost use Rattle.ppm.specs.Header.{Sized, mostSize};
+ghost use Rattle.correct.specs.Pieces.{mostPixels};
 
 // One byte more, at a place; false where the input has ended.
 fn read_byte(bytes: &mut [u8], at: usize) -> bool
@@ -29,7 +31,9 @@ fn is_settled(header: Header) -> bool {
 }
 
 // Byte by byte, so that no pixel is read with the header.
-fn read_into(bytes: &mut [u8]) -> Header {
+fn read_into(bytes: &mut [u8]) -> Header
+    ensures { λ r. ⌜ Sized r ⌝ }
+{
     let mut n = 0;
     while n < bytes.len() {
         if !read_byte(&mut *bytes, n) {
@@ -45,7 +49,9 @@ fn read_into(bytes: &mut [u8]) -> Header {
 }
 
 // The header of the picture on standard input; it ends within 4,096 bytes.
-pub fn read() -> Header {
+pub fn read() -> Header
+    ensures { λ r. ⌜ Sized r ⌝ }
+{
     let mut bytes = io::buffer();
     read_into(&mut bytes)
 }
@@ -61,6 +67,9 @@ pub fn write(frame: Frame) -> bool {
         && io::write_all(STDOUT_FILENO, b"\n")
 }
 
-pub fn pixels(frame: Frame) -> u64 {
+pub fn pixels(frame: Frame) -> u64
+    requires { ⌜ (frame .width ≤ mostSize) × (frame .height ≤ mostSize) ⌝ }
+    ensures { λ r. ⌜ r ≤ mostPixels ⌝ }
+{
     frame.width * frame.height
 }

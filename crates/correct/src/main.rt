@@ -3,9 +3,10 @@ mod headers;
 mod pieces;
 mod words;
 
+use desk::FILE_BYTES;
 use desk::Loaded;
+use desk::TABLE_PLACES;
 use desk::load;
-use libc::STDERR_FILENO;
 use ppm::Header;
 use ppm::ScaleFound;
 use ppm::scale_of;
@@ -35,7 +36,8 @@ fn correct_input(d: Description, table: &[i64])
     words::say_outcome(outcome, frame.width, frame.maxval);
 }
 
-fn main() {
+// The table that the one argument names, into lent space, and then the picture.
+fn correct_by(file: &mut [u8], table: &mut [i64]) {
     if os::arg_count() != 2 {
         words::help();
         return;
@@ -46,11 +48,15 @@ fn main() {
         os::fail(b"correct: the table's name");
         return;
     }
-    let mut file = [0u8; desk::FILE_BYTES];
-    let mut table = [0i64; desk::TABLE_PLACES];
-    let Loaded::Table { description, bytes } = load(b"correct", &path[..n], &mut file, &mut table)
+    let Loaded::Table { description, bytes } = load(b"correct", &path[..n], file, &mut *table)
     else {
         return;
     };
-    correct_input(description, &table);
+    correct_input(description, table);
+}
+
+fn main() {
+    let mut file = [0u8; FILE_BYTES];
+    let mut table = [0i64; TABLE_PLACES];
+    correct_by(&mut file, &mut table);
 }

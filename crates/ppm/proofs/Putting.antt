@@ -4,8 +4,8 @@ use mathlib.Core.Path.{_≡_, sym, ap, ap₂, _∙_}
 use mathlib.Core.List.{List}
 use native.Mathlib.Numerals.{add-one}
 use native.Mathlib.Omega.{arith}
-use lib.ListN.{length, getD, set}
-use lib.Seq.{paste, paste-zero, paste-suc, length-paste}
+use lib.ListN.{length, getD, take, drop, set}
+use lib.Seq.{paste, paste-zero, paste-suc, length-paste, length-take-le, take-all, take-at}
 use Rattle.ppm.specs.Raster.{Copied}
 
 -- the first i places are put, of n that are to be
@@ -39,3 +39,13 @@ module _ {src dst : List ℕ} {n i : ℕ} {dst′ : List ℕ} (p : Put src dst n
   all-put h =
       let e : i ≡ n = omega (arith, p .reached) in
       record { count = p .count; within = omega (arith, put-length, p .count); made = p .made ∙ ap (paste dst 0 src) e }
+
+-- where there is room, all is put
+pub copied-all : {src dst : List ℕ} {n : ℕ} {dst′ : List ℕ} → Copied src dst n dst′ → length src ≤ length dst → (n ≡ length src) × (take n dst′ ≡ src)
+copied-all {src} {dst} {n} {dst′} c room =
+    let all : n ≡ length src = omega (arith, c .count) in (
+      all,
+      ap (take n) (c .made)
+          ∙ take-at (take n src) (drop (0 + n) dst) n (length-take-le n src (omega arith))
+          ∙ take-all n src (omega arith),
+    )

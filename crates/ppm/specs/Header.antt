@@ -112,3 +112,10 @@ headerOf s =
     cond (ltb (length s) 3) (Wrong EndsEarly)
     (cond (startsP6 s) (withWidth s (fieldAt Width mostSize s 3))
     (Wrong NotP6))
+
+-- ---- what a header that stands keeps
+
+-- width and height are within their limits
+abbrev pub Sized : Header → Type 0
+Sized (Stands frame) = (frame .width ≤ mostSize) × (frame .height ≤ mostSize)
+Sized (Wrong fault) = Unit {0}
