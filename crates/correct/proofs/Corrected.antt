@@ -53,7 +53,7 @@ byte-mono true h = omega arith
 -- ---- the codes corrected
 
 module _ (d : Description) (table : List ℤ) (s : Scale) (able : Readable d table s) (codes : List ℕ) (q : ℕ) (whole : q % 3 ≡ 0)
-  (first : q ≤ length (run (λ c. leb c (s .greatest)) codes)) where
+    (first : q ≤ length (run (λ c. leb c (s .greatest)) codes)) where
   first-length : length (take q codes) ≡ q
   first-length = length-take-le q codes (omega (arith, run-le (λ c. leb c (s .greatest)) codes))
 
@@ -64,7 +64,7 @@ module _ (d : Description) (table : List ℤ) (s : Scale) (able : Readable d tab
   accepted {r} {dst} {dst′} room p =
       let pixels : length (take q codes) % 3 ≡ 0 = omega (arith, first-length) in
       let is = picture-0 d table (s .bits) (take q codes) (length dst) (record { greatest = s .greatest }) (able .could) (able .known) pixels (omega (arith, first-length))
-          (every-first (λ c. leb c (s .greatest)) codes q first) in
+      (every-first (λ c. leb c (s .greatest)) codes q first) in
       ap (take q) (p .memory ∙ ap (outputAfter d table (s .bits) (take q codes) dst) is)
       ∙ take-at (corrected d table (s .bits) (take q codes)) _ q (corrected-length d table (s .bits) (take q codes) pixels ∙ first-length)
 
@@ -88,7 +88,7 @@ piece-corrects d table s input raw dst bytes able for-raw for-dst for-bytes {n} 
     let same : take q raw′ ≡ take q codes = sym (take-take q n raw′ (omega (arith, put .0))) ∙ ap (take q) (put .1) in
     let fixed = accepted d table s able codes q (omega arith) (omega arith) (omega (arith, long)) (subst (λ l. Pictures d table (s .bits) l dst r dst′) same pictured) in
     let room : length (bytesOf (s .wide) (take q dst′)) ≤ length bytes =
-        le-trans (le-trans (le-of-eq (bytes-length (s .wide) (take q dst′))) (byte-mono (s .wide) (omega (arith, length-take q dst′)))) (le-trans (byte-room (s .wide) q (length input) (omega (arith, long))) for-bytes) in
+    le-trans (le-trans (le-of-eq (bytes-length (s .wide) (take q dst′))) (byte-mono (s .wide) (omega (arith, length-take q dst′)))) (le-trans (byte-room (s .wide) q (length input) (omega (arith, long))) for-bytes) in
     record {
       pixels = ap (λ k. k / 3) is;
       few = omega (arith, long, code-few (s .wide) (length input));

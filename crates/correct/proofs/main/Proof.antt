@@ -1,24 +1,22 @@
+-- The two arrays have the lengths that they are lent with.
+use Prim.Native.Nat.{ℕ}
+use mathlib.Core.Path.{sym}
+use lib.IntN.{pos}
+use lib.ListN.{length-replicate}
 use native.Mathlib.Omega.{arith}
 use borrow.Author.Needs.{needs}
 use Rattle.correct.proofs.main.Statement.{statement}
 use Rattle.correct.proofs.main.Tie as tie
-use Rattle.correct.proofs.main.Reads as reads
-use Rattle.correct.proofs.main.Lts as lts
-use Rattle.correct.proofs.correct_by.Reads as correct-by-reads
 
--- src/main.rt:61:16
 slice-aggregate-correct-by : tie.Need-slice-aggregate-correct-by
-slice-aggregate-correct-by c = search needs
+slice-aggregate-correct-by c = sym (length-replicate {0} {A = ℕ} 4194304 0)
 
--- src/main.rt:61:27
 slice-aggregate-correct-by-2 : tie.Need-slice-aggregate-correct-by-2
-slice-aggregate-correct-by-2 c = search needs
+slice-aggregate-correct-by-2 c = sym (length-replicate 196608 (pos 0))
 
--- src/main.rt:61:5
 correct-by-requires : tie.Need-correct-by-requires
 correct-by-requires c κs = search needs
 
--- src/main.rt:58:1
 returns : tie.Need-returns
 returns c = search needs
 

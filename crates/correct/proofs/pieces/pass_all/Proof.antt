@@ -26,13 +26,17 @@ pass-piece-requires : tie.Need-pass-piece-requires Inv-loop μ-loop
 pass-piece-requires c κs =
     let asked = c .before .before .before in
     let l = asked .before .before in
-    let s = l .before .before .before .before in
-    (s .pre .0,
-    (record {
-      of-bytes = l .loop .inv .1 .0 ∙ s .pre .1 .0 .of-bytes;
-      of-raw = l .loop .inv .1 .1 .0 ∙ s .pre .1 .0 .of-raw;
-      of-corrected = l .loop .inv .1 .1 .1 ∙ s .pre .1 .0 .of-corrected;
-    }, (omega (arith, s .pre .1 .1), omega (arith, asked .next-piece .ensures))))
+    let s = l .before .before .before .before in (
+      s .pre .0,
+      (
+        record {
+          of-bytes = l .loop .inv .1 .0 ∙ s .pre .1 .0 .of-bytes;
+          of-raw = l .loop .inv .1 .1 .0 ∙ s .pre .1 .0 .of-raw;
+          of-corrected = l .loop .inv .1 .1 .1 ∙ s .pre .1 .0 .of-corrected;
+        },
+        (omega (arith, s .pre .1 .1), omega (arith, asked .next-piece .ensures)),
+      ),
+    )
 
 enum-told : tie.Need-enum-told Inv-loop μ-loop
 enum-told c = search needs

@@ -63,12 +63,14 @@ read-full-requires c κs = search needs
 correct-piece-requires : tie.Need-correct-piece-requires
 correct-piece-requires c κs =
     let r = c .before .before .before .before .before in
-    let s = entry (r .before .before) in
-    (s .pre .0, record {
-      there = omega (arith, length-append (r .read-full .last .1 .0) (drop (s .args .want * r .before .before .pixel-bytes .result) (now (s .args .bytes))), r .read-full .ensures);
-      for-raw = subst (λ k. codeCount (s .args .scale .wide) (r .read-full .result) ≤ k) (sym (s .pre .1 .0 .of-raw)) (piece-codes (s .args .scale .wide) (s .args .want) (r .read-full .result) (s .pre .1 .1 .1) (got r));
-      for-corrected = omega (arith, s .pre .1 .0 .of-raw, s .pre .1 .0 .of-corrected);
-    })
+    let s = entry (r .before .before) in (
+      s .pre .0,
+      record {
+        there = omega (arith, length-append (r .read-full .last .1 .0) (drop (s .args .want * r .before .before .pixel-bytes .result) (now (s .args .bytes))), r .read-full .ensures);
+        for-raw = subst (λ k. codeCount (s .args .scale .wide) (r .read-full .result) ≤ k) (sym (s .pre .1 .0 .of-raw)) (piece-codes (s .args .scale .wide) (s .args .want) (r .read-full .result) (s .pre .1 .1 .1) (got r));
+        for-corrected = omega (arith, s .pre .1 .0 .of-raw, s .pre .1 .0 .of-corrected);
+      },
+    )
 
 slice-reshare-prefix-write-all : tie.Need-slice-reshare-prefix-write-all
 slice-reshare-prefix-write-all c = search needs
