@@ -15,23 +15,24 @@ fn say(text: &[u8]) {
 pub fn help() {
     say(b"correct TABLE < in.ppm > out.ppm\n");
     say(
-        b"Corrects a picture by the .cube table in the file TABLE: each pixel gets the nearest codes of the table's exact value.\n",
+        b"Corrects a picture by the .cube table in the file TABLE: each code becomes the one nearest to the table's exact value.\n",
     );
     say(
-        b"The picture is a binary PPM (P6) with maxval 255, 1023, 4095 or 65535; comments in its header are left out.\n",
+        b"The picture is a binary PPM (P6) with maxval 255, 1023, 4095 or 65535. Comments in its header are left out.\n",
     );
     say(b"TABLE has at most 4,194,304 bytes: 1D up to N = 65536, 3D up to N = 40.\n");
     say(
-        b"Pictures of any length pass in fixed memory. So the whole picture is not judged before the first pixel is written: where it\n",
+        b"A picture of any length passes in fixed memory, so it cannot be judged whole before it is written, as the library's call does:\n",
     );
     say(
-        b"ends early or has a code above its maxval, the pixels before that one are written, and a line here says where it stopped.\n",
+        b"where it ends early or has a code above maxval, the pixels before that one are written, and a line here says which it is.\n",
     );
 }
 
 // ---- the header
 
 fn say_part(part: Part) {
+    say(b"the header's ");
     match part {
         Part::Width => say(b"width"),
         Part::Height => say(b"height"),
@@ -39,19 +40,27 @@ fn say_part(part: Part) {
     }
 }
 
+fn say_most(part: Part) {
+    match part {
+        Part::Width => say(b" is above 2147483647"),
+        Part::Height => say(b" is above 2147483647"),
+        Part::Maxval => say(b" is above 65535"),
+    }
+}
+
 fn say_fault(fault: Fault) {
     match fault {
         Fault::NotP6 => say(b"the picture does not begin with P6 and whitespace"),
-        Fault::EndsEarly => say(b"the header does not end within the picture's first 4,096 bytes"),
+        Fault::EndsEarly => {
+            say(b"the header does not end within the first 4,096 bytes of the picture")
+        }
         Fault::Malformed(part) => {
-            say(b"the header's ");
             say_part(part);
             say(b" is not digits ended by whitespace");
         }
         Fault::Beyond(part) => {
-            say(b"the header's ");
             say_part(part);
-            say(b" is too great");
+            say_most(part);
         }
     }
 }
@@ -120,7 +129,7 @@ pub fn say_outcome(outcome: Outcome, width: u64, maxval: u64) {
         }
         Outcome::TooGreat(pixel) => {
             say_place(pixel, width);
-            say(b"a code above ");
+            say(b"a code is above ");
             write_count(STDERR_FILENO, maxval);
             say(b"\n");
         }
