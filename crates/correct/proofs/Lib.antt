@@ -1,0 +1,4 @@
+-- Laws that the proofs of the functions cite: a corrected piece, a table that was loaded, and the sizes of buffers.
+pub mod Corrected
+pub mod Loading
+pub mod Sizes

@@ -1,0 +1,2 @@
+-- What a corrected piece is.
+pub mod Pieces

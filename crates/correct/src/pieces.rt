@@ -1,0 +1,160 @@
+// The pixels, piece by piece: read, corrected, written.
+use libc::STDIN_FILENO;
+use libc::STDOUT_FILENO;
+use picture::picture;
+use ppm::Scale;
+use ppm::bytes_from;
+use ppm::codes_from;
+use ppm::count_within;
+use rules::Description;
+ghost use mathlib.Core.Path.{_≡_};
+ghost use Prim.Native.Nat.{_≤_, min};
+ghost use lib.ListN.{length, take};
+ghost use Rattle.correct.specs.Pieces.{Buffers, Corrects, Readable, Room, mostPixels, piecePixels, pixelBytes};
+
+// What became of the pixels: all are written, or the pixel at which it stopped.
+pub enum Outcome {
+    Whole,
+    Ends(u64),
+    TooGreat(u64),
+    Unwritten,
+}
+
+// How many pixels of a piece were corrected, and how many bytes those are.
+struct Piece {
+    pixels: usize,
+    bytes: usize,
+}
+
+// `picture` judges the whole table at each call, so a piece is much larger than it would have to be for the memory's sake.
+const PIECE_PIXELS: usize = 32_768;
+
+// Corrects the pixels that the first n bytes are, up to the first that has a code above the greatest, into the same bytes.
+// Nothing is refused: what `picture` checks is asked for here, or was made sure of before the call.
+fn correct_piece(
+    d: Description,
+    table: &[i64],
+    scale: Scale,
+    bytes: &mut [u8],
+    n: usize,
+    raw: &mut [u16],
+    corrected: &mut [u16],
+) -> Piece
+    requires { ⌜ Readable d (now table) scale ⌝ }
+    requires { ⌜ Room scale n (length (now bytes)) (length (now raw)) (length (now corrected)) ⌝ }
+    ensures corrects { λ r. ⌜ Corrects d (now (table .entry)) scale (take n (now (bytes .entry))) r (now (bytes .exit)) ⌝ }
+    ensures few { λ r. ⌜ r .pixels ≤ n ⌝ }
+{
+    let wide = scale.wide;
+    let count = codes_from(&bytes[..n], wide, &mut *raw);
+    let pixels = count_within(&raw[..count], scale.greatest) / 3;
+    let codes = pixels * 3;
+    picture(d, table, scale.bits, &raw[..codes], &mut *corrected);
+    let made = bytes_from(&corrected[..codes], wide, bytes);
+    Piece {
+        pixels,
+        bytes: made,
+    }
+}
+
+fn pixel_bytes(wide: bool) -> usize
+    ensures { λ r. ⌜ r ≡ pixelBytes wide ⌝ }
+{
+    if wide { 6 } else { 3 }
+}
+
+// One piece of so many pixels, of which the first has a number in the picture.
+fn pass_piece(
+    d: Description,
+    table: &[i64],
+    scale: Scale,
+    first: u64,
+    want: usize,
+    bytes: &mut [u8],
+    raw: &mut [u16],
+    corrected: &mut [u16],
+) -> Outcome
+    requires { ⌜ Readable d (now table) scale ⌝ }
+    requires { ⌜ Buffers (length (now bytes)) (length (now raw)) (length (now corrected)) ⌝ }
+    requires { ⌜ (first ≤ mostPixels) × (want ≤ piecePixels) ⌝ }
+{
+    let size = pixel_bytes(scale.wide);
+    let got = io::read_full(STDIN_FILENO, &mut bytes[..want * size]);
+    let piece = correct_piece(d, table, scale, &mut *bytes, got, raw, corrected);
+    let made = piece.bytes;
+    if !io::write_all(STDOUT_FILENO, &bytes[..made]) {
+        return Outcome::Unwritten;
+    }
+    let pixels = piece.pixels;
+    if pixels < got / size {
+        return Outcome::TooGreat(first + pixels as u64);
+    }
+    if pixels < want {
+        return Outcome::Ends(first + pixels as u64);
+    }
+    Outcome::Whole
+}
+
+// At most a piece of what is left.
+fn next_piece(left: u64) -> usize
+    ensures { λ r. ⌜ r ≡ min left piecePixels ⌝ }
+{
+    if left < PIECE_PIXELS as u64 {
+        left as usize
+    } else {
+        PIECE_PIXELS
+    }
+}
+
+fn pass_all(
+    d: Description,
+    table: &[i64],
+    scale: Scale,
+    pixels: u64,
+    bytes: &mut [u8],
+    raw: &mut [u16],
+    corrected: &mut [u16],
+) -> Outcome
+    requires { ⌜ Readable d (now table) scale ⌝ }
+    requires { ⌜ Buffers (length (now bytes)) (length (now raw)) (length (now corrected)) ⌝ }
+    requires { ⌜ pixels ≤ mostPixels ⌝ }
+{
+    let mut left = pixels;
+    while left > 0 {
+        let want = next_piece(left);
+        let outcome = pass_piece(
+            d,
+            table,
+            scale,
+            pixels - left,
+            want,
+            &mut *bytes,
+            &mut *raw,
+            &mut *corrected,
+        );
+        let Outcome::Whole = outcome else {
+            return outcome;
+        };
+        left -= want as u64;
+    }
+    Outcome::Whole
+}
+
+// So many pixels of standard input, corrected, to standard output.
+pub fn pass(d: Description, table: &[i64], scale: Scale, pixels: u64) -> Outcome
+    requires { ⌜ Readable d (now table) scale ⌝ }
+    requires { ⌜ pixels ≤ mostPixels ⌝ }
+{
+    let mut bytes = [0u8; 196_608];
+    let mut raw = [0u16; 98_304];
+    let mut corrected = [0u16; 98_304];
+    pass_all(
+        d,
+        table,
+        scale,
+        pixels,
+        &mut bytes,
+        &mut raw,
+        &mut corrected,
+    )
+}
