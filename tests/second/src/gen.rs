@@ -9,7 +9,7 @@ pub mod files;
 pub mod lookups;
 pub mod words;
 
-use crate::paper::Description;
+use crate::paper::{Description, REPORT_BYTES};
 use draws::Draws;
 
 /// A file and the length of the table lent for it.
@@ -52,4 +52,16 @@ pub fn look_case(seed: u64, index: u64) -> LookCase {
 
 pub fn picture_case(seed: u64, index: u64) -> PictureCase {
     lookups::picture(&mut Draws::of(seed, 3, index))
+}
+
+/// A report's input: a file of any sort, at times with newlines after it up to the report's
+/// limit of bytes, or to one or two more or fewer.
+pub fn report_input(seed: u64, index: u64) -> Vec<u8> {
+    let mut draws = Draws::of(seed, 4, index);
+    let mut file = files::case(&mut draws).file;
+    if draws.one_in(20) {
+        let length = REPORT_BYTES - 2 + draws.below(5);
+        file.resize(length.max(file.len()), b'\n');
+    }
+    file
 }
