@@ -11,6 +11,9 @@ use rules::Shares;
 use rules::Thousandths;
 use rules::Title;
 ghost use mathlib.Core.Path.{_≡_};
+ghost use mathlib.Core.List.{[]};
+ghost use Rattle.rules.specs.Descriptions.{zeros};
+ghost use Rattle.rules.specs.Looking.{six};
 ghost use Rattle.rules.specs.Answers.{readNumber, readLine, readDescription, lookNumber, lookCodes, lookShares, codesOf, sharesOf, pictureNumber};
 
 // ---- reading
@@ -33,31 +36,34 @@ pub fn read_line(answer: Read) -> u64
     }
 }
 
-fn no_domain() -> Domain {
-    Domain {
+// Zeros, kind 1D, no title.
+fn no_description() -> Description
+    ensures { λ r. ⌜ r ≡ zeros ⌝ }
+{
+    let none = Domain {
         lower: Thousandths(0),
         upper: Thousandths(0),
+    };
+    Description {
+        kind: Kind::OneD,
+        n: 0,
+        red: none,
+        green: none,
+        blue: none,
+        title: Title {
+            there: false,
+            place: 0,
+            length: 0,
+        },
     }
 }
 
-// A refusal describes nothing: zeros, kind 1D, no title.
 pub fn description_of(answer: Read) -> Description
     ensures { λ r. ⌜ r ≡ readDescription answer ⌝ }
 {
     match answer {
         Read::Accepted(d) => d,
-        Read::Refused { reason: _, line: _ } => Description {
-            kind: Kind::OneD,
-            n: 0,
-            red: no_domain(),
-            green: no_domain(),
-            blue: no_domain(),
-            title: Title {
-                there: false,
-                place: 0,
-                length: 0,
-            },
-        },
+        Read::Refused { reason: _, line: _ } => no_description(),
     }
 }
 
@@ -88,8 +94,19 @@ pub fn look_codes(answer: Look) -> Codes
     }
 }
 
-fn no_share() -> Share {
-    Share { row: 0, weight: 0 }
+// Six of zeros.
+fn no_shares() -> Shares
+    ensures { λ r. ⌜ r ≡ six [] ⌝ }
+{
+    let none = Share { row: 0, weight: 0 };
+    Shares {
+        first: none,
+        second: none,
+        third: none,
+        fourth: none,
+        fifth: none,
+        sixth: none,
+    }
 }
 
 pub fn look_shares(answer: Look) -> Shares
@@ -97,14 +114,7 @@ pub fn look_shares(answer: Look) -> Shares
 {
     match answer {
         Look::Accepted { codes: _, shares } => shares,
-        Look::Refused(_) => Shares {
-            first: no_share(),
-            second: no_share(),
-            third: no_share(),
-            fourth: no_share(),
-            fifth: no_share(),
-            sixth: no_share(),
-        },
+        Look::Refused(_) => no_shares(),
     }
 }
 

@@ -11,10 +11,9 @@ use whole::Whole;
 ghost use mathlib.Core.Path.{_≡_};
 ghost use mathlib.Core.List.{map};
 ghost use Prim.Native.Nat.{_<_};
-ghost use mathlib.Core.Option.{some};
 ghost use Rattle.rules.specs.Answers.{codesOf, sharesOf};
 ghost use Rattle.rules.proofs.Fits.{Crossable, RowsFit};
-ghost use Rattle.rules.specs.Boundary.{elevenOf, describedAs, describedIn, domainIn, pixelIn, kindNumber, markNumber};
+ghost use Rattle.rules.specs.Boundary.{elevenOf, descriptionIn, describedIn, domainIn, pixelIn, kindNumber, markNumber};
 ghost use Rattle.erythmoda.specs.Layout.{crossed};
 
 // ---- a description as eleven numbers
@@ -34,6 +33,12 @@ fn mark_number(there: bool) -> Whole
     if there { Whole(1) } else { Whole(0) }
 }
 
+fn bound_number(bound: Thousandths) -> Whole
+    ensures { λ r. ⌜ r .0 ≡ bound .0 ⌝ }
+{
+    Whole(bound.0)
+}
+
 pub fn eleven_of(d: Description) -> [i64; 11]
     requires { ⌜ Crossable d ⌝ }
     ensures { λ r. ⌜ r ≡ elevenOf d ⌝ }
@@ -42,18 +47,24 @@ pub fn eleven_of(d: Description) -> [i64; 11]
     let title = d.title;
     let kind = kind_number(kind_of);
     let n = Whole::of(d.n as u64);
+    let red_lower = bound_number(d.red.lower);
+    let green_lower = bound_number(d.green.lower);
+    let blue_lower = bound_number(d.blue.lower);
+    let red_upper = bound_number(d.red.upper);
+    let green_upper = bound_number(d.green.upper);
+    let blue_upper = bound_number(d.blue.upper);
     let there = mark_number(title.there);
     let place = Whole::of(title.place as u64);
     let length = Whole::of(title.length as u64);
     [
         kind.0,
         n.0,
-        d.red.lower.0,
-        d.green.lower.0,
-        d.blue.lower.0,
-        d.red.upper.0,
-        d.green.upper.0,
-        d.blue.upper.0,
+        red_lower.0,
+        green_lower.0,
+        blue_lower.0,
+        red_upper.0,
+        green_upper.0,
+        blue_upper.0,
         there.0,
         place.0,
         length.0,
@@ -80,17 +91,14 @@ fn domain_at(eleven: &[i64; 11], colour: usize) -> Domain
     }
 }
 
-// The title is not looked at.
-fn described_as(eleven: &[i64; 11], kind: Kind) -> DescriptionFound
-    ensures { λ r. ⌜ r ≡ crossed (describedAs (now (eleven .entry)) (some kind)) ⌝ }
+// An N below 0 counts as 0; the title is not looked at.
+fn description_in(eleven: &[i64; 11], kind: Kind) -> Description
+    ensures { λ r. ⌜ r ≡ descriptionIn (now (eleven .entry)) kind ⌝ }
 {
-    let n = eleven[1];
-    if n < 0 {
-        return DescriptionFound::Unknown;
-    }
-    DescriptionFound::Known(Description {
+    let n = Whole(eleven[1]);
+    Description {
         kind,
-        n: n as usize,
+        n: n.above() as usize,
         red: domain_at(eleven, 0),
         green: domain_at(eleven, 1),
         blue: domain_at(eleven, 2),
@@ -99,19 +107,22 @@ fn described_as(eleven: &[i64; 11], kind: Kind) -> DescriptionFound
             place: 0,
             length: 0,
         },
-    })
+    }
 }
 
-// What eleven numbers describe, if they can.
+// What eleven numbers describe, if the first names a kind.
 pub fn described(eleven: &[i64; 11]) -> DescriptionFound
     ensures { λ r. ⌜ r ≡ crossed (describedIn (now (eleven .entry))) ⌝ }
 {
-    let kind = eleven[0];
-    match kind {
-        1 => described_as(eleven, Kind::OneD),
-        3 => described_as(eleven, Kind::ThreeD),
-        _ => DescriptionFound::Unknown,
+    let first = Whole(eleven[0]);
+    let kind = first.above();
+    if kind == 1 {
+        return DescriptionFound::Known(description_in(eleven, Kind::OneD));
     }
+    if kind == 3 {
+        return DescriptionFound::Known(description_in(eleven, Kind::ThreeD));
+    }
+    DescriptionFound::Unknown
 }
 
 // ---- a look's pixel, codes, rows and weights
@@ -132,24 +143,17 @@ pub fn codes_laid(codes: Codes) -> [u16; 3]
     [codes.red, codes.green, codes.blue]
 }
 
-fn row_number(share: Share) -> u32
-    requires { ⌜ share .row < 4_294_967_296 ⌝ }
-    ensures { λ r. ⌜ r ≡ share .row ⌝ }
-{
-    share.row as u32
-}
-
 pub fn rows_laid(shares: Shares) -> [u32; 6]
     requires { ⌜ RowsFit (map (λ (s : Share). s .row) (sharesOf shares)) ⌝ }
     ensures { λ r. ⌜ r ≡ map (λ (s : Share). s .row) (sharesOf shares) ⌝ }
 {
     [
-        row_number(shares.first),
-        row_number(shares.second),
-        row_number(shares.third),
-        row_number(shares.fourth),
-        row_number(shares.fifth),
-        row_number(shares.sixth),
+        shares.first.row as u32,
+        shares.second.row as u32,
+        shares.third.row as u32,
+        shares.fourth.row as u32,
+        shares.fifth.row as u32,
+        shares.sixth.row as u32,
     ]
 }
 

@@ -1,13 +1,13 @@
 -- The C boundary: a description as eleven numbers, and the promises of the three calls by the same definitions.
 use Prim.Native.Nat.{ℕ, _+_}
 use mathlib.Core.Path.{_≡_}
-use mathlib.Core.Bool.{Bool, cond, _&&_}
+use mathlib.Core.Bool.{Bool, cond}
 use mathlib.Core.List.{List, [], _∷_}
 use mathlib.Core.Option.{Option, none, some}
 use lib.Dec.{eqb}
 use lib.ListN.{length, getD}
-use lib.IntN.{ℤ, pos, natAbs}
-use lib.Signed.{nonNeg}
+use lib.IntN.{ℤ, pos}
+use Rattle.whole.specs.Integers.{up}
 use Rattle.rules.specs.Descriptions.{noTitle}
 use Rattle.rules.specs.Reading.{read, tableAfter}
 use Rattle.rules.specs.Looking.{look}
@@ -57,23 +57,31 @@ numberAt eleven k = getD eleven k (pos 0)
 -- anything but 1 and 3 is no kind
 abbrev pub kindIn : List ℤ → Option Kind
 kindIn eleven =
-    cond (nonNeg (numberAt eleven 0) && eqb (natAbs (numberAt eleven 0)) 1) (some OneD)
-    (cond (nonNeg (numberAt eleven 0) && eqb (natAbs (numberAt eleven 0)) 3) (some ThreeD)
+    cond (eqb (up (numberAt eleven 0)) 1) (some OneD)
+    (cond (eqb (up (numberAt eleven 0)) 3) (some ThreeD)
     none)
 
 abbrev pub domainIn : List ℤ → ℕ → Domain
 domainIn eleven c = record { lower = record { 0 = numberAt eleven (2 + c) }; upper = record { 0 = numberAt eleven (5 + c) } }
 
-abbrev pub describedAs : List ℤ → Option Kind → Option Description
-describedAs eleven none = none
-describedAs eleven (some k) =
-    cond (nonNeg (numberAt eleven 1))
-    (some (record { kind = k; n = natAbs (numberAt eleven 1); red = domainIn eleven 0; green = domainIn eleven 1; blue = domainIn eleven 2; title = noTitle }))
-    none
+-- an N below 0 counts as 0, which is out of range too; the title is not looked at
+abbrev pub descriptionIn : List ℤ → Kind → Description
+descriptionIn eleven k = record {
+  kind = k;
+  n = up (numberAt eleven 1);
+  red = domainIn eleven 0;
+  green = domainIn eleven 1;
+  blue = domainIn eleven 2;
+  title = noTitle;
+}
 
--- the description that eleven numbers give, if they can; places 8 to 10 are not looked at
+abbrev describedBy : List ℤ → Option Kind → Option Description
+describedBy eleven none = none
+describedBy eleven (some k) = some (descriptionIn eleven k)
+
+-- the description that eleven numbers give, if their first names a kind
 unfoldable pub describedIn : List ℤ → Option Description
-describedIn eleven = describedAs eleven (kindIn eleven)
+describedIn eleven = describedBy eleven (kindIn eleven)
 
 -- the pixel of three codes, as they are lent
 abbrev pub pixelIn : List ℕ → Codes

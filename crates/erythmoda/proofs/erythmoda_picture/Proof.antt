@@ -1,48 +1,38 @@
-use native.Mathlib.Omega.{arith}
+-- Eleven numbers that name no kind are 24, and nothing is written; others are corrected by their description.
+use mathlib.Core.Path.{sym, _∙_}
 use borrow.Author.Needs.{needs}
+use Rattle.erythmoda.proofs.Found.{picture-known, picture-unknown}
 use Rattle.erythmoda.proofs.erythmoda_picture.Statement.{statement}
 use Rattle.erythmoda.proofs.erythmoda_picture.Tie as tie
-use Rattle.erythmoda.proofs.erythmoda_picture.Reads as reads
-use Rattle.erythmoda.proofs.erythmoda_picture.Lts as lts
-use Rattle.erythmoda.proofs.answers.picture_number.Reads as picture-number-reads
-use Rattle.erythmoda.proofs.layout.described.Reads as described-reads
-use Rattle.picture.proofs.picture.Reads as picture-reads
 
--- src/lib.rt:88:38
 described-requires : tie.Need-described-requires
 described-requires c κs = search needs
 
--- src/lib.rt:88:33
 enum-known-d : tie.Need-enum-known-d
 enum-known-d c = search needs
 
--- src/lib.rt:89:48
 enum-told : tie.Need-enum-told
 enum-told c = search needs
 
--- src/lib.rt:89:9
 picture-number-requires : tie.Need-picture-number-requires
 picture-number-requires c κs = search needs
 
--- src/lib.rt:89:9
 returns : tie.Need-returns
-returns c = search needs
+returns c = picture-unknown (sym (c .before .before .before .described .ensures) ∙ c .before .enum-told .given .1) (c .picture-number .ensures)
 
--- src/lib.rt:91:20
 picture-requires : tie.Need-picture-requires
 picture-requires c κs = search needs
 
--- src/lib.rt:91:5
 picture-number-requires-2 : tie.Need-picture-number-requires-2
 picture-number-requires-2 c κs = search needs
 
--- src/lib.rt:78:1
 same-length : tie.Need-same-length
 same-length c = search needs
 
--- src/lib.rt:78:1
 returns-2 : tie.Need-returns-2
-returns-2 c = search needs
+returns-2 c =
+    let at = c .before .before .before in
+    picture-known (sym (at .before .before .before .before .before .described .ensures) ∙ at .before .before .before .d .given .1) (at .picture .ensures) (c .picture-number2 .ensures)
 
 pub erythmoda-picture-spec : {M : Type 1} → statement M
 erythmoda-picture-spec =

@@ -1,42 +1,48 @@
+-- What reading promises, laid out.
 use native.Mathlib.Omega.{arith}
 use borrow.Author.Needs.{needs}
+use mathlib.Core.Path.{_≡_, sym, ap, subst, _∙_}
+use Prim.Native.Nat.{_<_}
+use lib.ListN.{length}
+use denote.Ref.{now}
+use Rattle.rules.specs.Boundary.{elevenOf}
+use Rattle.rules.proofs.Fits.{Crossable, description-fits}
 use Rattle.erythmoda.proofs.erythmoda_read.Statement.{statement}
 use Rattle.erythmoda.proofs.erythmoda_read.Tie as tie
-use Rattle.erythmoda.proofs.erythmoda_read.Reads as reads
-use Rattle.erythmoda.proofs.erythmoda_read.Lts as lts
-use Rattle.erythmoda.proofs.answers.description_of.Reads as description-of-reads
-use Rattle.erythmoda.proofs.answers.read_line.Reads as read-line-reads
-use Rattle.erythmoda.proofs.answers.read_number.Reads as read-number-reads
-use Rattle.erythmoda.proofs.layout.eleven_of.Reads as eleven-of-reads
-use Rattle.reading.proofs.read.Reads as read-reads
 
--- src/lib.rt:40:9
+-- a machine holds no file of 2 to the 63 bytes
+held : (c : tie.Start) → length (now (c .args .file)) < 9_223_372_036_854_775_808
+held c = omega (arith, c .good .0 .1)
+
 read-requires : tie.Need-read-requires
 read-requires c κs = search needs
 
--- src/lib.rt:41:30
 description-of-requires : tie.Need-description-of-requires
 description-of-requires c κs = search needs
 
--- src/lib.rt:41:20
 eleven-of-requires : tie.Need-eleven-of-requires
-eleven-of-requires c κs = search needs
+eleven-of-requires c κs =
+    let start = c .before .before .before .before .before in
+    subst Crossable (sym (c .description-of .ensures ∙ c .before .before .read .ensures .description)) (description-fits (now (start .args .file)) (now (start .args .table)) (held start))
 
--- src/lib.rt:42:13
 read-line-requires : tie.Need-read-line-requires
 read-line-requires c κs = search needs
 
--- src/lib.rt:43:5
 read-number-requires : tie.Need-read-number-requires
 read-number-requires c κs = search needs
 
--- src/lib.rt:31:1
 same-length : tie.Need-same-length
 same-length c = search needs
 
--- src/lib.rt:31:1
 returns : tie.Need-returns
-returns c = search needs
+returns c =
+    let read = c .before .before .before .before .before in
+    record {
+      number-so = c .read-number .ensures ∙ read .read .ensures .number;
+      line-so = c .before .read-line .ensures ∙ read .read .ensures .line;
+      description-so = c .before .before .eleven-of .ensures ∙ ap elevenOf (c .before .before .before .description-of .ensures ∙ read .read .ensures .description);
+      memory = read .read .ensures .memory;
+    }
 
 pub erythmoda-read-spec : {M : Type 1} → statement M
 erythmoda-read-spec =

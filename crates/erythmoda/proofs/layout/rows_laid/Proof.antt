@@ -1,47 +1,36 @@
-use borrow.Author.Needs.{needs}
+-- Each row fits 32 bits.
 use native.Mathlib.Omega.{arith}
+use borrow.Author.Needs.{needs}
+use Rattle.rules.proofs.Fits.{RowsFit}
 use Rattle.erythmoda.proofs.layout.rows_laid.Statement.{statement}
 use Rattle.erythmoda.proofs.layout.rows_laid.Tie as tie
-use Rattle.erythmoda.proofs.layout.rows_laid.Reads as reads
-use Rattle.erythmoda.proofs.layout.rows_laid.Lts as lts
-use Rattle.erythmoda.proofs.layout.row_number.Reads as row-number-reads
 
--- src/layout.rt:147:9
-row-number-requires : tie.Need-row-number-requires
-row-number-requires c κs = search needs
+cast-t2 : tie.Need-cast-t2
+unfolding RowsFit
+cast-t2 c = record { fits = omega (arith, c .before .pre .0) }
 
--- src/layout.rt:148:9
-row-number-requires-2 : tie.Need-row-number-requires-2
-row-number-requires-2 c κs = search needs
+cast-t3 : tie.Need-cast-t3
+unfolding RowsFit
+cast-t3 c = record { fits = omega (arith, c .before .before .pre .1 .0) }
 
--- src/layout.rt:149:9
-row-number-requires-3 : tie.Need-row-number-requires-3
-row-number-requires-3 c κs = search needs
+cast-t4 : tie.Need-cast-t4
+unfolding RowsFit
+cast-t4 c = record { fits = omega (arith, c .before .before .before .pre .1 .1 .0) }
 
--- src/layout.rt:150:9
-row-number-requires-4 : tie.Need-row-number-requires-4
-row-number-requires-4 c κs = search needs
+cast-t5 : tie.Need-cast-t5
+unfolding RowsFit
+cast-t5 c = record { fits = omega (arith, c .before .before .before .before .pre .1 .1 .1 .0) }
 
--- src/layout.rt:151:9
-row-number-requires-5 : tie.Need-row-number-requires-5
-row-number-requires-5 c κs = search needs
+cast-t6 : tie.Need-cast-t6
+unfolding RowsFit
+cast-t6 c = record { fits = omega (arith, c .before .before .before .before .before .pre .1 .1 .1 .1 .0) }
 
--- src/layout.rt:152:9
-row-number-requires-6 : tie.Need-row-number-requires-6
-row-number-requires-6 c κs = search needs
+cast-t7 : tie.Need-cast-t7
+unfolding RowsFit
+cast-t7 c = record { fits = omega (arith, c .before .before .before .before .before .before .pre .1 .1 .1 .1 .1 .0) }
 
--- src/layout.rt:142:1
 returns : tie.Need-returns
 returns c = search needs
 
 pub rows-laid-spec : {M : Type 1} → statement M
-rows-laid-spec =
-    tie.close
-    (tie.spec
-    row-number-requires
-    row-number-requires-2
-    row-number-requires-3
-    row-number-requires-4
-    row-number-requires-5
-    row-number-requires-6
-    returns)
+rows-laid-spec = tie.close (tie.spec cast-t2 cast-t3 cast-t4 cast-t5 cast-t6 cast-t7 returns)
