@@ -1,12 +1,11 @@
 -- The calls of eleven numbers by the description that they give, or by its want; and an answer laid out part by part.
 use Prim.Native.Nat.{ℕ}
-use mathlib.Core.Path.{_≡_, refl, sym, ap, subst, _∙_}
+use mathlib.Core.Path.{_≡_, refl, ap, subst, _∙_}
 use mathlib.Core.List.{List}
 use mathlib.Core.Option.{Option, none, some}
 use lib.IntN.{ℤ}
 use Rattle.rules.specs.Answers.{lookNumber, lookCodes, lookRows, lookWeights, pictureNumber}
 use Rattle.rules.specs.Boundary.{describedIn, pixelIn, lookIn, LooksC, PicturesC}
-use Rattle.rules.specs.Looking.{look}
 use Rattle.rules.specs.Promises.{Looks, Pictures}
 use Rattle.rules.specs.declared.Codes.{Codes}
 use Rattle.rules.specs.declared.Description.{Description}

@@ -20,7 +20,6 @@ use rules::Codes;
 use rules::Look;
 use rules::Picture;
 use rules::Refusal;
-ghost use mathlib.Core.Path.{_≡_};
 ghost use Rattle.rules.specs.Boundary.{ReadsC, LooksC, PicturesC};
 ghost use Rattle.erythmoda.specs.Layout.{LooksIn};
 

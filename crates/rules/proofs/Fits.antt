@@ -1,6 +1,6 @@
 -- What crosses the C boundary fits the numbers that it crosses in: N, a title's place and length 63 bits, a row 32.
-use Prim.Native.Nat.{ℕ, suc, _+_, _*_, _≤_, _<_}
-use mathlib.Core.Path.{_≡_, refl, sym, ap, subst, _∙_}
+use Prim.Native.Nat.{ℕ, suc, _+_, _≤_, _<_}
+use mathlib.Core.Path.{_≡_, refl, ap, subst, _∙_}
 use mathlib.Core.Logic.{_⊎_, inl, inr}
 use mathlib.Core.Bool.{Bool, true, false, cond}
 use mathlib.Core.Option.{Option, none, some}
@@ -12,7 +12,7 @@ use lib.ListN.{length, length-append}
 use Rattle.rules.specs.Units.{greatestN, rowsOf, depthOf}
 use Rattle.rules.specs.Descriptions.{noTitle, rows, couldBeRead}
 use Rattle.rules.specs.Items.{named}
-use Rattle.rules.specs.Reading.{read, tableAfter}
+use Rattle.rules.specs.Reading.{read}
 use Rattle.rules.specs.Looking.{within, shown, correct, lookAt, look}
 use Rattle.rules.specs.Interpolation.{pair, path, pairBy, pathBy, climb}
 use Rattle.rules.specs.Answers.{readDescription, lookRows, sharesOf}
@@ -27,19 +27,17 @@ use Rattle.rules.specs.declared.DepthFound.the-variants.{Known, Unknown}
 use Rattle.rules.specs.declared.Kind.{Kind}
 use Rattle.rules.specs.declared.Kind.the-variants.{OneD, ThreeD}
 use Rattle.rules.specs.declared.Keyword.the-variants.{ATitle}
-use Rattle.rules.specs.declared.Look.{Look}
 use Rattle.rules.specs.declared.Look.the-variants as L
 use Rattle.rules.specs.declared.Read.{Read}
 use Rattle.rules.specs.declared.Read.the-variants as R
 use Rattle.rules.specs.declared.Refusal.the-variants.{CodeTooGreat, CouldNotBeRead}
 use Rattle.rules.specs.declared.Share.{Share}
-use Rattle.rules.specs.declared.Shares.{Shares}
 use Rattle.rules.specs.declared.Title.{Title}
 use Rattle.rules.proofs.Acceptance.{accepted-keeps}
 use Rattle.rules.proofs.Bridge.{bridge}
 use Rattle.rules.proofs.Demand3.{right}
 use Rattle.rules.proofs.Depths.{depth-bounds}
-use Rattle.rules.proofs.Judged.{Sound, sound-of}
+use Rattle.rules.proofs.Judged.{sound-of}
 use Rattle.rules.proofs.Titles.{title-or-none}
 
 -- ---- a description

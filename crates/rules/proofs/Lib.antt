@@ -41,3 +41,4 @@ pub mod Fits
 -- document 01's cases, and the wrong programs that the promises rule out
 pub mod Cases
 pub mod WrongPrograms
+pub mod WrongCalls

@@ -1,7 +1,7 @@
 -- What reading promises, laid out.
 use native.Mathlib.Omega.{arith}
 use borrow.Author.Needs.{needs}
-use mathlib.Core.Path.{_≡_, sym, ap, subst, _∙_}
+use mathlib.Core.Path.{sym, ap, subst, _∙_}
 use Prim.Native.Nat.{_<_}
 use lib.ListN.{length}
 use denote.Ref.{now}

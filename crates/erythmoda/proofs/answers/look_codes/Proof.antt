@@ -1,5 +1,5 @@
 -- The variant found says what the definition says of it.
-use mathlib.Core.Path.{sym, ap, _∙_}
+use mathlib.Core.Path.{sym, ap}
 use borrow.Author.Needs.{needs}
 use Rattle.rules.specs.Answers.{lookCodes}
 use Rattle.erythmoda.proofs.answers.look_codes.Statement.{statement}

@@ -6,7 +6,7 @@ use mathlib.Core.List.{List, _∷_}
 use lib.IntN.{ℤ}
 use lib.Signed.{mag}
 use mir.Syntax.{w64}
-use mir.Val.{SFits, toZ, ofZ, hbits}
+use mir.Val.{toZ, ofZ, hbits}
 use mir.ValLaws.{toZ-ofZ}
 use Rattle.erythmoda.proofs.layout.eleven_of.Statement.{statement}
 use Rattle.erythmoda.proofs.layout.eleven_of.Tie as tie
