@@ -1,8 +1,15 @@
 # test: all proofs and all tests, from nothing. demo: what there is to show.
-.PHONY: test demo
+# fuzz: the streams of the tests with new seeds, for SECONDS=.. or until it is stopped. bench: figures of speed.
+.PHONY: test demo fuzz bench
 
 test:
 	@bash tests/run
 
 demo:
 	@bash tests/demo
+
+fuzz:
+	@bash tests/fuzz $(SECONDS)
+
+bench:
+	@bash tests/bench/run

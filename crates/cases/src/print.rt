@@ -1,42 +1,43 @@
-// What is printed: names, numbers, and lines of a name and what it is.
+// What is printed: names, and fields with a tab before each.
 use whole::Whole;
 
-pub fn raw(text: &[u8]) {
+pub(crate) fn raw(text: &[u8]) {
     io::write_all(1, text);
 }
 
-// A blank and a number.
-pub fn count(n: u64) {
-    raw(b" ");
+pub(crate) fn count(n: u64) {
+    raw(b"\t");
     io::print_decimal(1, n);
 }
 
-// A blank and a number that may be negative.
-pub fn signed(n: i64) {
-    raw(b" ");
+pub(crate) fn row(n: u32) {
+    count(n as u64);
+}
+
+fn signed(n: i64) {
+    raw(b"\t");
     if n < 0 {
         raw(b"-");
     }
     io::print_decimal(1, Whole(n).size());
 }
 
-pub fn text(name: &[u8], answer: &[u8]) {
-    raw(name);
-    raw(b": ");
-    raw(answer);
-    raw(b"\n");
+pub(crate) fn numbers(list: &[i64]) {
+    let mut i = 0;
+    while i < list.len() {
+        signed(list[i]);
+        i += 1;
+    }
 }
 
-pub fn number(name: &[u8], n: u64) {
-    raw(name);
-    raw(b":");
-    count(n);
-    raw(b"\n");
+fn code(c: u16) {
+    count(c as u64);
 }
 
-pub fn value(name: &[u8], n: i64) {
-    raw(name);
-    raw(b":");
-    signed(n);
-    raw(b"\n");
+pub(crate) fn codes(list: &[u16]) {
+    let mut i = 0;
+    while i < list.len() {
+        code(list[i]);
+        i += 1;
+    }
 }

@@ -1,5 +1,6 @@
 //! The cases of document 01's "Checked by hand" that are not marked P, with samples A.2
-//! and A.3, and A.4 by its stated function.
+//! and A.3, and A.4 by its stated function. The one of the report program is not here:
+//! that program is compared by its own bytes.
 //!
 //! `second cases` prints one line for each, in the order below, ended by a newline:
 //! `name<TAB>fields`, the fields parted by single tabs. Numbers are decimal, a minus sign
@@ -8,13 +9,12 @@
 //! - read: number, line, the eleven numbers of the description, then every place of the
 //!   lent table afterwards. Before the call every place held 7.
 //! - look: number, three codes, six rows, six weights.
-//! - report: one field, the bytes printed, with `\n` for each newline and `\t` for each tab
-//!   (a backslash and a letter).
+//! - picture: number, then every place of the lent output afterwards. Before the call
+//!   every place held 7.
 //!
 //! What is read, `NL` standing for a newline and `CR` for a carriage return. WORD(w) is
-//! `LUT_1D_SIZE 2 NL w 0 0 NL 0 0 0 NL` without the blanks around NL, and ROWS is
-//! `LUT_1D_SIZE 2 NL 0 0 0 NL 0 0 0 NL` likewise; CUBE is `LUT_3D_SIZE 2 NL`, seven times
-//! `0 0 0 NL`, and `1 1 1 NL`.
+//! `LUT_1D_SIZE 2 NL w 0 0 NL 0 0 0 NL` without the blanks around NL, and CUBE is
+//! `LUT_3D_SIZE 2 NL`, seven times `0 0 0 NL`, and `1 1 1 NL`, likewise.
 //!
 //! | name | file | places |
 //! |---|---|---|
@@ -24,12 +24,12 @@
 //! | word-1e-minus-thirty-nines | WORD(`1e-` and thirty `9`) | 6 |
 //! | word-5-point | WORD(`5.`) | 6 |
 //! | word-plus | WORD(`+`) | 6 |
-//! | line-250 | `#`, 249 `x`, NL, ROWS | 6 |
-//! | line-251 | `#`, 250 `x`, NL, ROWS | 6 |
-//! | line-251-cr | `#`, 249 `x`, CR, NL, ROWS | 6 |
-//! | line-249-crlf | `#`, 248 `x`, CR, NL, ROWS | 6 |
-//! | line-1-crlf | `#`, CR, NL, ROWS | 6 |
-//! | blank-before-comment | ` #`, NL, ROWS | 6 |
+//! | line-250 | `#`, 249 `x` | 0 |
+//! | line-251 | `#`, 250 `x` | 0 |
+//! | line-251-cr | `#`, 249 `x`, CR | 0 |
+//! | line-249-crlf | `#`, 248 `x`, CR, NL | 0 |
+//! | line-1-crlf | `#`, CR, NL | 0 |
+//! | blank-before-comment | ` #`, NL | 0 |
 //! | size-1d-1 | `LUT_1D_SIZE 1`, NL | 0 |
 //! | size-3d-1 | `LUT_3D_SIZE 1`, NL | 0 |
 //! | size-1d-65536 | `LUT_1D_SIZE 65536`, NL | 0 |
@@ -43,7 +43,8 @@
 //! | sample-a3 | sample A.3, each line ended by NL | 9 |
 //! | sample-a4 | A.4's first two lines, then r, (3g + b)/4 and b, written 0, 0.25, 0.75 or 1 | 24 |
 //!
-//! A size that passes is answered 13 here, for want of places, and not 7.
+//! A line that passes is answered 9 here, for want of a size, and a size that passes 13,
+//! for want of places.
 //!
 //! Looks: 1D, N = 2, no title, 8 bits.
 //!
@@ -52,14 +53,21 @@
 //! | look-half-3 | 0 to 1000 | 0, 5000000 | 3 3 3 |
 //! | look-quarter-255 | 250 to 750 | 0, 10000000 | 255 255 255 |
 //!
-//! The report: `report-cube`, of CUBE.
+//! Pictures: CUBE's description and its 24 numbers, 8 bits. PIXELS is 51 102 204 255 0 255.
+//!
+//! | name | source | output places |
+//! |---|---|---|
+//! | picture-two-pixels | PIXELS | 8 |
+//! | picture-of-none | nothing | 2 |
+//! | picture-of-five-codes | the first five of PIXELS | 6 |
+//! | picture-into-five-places | PIXELS | 5 |
+//! | picture-code-256 | 0 0 256 | 3 |
 
 use crate::look::look;
+use crate::picture::picture;
 use crate::reading::read_into;
-use crate::report::report;
 use crate::show::list;
 
-const ROWS: &str = "LUT_1D_SIZE 2\n0 0 0\n0 0 0\n";
 pub const CUBE: &str = "LUT_3D_SIZE 2\n0 0 0\n0 0 0\n0 0 0\n0 0 0\n0 0 0\n0 0 0\n0 0 0\n1 1 1\n";
 pub const SAMPLE_A2: &str = include_str!("../../accept/sample-a2.cube");
 pub const SAMPLE_A3: &str = include_str!("../../accept/sample-a3.cube");
@@ -72,19 +80,24 @@ pub fn printed() -> String {
         look_line("look-half-3", [0, 1000], [0, 5_000_000], 3),
         look_line("look-quarter-255", [250, 750], [0, 10_000_000], 255),
     ];
-    let mut lines: Vec<String> = reads.collect();
-    lines.extend(looks);
-    lines.push(format!("report-cube\t{}", one_field(&report(CUBE.as_bytes()))));
-    lines.iter().map(|line| line.to_string() + "\n").collect()
+    let pixels = [51, 102, 204, 255, 0, 255];
+    let pictures = [
+        picture_line("picture-two-pixels", &pixels, 8),
+        picture_line("picture-of-none", &[], 2),
+        picture_line("picture-of-five-codes", &pixels[..5], 6),
+        picture_line("picture-into-five-places", &pixels, 5),
+        picture_line("picture-code-256", &[0, 0, 256], 3),
+    ];
+    reads.chain(looks).chain(pictures).map(|line| line + "\n").collect()
 }
 
 fn word(word: &str) -> String {
     format!("LUT_1D_SIZE 2\n{word} 0 0\n0 0 0\n")
 }
 
-/// A comment of so many bytes, then an ending, then the rows.
+/// A comment of so many bytes, then an ending.
 fn comment(length: usize, ending: &str) -> String {
-    format!("#{}{ending}{ROWS}", "x".repeat(length - 1))
+    format!("#{}{ending}", "x".repeat(length - 1))
 }
 
 fn read_cases() -> Vec<(&'static str, String, usize)> {
@@ -96,12 +109,12 @@ fn read_cases() -> Vec<(&'static str, String, usize)> {
         ("word-1e-minus-thirty-nines", word(&format!("1e-{nines}")), 6),
         ("word-5-point", word("5."), 6),
         ("word-plus", word("+"), 6),
-        ("line-250", comment(250, "\n"), 6),
-        ("line-251", comment(251, "\n"), 6),
-        ("line-251-cr", comment(250, "\r\n"), 6),
-        ("line-249-crlf", comment(249, "\r\n"), 6),
-        ("line-1-crlf", comment(1, "\r\n"), 6),
-        ("blank-before-comment", format!(" #\n{ROWS}"), 6),
+        ("line-250", comment(250, ""), 0),
+        ("line-251", comment(251, ""), 0),
+        ("line-251-cr", comment(250, "\r"), 0),
+        ("line-249-crlf", comment(249, "\r\n"), 0),
+        ("line-1-crlf", comment(1, "\r\n"), 0),
+        ("blank-before-comment", " #\n".to_string(), 0),
         ("size-1d-1", "LUT_1D_SIZE 1\n".to_string(), 0),
         ("size-3d-1", "LUT_3D_SIZE 1\n".to_string(), 0),
         ("size-1d-65536", "LUT_1D_SIZE 65536\n".to_string(), 0),
@@ -138,6 +151,13 @@ fn look_line(name: &str, domain: [i64; 2], rows: [i64; 2], code: u16) -> String 
     format!("{name}\t{}", list(&fields, "\t"))
 }
 
-fn one_field(bytes: &[u8]) -> String {
-    String::from_utf8_lossy(bytes).replace('\n', "\\n").replace('\t', "\\t")
+fn picture_line(name: &str, source: &[u16], places: usize) -> String {
+    let description = [3, 2, 0, 0, 0, 1000, 1000, 1000, 0, 0, 0];
+    let mut table = [0; 24];
+    table[21..].fill(10_000_000);
+    let mut output = vec![7; places];
+    let number = picture(&description, &table, 8, source, &mut output);
+    let mut fields = vec![i64::from(number)];
+    fields.extend(output.into_iter().map(i64::from));
+    format!("{name}\t{}", list(&fields, "\t"))
 }

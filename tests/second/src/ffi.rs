@@ -1,4 +1,4 @@
-//! The proved program over the C boundary (C-API.md, first block).
+//! The proved program over the C boundary, as include/erythmoda.h declares it.
 //!
 //! Every buffer is lent from the middle of a larger one, and what stands around it is
 //! compared afterwards; so is what was lent for reading only.

@@ -9,7 +9,7 @@ pub mod files;
 pub mod lookups;
 pub mod words;
 
-use crate::paper::Description;
+use crate::paper::{Description, REPORT_BYTES, REPORT_PLACES};
 use draws::Draws;
 
 /// A file and the length of the table lent for it.
@@ -52,4 +52,34 @@ pub fn look_case(seed: u64, index: u64) -> LookCase {
 
 pub fn picture_case(seed: u64, index: u64) -> PictureCase {
     lookups::picture(&mut Draws::of(seed, 3, index))
+}
+
+/// A report's input: a file of any sort, or one about the report's limits of bytes or of
+/// places.
+pub fn report_input(seed: u64, index: u64) -> Vec<u8> {
+    let mut draws = Draws::of(seed, 4, index);
+    let mut file = files::case(&mut draws).file;
+    match draws.below(20) {
+        0 => {
+            let length = REPORT_BYTES - 2 + draws.below(5);
+            file.resize(length.max(file.len()), b'\n');
+            file
+        }
+        1 => zeros_about_places(&mut draws),
+        _ => file,
+    }
+}
+
+/// Rows of zeros, so many that they need about as many places as the report has.
+fn zeros_about_places(draws: &mut Draws) -> Vec<u8> {
+    let most = REPORT_PLACES / 3;
+    let (size, rows) = match draws.below(3) {
+        0 => ("LUT_3D_SIZE 13".to_string(), 13 * 13 * 13),
+        1 => ("LUT_3D_SIZE 14".to_string(), 14 * 14 * 14),
+        _ => {
+            let rows = most - 1 + draws.below(3);
+            (format!("LUT_1D_SIZE {rows}"), rows)
+        }
+    };
+    (size + "\n" + &"0 0 0\n".repeat(rows)).into_bytes()
 }

@@ -16,13 +16,15 @@
 //! | `cases` | "Checked by hand", the cases not marked P |
 //!
 //! `gen` makes inputs from a seed, `side` puts them to one of the two programs,
-//! `run` goes through a whole stream and counts, and `ffi` (feature `ours`)
-//! calls the proved program.
+//! `run` goes through a whole stream and counts, `met` says what its looks came to,
+//! `small` makes a case that differs small, and `ffi` (feature `ours`) calls the proved
+//! program.
 
 pub mod cases;
 pub mod decimal;
 pub mod gen;
 pub mod look;
+pub mod met;
 pub mod paper;
 pub mod picture;
 pub mod reading;
@@ -30,6 +32,7 @@ pub mod report;
 pub mod run;
 pub mod show;
 pub mod side;
+mod small;
 
 #[cfg(feature = "ours")]
 pub mod ffi;

@@ -2,9 +2,11 @@
 
 use crate::gen::{file_case, look_case, picture_case, FileCase, LookCase, PictureCase};
 use crate::look::Look;
+use crate::met::{met, NAMES};
 use crate::paper::number;
-use crate::show::{list, quoted, shortened};
+use crate::show::{list, quoted, shortened, where_not_zero};
 use crate::side::{pattern, PictureAnswer, ReadAnswer, Second, Side};
+use crate::small::{smaller_file, smaller_look, smaller_picture};
 use std::collections::BTreeMap;
 use std::fmt::Write;
 
@@ -30,12 +32,13 @@ const PICTURE_NUMBERS: [u32; 6] = [
     number::NOT_FROM_READING,
 ];
 
-/// How often each call answered each number.
+/// How often each call answered each number, and what the accepted looks met.
 #[derive(Default)]
 pub struct Counts {
     read: BTreeMap<u32, u64>,
     look: BTreeMap<u32, u64>,
     picture: BTreeMap<u32, u64>,
+    met: [u64; NAMES.len()],
 }
 
 impl Counts {
@@ -43,17 +46,24 @@ impl Counts {
     pub fn shown(&self) -> String {
         let line = |name: &str, counts: &BTreeMap<u32, u64>| {
             let shown: Vec<String> = counts.iter().map(|(n, many)| format!("{n}:{many}")).collect();
-            let line = format!("{name}\t{}\n", list(&shown, " "));
-            if shown.is_empty() {
-                String::new()
-            } else {
-                line
-            }
+            lines_of(name, &list(&shown, " "))
         };
-        line("read", &self.read) + &line("look", &self.look) + &line("picture", &self.picture)
+        let met: Vec<String> =
+            NAMES.iter().zip(self.met).map(|(name, many)| format!("{name} {many}")).collect();
+        let met = if self.look.is_empty() { String::new() } else { list(&met, ", ") };
+        let looks = line("look", &self.look) + &lines_of("looks met", &met);
+        line("read", &self.read) + &looks + &line("picture", &self.picture)
     }
 
-    /// The numbers never seen on a call that was asked for.
+    fn note_met(&mut self, case: &LookCase, look: &Look) {
+        if look.number == number::ACCEPTED {
+            for (many, on) in self.met.iter_mut().zip(met(case, look)) {
+                *many += u64::from(on);
+            }
+        }
+    }
+
+    /// The numbers never seen on a call that was asked for, and what no look met.
     pub fn missing(&self, wanted: &Wanted) -> Vec<String> {
         let mut missing = Vec::new();
         let mut note = |name: &str, asked: u64, counts: &BTreeMap<u32, u64>, numbers: &[u32]| {
@@ -63,7 +73,18 @@ impl Counts {
         note("read", wanted.tables, &self.read, &READ_NUMBERS.collect::<Vec<_>>());
         note("look", wanted.looks, &self.look, &LOOK_NUMBERS);
         note("picture", wanted.pictures, &self.picture, &PICTURE_NUMBERS);
+        let unmet = NAMES.iter().zip(self.met).filter(|(_, many)| wanted.looks > 0 && *many == 0);
+        missing.extend(unmet.map(|(name, _)| format!("look: {name}")));
         missing
+    }
+}
+
+/// A name and what is said of it, or nothing if nothing is.
+fn lines_of(name: &str, text: &str) -> String {
+    if text.is_empty() {
+        String::new()
+    } else {
+        format!("{name}\t{text}\n")
     }
 }
 
@@ -76,8 +97,10 @@ pub fn run(wanted: &Wanted, other: Option<&dyn Side>) -> Result<Counts, String> 
         *counts.read.entry(number).or_default() += 1;
     }
     for index in 0..wanted.looks {
-        let number = one_look(&look_case(wanted.seed, index), other).map_err(|d| told(index, d))?;
-        *counts.look.entry(number).or_default() += 1;
+        let case = look_case(wanted.seed, index);
+        let look = one_look(&case, other).map_err(|d| told(index, d))?;
+        *counts.look.entry(look.number).or_default() += 1;
+        counts.note_met(&case, &look);
     }
     for index in 0..wanted.pictures {
         let case = picture_case(wanted.seed, index);
@@ -95,17 +118,19 @@ fn one_file(case: &FileCase, other: Option<&dyn Side>) -> Result<u32, String> {
     let own = Second.read(case)?;
     match other {
         Some(side) if side.read(case).as_ref() != Ok(&own) => {
-            Err(tell_file(&smaller(case, side), side))
+            Err(tell_file(&smaller_file(case, side), side))
         }
         _ => Ok(own.number),
     }
 }
 
-fn one_look(case: &LookCase, other: Option<&dyn Side>) -> Result<u32, String> {
+fn one_look(case: &LookCase, other: Option<&dyn Side>) -> Result<Look, String> {
     let own = Second.look(case)?;
     match other {
-        Some(side) if side.look(case).as_ref() != Ok(&own) => Err(tell_look(case, side)),
-        _ => Ok(own.number),
+        Some(side) if side.look(case).as_ref() != Ok(&own) => {
+            Err(tell_look(&smaller_look(case, side), side))
+        }
+        _ => Ok(own),
     }
 }
 
@@ -113,69 +138,10 @@ fn one_picture(case: &PictureCase, other: Option<&dyn Side>) -> Result<u32, Stri
     let own = Second.picture(case)?;
     match other {
         Some(side) if side.picture(case).as_ref() != Ok(&own) => {
-            Err(tell_picture(&fewer_pixels(case, side), side))
+            Err(tell_picture(&smaller_picture(case, side), side))
         }
         _ => Ok(own.number),
     }
-}
-
-// Making a differing case smaller.
-
-fn files_differ(case: &FileCase, side: &dyn Side) -> bool {
-    side.read(case) != Second.read(case)
-}
-
-/// A case as small as leaving out lines, bytes and table places makes it, while the two
-/// still differ. Long files are tried fewer times.
-fn smaller(case: &FileCase, side: &dyn Side) -> FileCase {
-    let tries = 200 + 20_000_000 / (case.file.len() + 1);
-    let with_file = |file: Vec<u8>| FileCase { file, ..case.clone() };
-    let lines: Vec<Vec<u8>> = case.file.split(|byte| *byte == b'\n').map(<[u8]>::to_vec).collect();
-    let lines = fewer(lines, tries, |lines| files_differ(&with_file(lines.join(&b'\n')), side));
-    let bytes = lines.join(&b'\n');
-    let bytes = fewer(bytes, tries, |bytes| files_differ(&with_file(bytes.to_vec()), side));
-    let case = with_file(bytes);
-    let with_places = |table_len: usize| FileCase { table_len, ..case.clone() };
-    let places = (0..case.table_len.min(100)).find(|few| files_differ(&with_places(*few), side));
-    with_places(places.unwrap_or(case.table_len))
-}
-
-/// Leaves out runs of a list, long ones first, as long as what is left still differs and
-/// tries are left.
-fn fewer<T: Clone>(mut list: Vec<T>, tries: usize, differs: impl Fn(&[T]) -> bool) -> Vec<T> {
-    let (mut run, mut at) = (list.len(), 0);
-    for _ in 0..tries {
-        if at >= list.len() {
-            (run, at) = (run / 2, 0);
-        }
-        if run == 0 {
-            break;
-        }
-        let mut left = list.clone();
-        left.drain(at..(at + run).min(list.len()));
-        if differs(&left) {
-            list = left;
-        } else {
-            at += run;
-        }
-    }
-    list
-}
-
-/// A picture without the pixels that the difference does not need. The output keeps as
-/// many places more or fewer than the source as it had.
-fn fewer_pixels(case: &PictureCase, side: &dyn Side) -> PictureCase {
-    let with_pixels = |pixels: &[Vec<u16>]| {
-        let source = pixels.concat();
-        let output_len = (case.output_len + source.len()).saturating_sub(case.source.len());
-        PictureCase { source, output_len, ..case.clone() }
-    };
-    let differs = |pixels: &[Vec<u16>]| {
-        let case = with_pixels(pixels);
-        side.picture(&case) != Second.picture(&case)
-    };
-    let pixels: Vec<Vec<u16>> = case.source.chunks(3).map(<[u16]>::to_vec).collect();
-    with_pixels(&fewer(pixels, 1_000, differs))
 }
 
 // Telling a difference.
@@ -225,7 +191,8 @@ fn tell_picture(case: &PictureCase, side: &dyn Side) -> String {
 
 fn tell_lent(description: &[i64; 11], table: &[i64], bits: u32) -> String {
     let description = list(description, " ");
-    format!("description: {description}\ntable: {}\nbits: {bits}\n", shortened(table))
+    let table = format!("{} numbers, {}", table.len(), where_not_zero(table));
+    format!("description: {description}\ntable: {table}\nbits: {bits}\n")
 }
 
 /// The two answers one under the other.

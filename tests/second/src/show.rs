@@ -46,3 +46,14 @@ pub fn shortened<T: Display>(numbers: &[T]) -> String {
         _ => format!("[{}]", list(numbers, ", ")),
     }
 }
+
+/// The numbers of a list that are not 0, each after its place and a colon.
+pub fn where_not_zero(numbers: &[i64]) -> String {
+    let placed = numbers.iter().enumerate().filter(|(_, number)| **number != 0);
+    let shown: Vec<String> = placed.map(|(at, number)| format!("{at}:{number}")).collect();
+    if shown.is_empty() {
+        "all 0".to_string()
+    } else {
+        format!("all 0 but {}", shortened(&shown))
+    }
+}

@@ -11,14 +11,15 @@
 //!                                 compares a report program's bytes with this one's
 //! ```
 
-use second::gen::file_case;
+use second::gen::report_input;
 use second::look::look;
-use second::paper::{place, Kind};
+use second::paper::{number, place, Kind};
 use second::reading::{read, Reading};
 use second::report::report;
 use second::run::{run, Wanted};
 use second::show::{escaped, list, quoted};
 use second::{cases, paper};
+use std::collections::BTreeMap;
 use std::io::{self, Read, Write};
 use std::process::{Command, ExitCode, Stdio};
 use std::time::Instant;
@@ -126,17 +127,36 @@ fn reports(seed: &str, count: &str, program: &[&str]) -> Result<(), String> {
     let [seed, count] = numbers(&[seed, count])?[..] else {
         return Ok(());
     };
+    let mut seen: BTreeMap<u32, u64> = BTreeMap::new();
     for index in 0..count {
-        let file = file_case(seed, index).file;
-        let theirs = printed_by(program, &file).map_err(|fault| fault.to_string())?;
-        if theirs != report(&file) {
-            let (own, theirs) = (escaped(&report(&file)), escaped(&theirs));
-            let file = quoted(&file);
-            return Err(format!("case {index}\nfile: {file}\nsecond: {own}\nother:  {theirs}"));
+        let file = report_input(seed, index);
+        let (own, theirs) = (report(&file), printed_by(program, &file));
+        let theirs = theirs.map_err(|fault| format!("{}: {fault}", program[0]))?;
+        if theirs != own {
+            let (own, theirs, file) = (escaped(&own), escaped(&theirs), quoted(&file));
+            return Err(format!(
+                "the two differ: seed {seed}, case {index}\nfile: {file}\nsecond: {own}\nother:  {theirs}"
+            ));
         }
+        *seen.entry(report_number(&own)).or_default() += 1;
     }
-    println!("seed {seed}: {count} reports alike");
-    Ok(())
+    let shown: Vec<String> = seen.iter().map(|(number, many)| format!("{number}:{many}")).collect();
+    println!("seed\t{seed}\nreport\t{}", list(&shown, " "));
+    let unseen = (0..=18).chain([30]).filter(|number| !seen.contains_key(number));
+    match unseen.collect::<Vec<u32>>() {
+        unseen if unseen.is_empty() || count < ENOUGH_REPORTS => Ok(()),
+        unseen => Err(format!("never seen: {}", list(&unseen, ", "))),
+    }
+}
+
+/// So many reports show every number.
+const ENOUGH_REPORTS: u64 = 1_000;
+
+/// The number that a report tells; 0 where the file is accepted.
+fn report_number(printed: &[u8]) -> u32 {
+    let text = String::from_utf8_lossy(printed);
+    let refused = text.strip_prefix("refused\t").and_then(|fields| fields.split('\t').next());
+    refused.and_then(|number| number.parse().ok()).unwrap_or(number::ACCEPTED)
 }
 
 /// What a program prints for an input. A program that has seen enough may close its input.

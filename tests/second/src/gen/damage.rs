@@ -28,6 +28,15 @@ pub fn case(draws: &mut Draws) -> FileCase {
     case
 }
 
+/// A file that kept every rule, with nothing but bytes damaged.
+pub fn blind_alone(draws: &mut Draws) -> FileCase {
+    let mut case = finished(kept(draws), Vec::new());
+    for _ in 0..draws.pick(&[1, 1, 2, 4]) {
+        blind(&mut case, draws);
+    }
+    case
+}
+
 const DAMAGES: &[(&str, Change)] = &[
     ("a line of 250 bytes", line_of_250),
     ("1: a line of 251 bytes", line_of_251),

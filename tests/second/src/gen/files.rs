@@ -40,7 +40,8 @@ pub fn case(draws: &mut Draws) -> FileCase {
     match draws.below(20) {
         0 => soup(draws),
         1 | 2 => edge_words(draws),
-        3..=8 => finished(kept(draws), vec!["kept"]),
+        3..=7 => finished(kept(draws), vec!["kept"]),
+        8 => damage::blind_alone(draws),
         _ => damage::case(draws),
     }
 }

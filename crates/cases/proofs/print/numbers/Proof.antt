@@ -1,15 +1,15 @@
--- The loop stays within the table.
+-- The loop stays within the list.
 use Prim.Native.Nat.{_-_, _≤_}
 use lib.ListN.{length}
 use borrow.Author.Needs.{needs}
-use Rattle.cases.proofs.files.show_table.Statement.{statement}
-use Rattle.cases.proofs.files.show_table.Tie as tie
+use Rattle.cases.proofs.print.numbers.Statement.{statement}
+use Rattle.cases.proofs.print.numbers.Tie as tie
 
 abbrev Inv-loop : tie.InvT-loop
-Inv-loop table i₀ t3 i = i ≤ length table
+Inv-loop list i₀ i = i ≤ length list
 
 abbrev μ-loop : tie.MeasureT-loop
-μ-loop table i₀ t3 i = length table - i
+μ-loop list i₀ i = length list - i
 
 loop-holds : tie.Need-loop-holds Inv-loop μ-loop
 loop-holds c = search needs
@@ -32,17 +32,11 @@ loop-less c = search needs
 loop-again : tie.Need-loop-again Inv-loop μ-loop
 loop-again c = search needs
 
-slice-aggregate-raw : tie.Need-slice-aggregate-raw Inv-loop μ-loop
-slice-aggregate-raw c = search needs
-
-raw-requires : tie.Need-raw-requires Inv-loop μ-loop
-raw-requires c κs = search needs
-
 returns : tie.Need-returns Inv-loop μ-loop
 returns c = search needs
 
-pub show-table-spec : {M : Type 1} → statement M
-show-table-spec =
+pub numbers-spec : {M : Type 1} → statement M
+numbers-spec =
     tie.close
     (tie.spec
     Inv-loop
@@ -54,6 +48,4 @@ show-table-spec =
     add-i
     loop-less
     loop-again
-    slice-aggregate-raw
-    raw-requires
     returns)

@@ -1,0 +1,46 @@
+//! Document 01's rules in plain Rust, written for speed in the straightforward way: what a
+//! proved program has to be measured against. It takes no part in any test.
+
+pub mod picture;
+pub mod reading;
+
+/// Red, green and blue, each with a lower and an upper bound in thousandths.
+pub type Domains = [[i64; 2]; 3];
+
+#[derive(Clone, Copy, PartialEq, Eq, Debug)]
+pub enum Kind {
+    OneD,
+    ThreeD,
+}
+
+#[derive(Clone, PartialEq, Eq, Debug)]
+pub struct Description {
+    pub kind: Kind,
+    pub n: usize,
+    pub domains: Domains,
+}
+
+impl Description {
+    pub fn rows(&self) -> usize {
+        match self.kind {
+            Kind::OneD => self.n,
+            Kind::ThreeD => self.n * self.n * self.n,
+        }
+    }
+
+    /// N and the domains keep document 01's limits.
+    pub fn keeps_limits(&self) -> bool {
+        let most = if self.kind == Kind::OneD { 65_536 } else { 256 };
+        let within = |bound: i64| (-10_000..=10_000).contains(&bound);
+        let domain_keeps = |[lower, upper]: [i64; 2]| {
+            within(lower) && within(upper) && lower < upper && upper - lower <= 10_000
+        };
+        let [red, green, blue] = self.domains;
+        (2..=most).contains(&self.n)
+            && self.domains.into_iter().all(domain_keeps)
+            && (self.kind == Kind::OneD || (red == green && green == blue))
+    }
+}
+
+/// Samples in ten-millionths lie from minus this to this.
+pub const GREATEST_SAMPLE: i64 = 10_000_000_000;

@@ -1,0 +1,99 @@
+/* Erythmoda: .cube colour tables read and applied, every answer proved. Link liberythmoda.a.
+ *
+ * Nothing is allocated, kept or shared between calls: all memory is lent by the caller, and two threads may call at once
+ * as long as neither writes what the other reads. A pointer must lead to as many places as its length says, or as its
+ * type says where there is no length; with a length of 0 any pointer that is not null will do. What is lent for writing
+ * must not overlap with anything else that is lent to the same call.
+ *
+ * Each call answers a number, 0 for accepted; erythmoda_number below says what the others mean. */
+#ifndef ERYTHMODA_H
+#define ERYTHMODA_H
+
+#include <stddef.h>
+#include <stdint.h>
+
+#ifdef __cplusplus
+extern "C" {
+#endif
+
+/* What a table is, in eleven numbers:
+ *
+ *   place     holds
+ *   0         1 for a 1D table, 3 for a 3D table
+ *   1         N: 2 to 65536 in 1D, 2 to 256 in 3D
+ *   2, 3, 4   the lower bounds of the domain for red, green and blue, in thousandths, from -10000 to 10000
+ *   5, 6, 7   the upper bounds, likewise, each above its lower bound by at most 10000; in 3D all colours have one domain
+ *   8         1 if there is a title, 0 if not
+ *   9, 10     the title's first byte place in the file, counted from 0, and its length; both 0 without a title
+ *
+ * Samples stand in a table of 64-bit numbers, in ten-millionths, from -10000000000 to 10000000000. The numbers of row n,
+ * rows counted from 0, stand at 3n (red), 3n + 1 (green) and 3n + 2 (blue). A 1D table has N rows. A 3D table has N*N*N,
+ * and red index r, green g, blue b is row r + N*g + N*N*b.
+ *
+ * Pixels are 16-bit codes, red, green, blue, from 0 to M. Four depths are known: 8 bits with M = 255, 10 with 1023,
+ * 12 with 4095, 16 with 65535. */
+#define ERYTHMODA_DESCRIPTION_PLACES 11
+
+enum erythmoda_number {
+    ERYTHMODA_ACCEPTED = 0,
+    /* of a file, with the line */
+    ERYTHMODA_LINE_TOO_LONG = 1,              /* a line over 250 bytes */
+    ERYTHMODA_BYTE_NOT_PERMITTED = 2,         /* a byte other than 0x20 to 0x7E, tab and newline */
+    ERYTHMODA_NEITHER_DATA_NOR_KEYWORD = 3,   /* a line that is neither data nor begins with a known keyword */
+    ERYTHMODA_KEYWORD_AFTER_DATA = 4,         /* a keyword after data */
+    ERYTHMODA_KEYWORD_REPEATED = 5,           /* a keyword for the second time; the two size words count as one */
+    ERYTHMODA_PARAMETERS_WRONG = 6,           /* the parameters of a keyword are wrong in count or form */
+    ERYTHMODA_N_OUT_OF_RANGE = 7,             /* N is out of range */
+    ERYTHMODA_BOUND_WRONG = 8,                /* a domain number is beyond -10 to 10 or no multiple of 0.001 */
+    ERYTHMODA_NO_SIZE = 9,                    /* there is no size */
+    ERYTHMODA_BOUNDS_NOT_IN_ORDER = 10,       /* a lower bound is not below its upper bound */
+    ERYTHMODA_DOMAIN_TOO_WIDE = 11,           /* a domain is wider than 10 */
+    ERYTHMODA_DOMAINS_DIFFER = 12,            /* a 3D table's domains differ between colours */
+    ERYTHMODA_TABLE_TOO_SHORT = 13,           /* the lent table has fewer places than three for each row */
+    ERYTHMODA_TOO_MANY_ROWS = 14,             /* there are more data lines than rows */
+    ERYTHMODA_NOT_THREE_NUMBERS = 15,         /* a data line is not three numbers */
+    ERYTHMODA_SAMPLE_BEYOND = 16,             /* a sample is beyond -1000 to 1000 */
+    ERYTHMODA_SAMPLE_TOO_FINE = 17,           /* a sample is no multiple of 0.0000001 */
+    ERYTHMODA_TOO_FEW_ROWS = 18,              /* the file ends with too few rows */
+    /* of a look or a picture (19 is not used) */
+    ERYTHMODA_DEPTH_UNKNOWN = 20,             /* the depth is not 8, 10, 12 or 16 bits */
+    ERYTHMODA_PICTURE_LENGTH = 21,            /* the picture's length is no multiple of 3 */
+    ERYTHMODA_OUTPUT_TOO_SHORT = 22,          /* the output is shorter than the picture */
+    ERYTHMODA_CODE_ABOVE_M = 23,              /* a code is above the depth's M */
+    ERYTHMODA_COULD_NOT_BE_READ = 24,         /* reading could not have given this description and this table */
+    /* of the report program alone */
+    ERYTHMODA_REPORT_INPUT_TOO_LONG = 30      /* the report's input has more than 65536 bytes */
+};
+
+/* Reads the bytes of one .cube file.
+ *
+ * Accepted: `table` begins with three numbers for each row, and its later places keep theirs; `description` says what it
+ * is, and `*line` is 0. Refused: the answer is 1 to 18, `*line` the line that decided, counted from 1, `description` is
+ * 1 and then zeros, and every place of `table` keeps its number. */
+uint32_t erythmoda_read(const uint8_t *file, size_t file_len,
+                        int64_t *table, size_t table_len,
+                        int64_t description[11], uint64_t *line);
+
+/* Corrects one pixel, and shows which rows of the table made the codes, and with which weights.
+ *
+ * 1D: places 2c and 2c + 1 of `rows` and `weights` belong to colour c (0 red, 1 green, 2 blue). 3D: places 0 to 3 are
+ * the rows met, and 4 and 5 are zero. Rows with weight 0 are shown too. Refused: the answer is 24, 20 or 23, and all
+ * codes, rows and weights are zero. Places 8 to 10 of `description` change no answer. */
+uint32_t erythmoda_look(const int64_t description[11], const int64_t *table, size_t table_len,
+                        uint32_t bits, const uint16_t pixel[3],
+                        uint16_t codes[3], uint32_t rows[6], int64_t weights[6]);
+
+/* Corrects a run of pixels, each to the codes that erythmoda_look gives for it.
+ *
+ * Accepted: the first `src_len` places of `dst` hold the codes, and its later places keep theirs; a length of 0 is
+ * accepted. Refused: the answer is 24, 20, 21, 22 or 23, tried in that order, and nothing is written. Places 8 to 10 of
+ * `description` change no answer. */
+uint32_t erythmoda_picture(const int64_t description[11], const int64_t *table, size_t table_len,
+                           uint32_t bits, const uint16_t *src, size_t src_len,
+                           uint16_t *dst, size_t dst_len);
+
+#ifdef __cplusplus
+}
+#endif
+
+#endif

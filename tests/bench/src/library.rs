@@ -1,0 +1,61 @@
+//! The proved library's two calls that are measured.
+
+mod c {
+    extern "C" {
+        pub fn erythmoda_read(
+            file: *const u8,
+            file_len: usize,
+            table: *mut i64,
+            table_len: usize,
+            description: *mut i64,
+            line: *mut u64,
+        ) -> u32;
+        pub fn erythmoda_picture(
+            description: *const i64,
+            table: *const i64,
+            table_len: usize,
+            bits: u32,
+            src: *const u16,
+            src_len: usize,
+            dst: *mut u16,
+            dst_len: usize,
+        ) -> u32;
+    }
+}
+
+pub fn read(file: &[u8], table: &mut [i64]) -> u32 {
+    let (mut description, mut line) = ([0i64; 11], 0u64);
+    // SAFETY: each pointer is to as many places as are told.
+    unsafe {
+        c::erythmoda_read(
+            file.as_ptr(),
+            file.len(),
+            table.as_mut_ptr(),
+            table.len(),
+            description.as_mut_ptr(),
+            &mut line,
+        )
+    }
+}
+
+pub fn picture(
+    description: &[i64; 11],
+    table: &[i64],
+    bits: u32,
+    src: &[u16],
+    dst: &mut [u16],
+) -> u32 {
+    // SAFETY: each pointer is to as many places as are told.
+    unsafe {
+        c::erythmoda_picture(
+            description.as_ptr(),
+            table.as_ptr(),
+            table.len(),
+            bits,
+            src.as_ptr(),
+            src.len(),
+            dst.as_mut_ptr(),
+            dst.len(),
+        )
+    }
+}

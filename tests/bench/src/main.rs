@@ -1,0 +1,122 @@
+//! How fast the proved library corrects pictures and reads files, beside docs/baseline.
+//! docs/baseline/README.md tells the method.
+
+mod library;
+
+use baseline::{Description, Kind};
+use std::fmt::Write;
+use std::process::ExitCode;
+use std::time::Instant;
+
+const PIXELS: usize = 20_000;
+const PICTURE_ROUNDS: usize = 201;
+const READING_ROUNDS: usize = 21;
+const READING_N: usize = 65;
+
+fn main() -> ExitCode {
+    println!("pictures of {PIXELS} pixels, medians of {PICTURE_ROUNDS} rounds");
+    println!("kind\tN\tbits\tours, ns a pixel\tbaseline, ns a pixel\tratio");
+    let shapes = [
+        (Kind::ThreeD, 13),
+        (Kind::ThreeD, 33),
+        (Kind::OneD, 13),
+        (Kind::OneD, 33),
+        (Kind::OneD, 1024),
+    ];
+    let mut alike = true;
+    for (kind, n) in shapes {
+        for bits in [8, 16] {
+            alike &= pictures(kind, n, bits);
+        }
+    }
+    alike &= reading();
+    if alike {
+        ExitCode::SUCCESS
+    } else {
+        println!("the two do not agree");
+        ExitCode::FAILURE
+    }
+}
+
+/// Numbers that look random, the same at every run (splitmix64).
+struct Draws(u64);
+
+impl Draws {
+    fn below(&mut self, end: u64) -> u64 {
+        self.0 = self.0.wrapping_add(0x9E37_79B9_7F4A_7C15);
+        let mixed = (self.0 ^ (self.0 >> 30)).wrapping_mul(0xBF58_476D_1CE4_E5B9);
+        let mixed = (mixed ^ (mixed >> 27)).wrapping_mul(0x94D0_49BB_1331_11EB);
+        (mixed ^ (mixed >> 31)) % end
+    }
+
+    /// A sample from 0 to 1.
+    fn sample(&mut self) -> i64 {
+        self.below(10_000_001) as i64
+    }
+}
+
+/// The medians of two pieces of work in nanoseconds, done in turn so that whatever else the
+/// machine does falls on both alike.
+fn medians(rounds: usize, mut one: impl FnMut(), mut other: impl FnMut()) -> (f64, f64) {
+    let mut times = (Vec::new(), Vec::new());
+    for _ in 0..rounds {
+        times.0.push(timed(&mut one));
+        times.1.push(timed(&mut other));
+    }
+    (median(times.0), median(times.1))
+}
+
+fn timed(work: &mut impl FnMut()) -> u128 {
+    let start = Instant::now();
+    work();
+    start.elapsed().as_nanos()
+}
+
+fn median(mut times: Vec<u128>) -> f64 {
+    times.sort_unstable();
+    times[times.len() / 2] as f64
+}
+
+/// One line of the table of pictures; whether the two gave the same codes.
+fn pictures(kind: Kind, n: usize, bits: u32) -> bool {
+    let mut draws = Draws(1);
+    let description = Description { kind, n, domains: [[0, 1000]; 3] };
+    let mark = if kind == Kind::OneD { 1 } else { 3 };
+    let eleven = [mark, n as i64, 0, 0, 0, 1000, 1000, 1000, 0, 0, 0];
+    let table: Vec<i64> = (0..3 * description.rows()).map(|_| draws.sample()).collect();
+    let source: Vec<u16> = (0..3 * PIXELS).map(|_| draws.below(1 << bits) as u16).collect();
+    let (mut ours, mut plain) = (vec![0; source.len()], vec![0; source.len()]);
+    let (mut number, mut answer) = (0, Ok(()));
+    let (our_time, plain_time) = medians(
+        PICTURE_ROUNDS,
+        || number = library::picture(&eleven, &table, bits, &source, &mut ours),
+        || answer = baseline::picture::picture(&description, &table, bits, &source, &mut plain),
+    );
+    let (our_time, plain_time) = (our_time / PIXELS as f64, plain_time / PIXELS as f64);
+    let ratio = our_time / plain_time;
+    println!("{mark}D\t{n}\t{bits}\t{our_time:.1}\t{plain_time:.1}\t{ratio:.2}");
+    number == 0 && answer.is_ok() && ours == plain
+}
+
+/// The line of reading; whether the two gave the same table.
+fn reading() -> bool {
+    let mut draws = Draws(2);
+    let rows = READING_N.pow(3);
+    let mut file = format!("LUT_3D_SIZE {READING_N}\n");
+    for _ in 0..rows {
+        let [red, green, blue] = [0; 3].map(|_| draws.below(10_000_000));
+        let _ = writeln!(file, "0.{red:07} 0.{green:07} 0.{blue:07}");
+    }
+    let (mut ours, mut plain) = (vec![0; 3 * rows], vec![0; 3 * rows]);
+    let (mut number, mut accepted) = (0, false);
+    let (our_time, plain_time) = medians(
+        READING_ROUNDS,
+        || number = library::read(file.as_bytes(), &mut ours),
+        || accepted = baseline::reading::read(file.as_bytes(), &mut plain).is_ok(),
+    );
+    let speed = |time: f64| file.len() as f64 * 1e3 / time;
+    println!("\nreading a 3D file, N = {READING_N}, seven decimals, {} bytes, medians of {READING_ROUNDS} rounds", file.len());
+    println!("ours, MB/s\tbaseline, MB/s\tratio of times");
+    println!("{:.0}\t{:.0}\t{:.2}", speed(our_time), speed(plain_time), our_time / plain_time);
+    number == 0 && accepted && ours == plain
+}

@@ -1,0 +1,145 @@
+/* The three calls from C: document 01's 3D file is read, looked at and applied, every answer is compared, and so is
+ * everything lent that a call may not change. Prints what is wrong, and exits 1 if anything is. */
+#include <stdio.h>
+#include <stdlib.h>
+#include <string.h>
+
+#include "erythmoda.h"
+
+#define TABLE_PLACES 27 /* three more than the file's eight rows need */
+#define ROW_PLACES 24
+#define KEPT 77 /* what lent memory holds beforehand; no call writes it here */
+
+static const char CUBE[] =
+    "LUT_3D_SIZE 2\n0 0 0\n0 0 0\n0 0 0\n0 0 0\n0 0 0\n0 0 0\n0 0 0\n1 1 1\n";
+static const int64_t CUBE_DESCRIPTION[ERYTHMODA_DESCRIPTION_PLACES] = {3, 2, 0, 0, 0, 1000, 1000, 1000, 0, 0, 0};
+
+/* An accepted reading of CUBE, shared by the calls after it. */
+struct colour_table {
+    int64_t description[ERYTHMODA_DESCRIPTION_PLACES];
+    int64_t samples[TABLE_PLACES];
+};
+
+static int wrong = 0;
+
+static void expect(int holds, const char *what) {
+    if (!holds) {
+        printf("wrong: %s\n", what);
+        wrong = 1;
+    }
+}
+
+static void expect_number(uint32_t answer, enum erythmoda_number expected, const char *what) {
+    if (answer != (uint32_t)expected) {
+        printf("wrong: %s: answered %lu, expected %d\n", what, (unsigned long)answer, (int)expected);
+        wrong = 1;
+    }
+}
+
+static int all_are(const int64_t *numbers, size_t count, int64_t value) {
+    size_t i;
+    for (i = 0; i < count; i++) {
+        if (numbers[i] != value) return 0;
+    }
+    return 1;
+}
+
+static void fill(int64_t *numbers, size_t count, int64_t value) {
+    size_t i;
+    for (i = 0; i < count; i++) numbers[i] = value;
+}
+
+static struct colour_table read_cube(void) {
+    struct colour_table table;
+    uint64_t line = KEPT;
+    uint32_t answer;
+    fill(table.description, ERYTHMODA_DESCRIPTION_PLACES, KEPT);
+    fill(table.samples, TABLE_PLACES, KEPT);
+    answer = erythmoda_read((const uint8_t *)CUBE, sizeof CUBE - 1, table.samples, TABLE_PLACES,
+                            table.description, &line);
+    expect_number(answer, ERYTHMODA_ACCEPTED, "reading the 3D file");
+    expect(line == 0, "an accepted reading has line 0");
+    expect(memcmp(table.description, CUBE_DESCRIPTION, sizeof CUBE_DESCRIPTION) == 0, "the description");
+    expect(all_are(table.samples, ROW_PLACES - 3, 0), "rows 0 to 6 are zeros");
+    expect(all_are(table.samples + ROW_PLACES - 3, 3, 10000000), "row 7 is ones");
+    expect(all_are(table.samples + ROW_PLACES, TABLE_PLACES - ROW_PLACES, KEPT), "later places are kept");
+    return table;
+}
+
+static void refused_reading(void) {
+    int64_t samples[TABLE_PLACES], description[ERYTHMODA_DESCRIPTION_PLACES];
+    uint64_t line = KEPT;
+    uint32_t answer;
+    fill(samples, TABLE_PLACES, KEPT);
+    fill(description, ERYTHMODA_DESCRIPTION_PLACES, KEPT);
+    /* all but the last line: eight lines, and the end stands on the ninth */
+    answer = erythmoda_read((const uint8_t *)CUBE, sizeof CUBE - 1 - strlen("1 1 1\n"), samples, TABLE_PLACES,
+                            description, &line);
+    expect_number(answer, ERYTHMODA_TOO_FEW_ROWS, "reading seven rows of eight");
+    expect(line == 9, "the line of the refusal");
+    expect(description[0] == 1 && all_are(description + 1, ERYTHMODA_DESCRIPTION_PLACES - 1, 0),
+           "a refused reading describes nothing");
+    expect(all_are(samples, TABLE_PLACES, KEPT), "a refused reading keeps the table");
+    answer = erythmoda_read((const uint8_t *)CUBE, sizeof CUBE - 1, samples, ROW_PLACES - 1, description, &line);
+    expect_number(answer, ERYTHMODA_TABLE_TOO_SHORT, "reading into 23 places");
+    expect(line == 2 && all_are(samples, TABLE_PLACES, KEPT), "a short table is kept, and its line is the first data line");
+}
+
+static void look(const struct colour_table *table) {
+    static const uint16_t pixel[3] = {51, 102, 204};
+    static const uint16_t codes_expected[3] = {51, 51, 51};
+    static const uint32_t rows_expected[6] = {0, 4, 6, 7, 0, 0};
+    static const int64_t weights_expected[6] = {51000, 102000, 51000, 51000, 0, 0};
+    static const uint16_t no_codes[3] = {0, 0, 0};
+    static const uint32_t no_rows[6] = {0, 0, 0, 0, 0, 0};
+    uint16_t codes[3] = {KEPT, KEPT, KEPT};
+    uint32_t rows[6] = {KEPT, KEPT, KEPT, KEPT, KEPT, KEPT};
+    int64_t weights[6] = {KEPT, KEPT, KEPT, KEPT, KEPT, KEPT};
+    uint32_t answer;
+    answer = erythmoda_look(table->description, table->samples, ROW_PLACES, 8, pixel, codes, rows, weights);
+    expect_number(answer, ERYTHMODA_ACCEPTED, "looking at 51 102 204");
+    expect(memcmp(codes, codes_expected, sizeof codes) == 0, "the codes");
+    expect(memcmp(rows, rows_expected, sizeof rows) == 0, "the rows");
+    expect(memcmp(weights, weights_expected, sizeof weights) == 0, "the weights");
+    answer = erythmoda_look(table->description, table->samples, ROW_PLACES, 9, pixel, codes, rows, weights);
+    expect_number(answer, ERYTHMODA_DEPTH_UNKNOWN, "looking with 9 bits");
+    expect(memcmp(codes, no_codes, sizeof codes) == 0 && memcmp(rows, no_rows, sizeof rows) == 0 && all_are(weights, 6, 0),
+           "a refused look gives zeros");
+}
+
+static void picture(const struct colour_table *table) {
+    static const uint16_t src[6] = {51, 102, 204, 255, 255, 255};
+    static const uint16_t above[3] = {0, 0, 256};
+    static const uint16_t expected[8] = {51, 51, 51, 255, 255, 255, KEPT, KEPT};
+    uint16_t dst[8] = {KEPT, KEPT, KEPT, KEPT, KEPT, KEPT, KEPT, KEPT};
+    uint16_t before[8];
+    uint32_t answer;
+    memcpy(before, dst, sizeof dst);
+    answer = erythmoda_picture(table->description, table->samples, ROW_PLACES - 1, 8, src, 6, dst, 8);
+    expect_number(answer, ERYTHMODA_COULD_NOT_BE_READ, "a picture through a short table");
+    answer = erythmoda_picture(table->description, table->samples, ROW_PLACES, 8, src, 5, dst, 8);
+    expect_number(answer, ERYTHMODA_PICTURE_LENGTH, "a picture of five codes");
+    answer = erythmoda_picture(table->description, table->samples, ROW_PLACES, 8, src, 6, dst, 5);
+    expect_number(answer, ERYTHMODA_OUTPUT_TOO_SHORT, "a picture into five places");
+    answer = erythmoda_picture(table->description, table->samples, ROW_PLACES, 8, above, 3, dst, 8);
+    expect_number(answer, ERYTHMODA_CODE_ABOVE_M, "a picture with the code 256");
+    expect(memcmp(dst, before, sizeof dst) == 0, "a refused picture keeps the output");
+    answer = erythmoda_picture(table->description, table->samples, ROW_PLACES, 8, src, 0, dst, 0);
+    expect_number(answer, ERYTHMODA_ACCEPTED, "a picture of no pixels");
+    expect(memcmp(dst, before, sizeof dst) == 0, "a picture of no pixels keeps the output");
+    answer = erythmoda_picture(table->description, table->samples, ROW_PLACES, 8, src, 6, dst, 8);
+    expect_number(answer, ERYTHMODA_ACCEPTED, "a picture of two pixels");
+    expect(memcmp(dst, expected, sizeof dst) == 0, "the picture's codes, and the places after them");
+}
+
+int main(void) {
+    const struct colour_table table = read_cube();
+    struct colour_table before;
+    memcpy(&before, &table, sizeof table);
+    refused_reading();
+    look(&table);
+    picture(&table);
+    expect(memcmp(&before, &table, sizeof table) == 0, "look and picture change neither description nor table");
+    if (!wrong) puts("every answer through C is as it should be");
+    return wrong ? EXIT_FAILURE : EXIT_SUCCESS;
+}

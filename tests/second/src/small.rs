@@ -1,0 +1,85 @@
+//! Makes a case on which two programs differ smaller, while they still differ.
+
+use crate::gen::{FileCase, LookCase, PictureCase};
+use crate::side::{Second, Side};
+
+/// A file without the lines, bytes and table places that the difference does not need.
+/// Long files are tried fewer times.
+pub fn smaller_file(case: &FileCase, side: &dyn Side) -> FileCase {
+    let differs = |case: &FileCase| side.read(case) != Second.read(case);
+    let tries = 200 + 20_000_000 / (case.file.len() + 1);
+    let with_file = |file: Vec<u8>| FileCase { file, ..case.clone() };
+    let lines: Vec<Vec<u8>> = case.file.split(|byte| *byte == b'\n').map(<[u8]>::to_vec).collect();
+    let lines = fewer(lines, tries, |lines| differs(&with_file(lines.join(&b'\n'))));
+    let bytes = lines.join(&b'\n');
+    let bytes = fewer(bytes, tries, |bytes| differs(&with_file(bytes.to_vec())));
+    let case = with_file(bytes);
+    let with_places = |table_len: usize| FileCase { table_len, ..case.clone() };
+    let places = (0..case.table_len.min(100)).find(|few| differs(&with_places(*few)));
+    with_places(places.unwrap_or(case.table_len))
+}
+
+/// A look with a table of as many zeros as the difference allows.
+pub fn smaller_look(case: &LookCase, side: &dyn Side) -> LookCase {
+    let with_table = |table: Vec<i64>| LookCase { table, ..case.clone() };
+    with_table(with_zeros(&case.table, |table| {
+        let case = with_table(table.to_vec());
+        side.look(&case) != Second.look(&case)
+    }))
+}
+
+/// A picture without the pixels that the difference does not need, and with zeros in its
+/// table. The output keeps as many places more or fewer than the source as it had.
+pub fn smaller_picture(case: &PictureCase, side: &dyn Side) -> PictureCase {
+    let differs = |case: &PictureCase| side.picture(case) != Second.picture(case);
+    let with_pixels = |pixels: &[Vec<u16>]| {
+        let source = pixels.concat();
+        let output_len = (case.output_len + source.len()).saturating_sub(case.source.len());
+        PictureCase { source, output_len, ..case.clone() }
+    };
+    let pixels: Vec<Vec<u16>> = case.source.chunks(3).map(<[u16]>::to_vec).collect();
+    let case = with_pixels(&fewer(pixels, 1_000, |pixels| differs(&with_pixels(pixels))));
+    let with_table = |table: Vec<i64>| PictureCase { table, ..case.clone() };
+    with_table(with_zeros(&case.table, |table| differs(&with_table(table.to_vec()))))
+}
+
+/// Leaves out runs of a list, long ones first, as long as what is left still differs and
+/// tries are left.
+fn fewer<T: Clone>(mut list: Vec<T>, tries: usize, differs: impl Fn(&[T]) -> bool) -> Vec<T> {
+    let (mut run, mut at) = (list.len(), 0);
+    for _ in 0..tries {
+        if at >= list.len() {
+            (run, at) = (run / 2, 0);
+        }
+        if run == 0 {
+            break;
+        }
+        let mut left = list.clone();
+        left.drain(at..(at + run).min(list.len()));
+        if differs(&left) {
+            list = left;
+        } else {
+            at += run;
+        }
+    }
+    list
+}
+
+/// Sets runs of a table to 0, long ones first, as long as the difference stays.
+fn with_zeros(table: &[i64], differs: impl Fn(&[i64]) -> bool) -> Vec<i64> {
+    let mut table = table.to_vec();
+    let mut run = table.len();
+    while run > 0 {
+        for start in (0..table.len()).step_by(run) {
+            let end = (start + run).min(table.len());
+            let mut zeros = table.clone();
+            zeros[start..end].fill(0);
+            if zeros != table && differs(&zeros) {
+                table = zeros;
+            }
+        }
+        // of a large table the single places are not tried
+        run = if table.len() > 5_000 && run < 64 { 0 } else { run / 2 };
+    }
+    table
+}
