@@ -35,7 +35,7 @@ mod shares;
 mod sums;
 
 // The first half: the rows and weights of a pixel, two for each colour in 1D, four for the pixel in 3D.
-pub fn shares_of(d: Description, m: u16, pixel: Codes) -> Shares
+fn shares_of(d: Description, m: u16, pixel: Codes) -> Shares
     requires { ⌜ Readable d ⌝ }
     requires { ⌜ 0 < m ⌝ }
     ensures { λ r. ⌜ r ≡ shown d m pixel (d .kind) ⌝ }
@@ -48,7 +48,7 @@ pub fn shares_of(d: Description, m: u16, pixel: Codes) -> Shares
 }
 
 // The second half: the codes that rows and weights make.
-pub fn codes_of(d: Description, table: &[i64], m: u16, shares: Shares) -> Codes
+fn codes_of(d: Description, table: &[i64], m: u16, shares: Shares) -> Codes
     requires { ⌜ couldBeRead d (now table) ≡ true ⌝ }
     requires { ⌜ 0 < m ⌝ }
     requires { ⌜ ((c : Colour) → Weighable d (now table) m shares c) ⌝ }

@@ -1,4 +1,5 @@
 // What a line says by itself, whatever stands before it: three numbers, a size, a title, by the line's form.
+use judge::in_range;
 use numbers::is_digits;
 use numbers::number_of;
 use numbers::spelt;
@@ -78,7 +79,7 @@ fn three_formed(first: Number, second: Number, third: Number) -> ThreeFound
 }
 
 // Three words from a place on, each a number, and no word more.
-pub fn three_numbers(l: &[u8], from: usize, places: usize, limit: u64) -> ThreeFound
+fn three_numbers(l: &[u8], from: usize, places: usize, limit: u64) -> ThreeFound
     requires { ⌜ (length (now l) ≤ lineLimit) × (from ≤ length (now l)) ⌝ }
     requires { ⌜ (places ≤ mostPlaces) × (limit ≤ mostLimit) ⌝ }
     ensures { λ r. ⌜ foundThree r ≡ threeOf places limit (wordsOf (drop from (now (l .entry)))) ⌝ }
@@ -182,7 +183,7 @@ pub enum RowFound {
 }
 
 // The three bounds that stand from a place on.
-pub fn bounds_on(l: &[u8], from: usize) -> BoundsFound
+fn bounds_on(l: &[u8], from: usize) -> BoundsFound
     requires { ⌜ (length (now l) ≤ lineLimit) × (from ≤ length (now l)) ⌝ }
     ensures { λ r. ⌜ ((side : Bounds → Item) → sayBounds r side ≡ boundsOf side (wordsOf (drop from (now (l .entry))))) ⌝ }
 {
@@ -225,21 +226,8 @@ pub fn row_on(l: &[u8]) -> RowFound
 
 // ---- a size
 
-// N is from 2 to 65536 in 1D, to 256 in 3D.
-const LEAST_N: u64 = 2;
-
-const GREATEST_N_1D: u64 = 65536;
-
-const GREATEST_N_3D: u64 = 256;
-
-fn greatest_n(kind: Kind) -> u64
-    ensures { λ r. ⌜ r ≡ greatestN kind ⌝ }
-{
-    match kind {
-        Kind::OneD => GREATEST_N_1D,
-        Kind::ThreeD => GREATEST_N_3D,
-    }
-}
+// No N is greater, of either kind.
+const GREATEST_N: u64 = 65536;
 
 // The size that a word gives: digits alone, in range. Digits of any length are kept at one past the greatest N, which is as far out of range as they are.
 fn size_in(kind: Kind, w: &[u8]) -> Content
@@ -248,22 +236,16 @@ fn size_in(kind: Kind, w: &[u8]) -> Content
     if !is_digits(w) {
         return Content::Wrong(Refusal::ParametersWrong);
     }
-    let n = spelt(w, 0, GREATEST_N_1D);
-    if n < LEAST_N {
+    let n = spelt(w, 0, GREATEST_N) as usize;
+    if !in_range(kind, n) {
         return Content::Wrong(Refusal::SizeOutOfRange);
     }
-    if n > greatest_n(kind) {
-        return Content::Wrong(Refusal::SizeOutOfRange);
-    }
-    Content::Says(Item::OfSize(Size {
-        kind,
-        n: n as usize,
-    }))
+    Content::Says(Item::OfSize(Size { kind, n }))
 }
 
 // The size that stands from a place on: one word.
-pub fn size_on(kind: Kind, l: &[u8], from: usize) -> Content
-    requires { ⌜ (length (now l) ≤ lineLimit) × (from ≤ length (now l)) ⌝ }
+fn size_on(kind: Kind, l: &[u8], from: usize) -> Content
+    requires { ⌜ from ≤ length (now l) ⌝ }
     ensures { λ r. ⌜ r ≡ sizeOf kind (wordsOf (drop from (now (l .entry)))) ⌝ }
 {
     let Word::At { start, end } = next_word(l, from) else {

@@ -29,7 +29,7 @@ fn is_permitted(b: u8) -> bool
 }
 
 // Space or tab.
-pub fn is_blank(b: u8) -> bool
+fn is_blank(b: u8) -> bool
     ensures { λ r. ⌜ r ≡ blank b ⌝ }
 {
     if b == b' ' {
@@ -39,7 +39,7 @@ pub fn is_blank(b: u8) -> bool
 }
 
 // 0 to 9.
-pub fn is_digit(b: u8) -> bool
+fn is_digit(b: u8) -> bool
     ensures { λ r. ⌜ r ≡ digit b ⌝ }
 {
     if b < b'0' {
@@ -75,7 +75,7 @@ pub fn is_number_byte(b: u8) -> bool
 }
 
 // Whether a byte is of a kind.
-pub fn is_kind(k: ByteKind, b: u8) -> bool
+fn is_kind(k: ByteKind, b: u8) -> bool
     ensures { λ r. ⌜ r ≡ kindOf k b ⌝ }
 {
     match k {

@@ -1,9 +1,8 @@
 -- The tests in the order of the definition, on N kept at one past its greatest.
 use mathlib.Core.Path.{sym, _∙_}
-use native.Mathlib.Omega.{arith}
 use borrow.Author.Needs.{needs}
 use borrow.Author.Tests.{not-true, not-false}
-use Rattle.content.proofs.Sizes.{in-range, no-digits, too-great, too-small}
+use Rattle.content.proofs.Sizes.{in-range, no-digits, out-of-range}
 use Rattle.content.proofs.size_in.Statement.{statement}
 use Rattle.content.proofs.size_in.Tie as tie
 
@@ -16,35 +15,20 @@ returns c = sym (no-digits _ _ (sym (c .before .is-digits .ensures) ∙ not-true
 spelt-requires : tie.Need-spelt-requires
 spelt-requires c κs = search needs
 
+in-range-requires : tie.Need-in-range-requires
+in-range-requires c κs = search needs
+
 returns-2 : tie.Need-returns-2
 returns-2 c =
-    let s = c .before in
+    let s = c .before .before in
     let d = s .before .before in
-    sym (too-small _ _ (sym (d .is-digits .ensures) ∙ not-false _ (s .before .if1 .left)) _ (s .spelt .ensures) (c .if2 .taken))
-
-greatest-n-requires : tie.Need-greatest-n-requires
-greatest-n-requires c κs = search needs
+    sym (out-of-range _ _ (sym (d .is-digits .ensures) ∙ not-false _ (s .before .if1 .left)) _ (s .spelt .ensures) (sym (c .before .in-range .ensures) ∙ not-true _ (c .if2 .taken)))
 
 returns-3 : tie.Need-returns-3
 returns-3 c =
-    let s = c .before .before .before in
+    let s = c .before .before in
     let d = s .before .before in
-    sym (too-great _ _ (sym (d .is-digits .ensures) ∙ not-false _ (s .before .if1 .left)) _ (s .spelt .ensures) (omega (arith, c .before .greatest-n .ensures, c .if3 .taken)))
-
-returns-4 : tie.Need-returns-4
-returns-4 c =
-    let s = c .before .before .before in
-    let d = s .before .before in
-    sym (in-range _ _ (sym (d .is-digits .ensures) ∙ not-false _ (s .before .if1 .left)) _ (s .spelt .ensures) (c .before .before .if2 .left) (omega (arith, c .before .greatest-n .ensures, c .if3 .left)))
+    sym (in-range _ _ (sym (d .is-digits .ensures) ∙ not-false _ (s .before .if1 .left)) _ (s .spelt .ensures) (sym (c .before .in-range .ensures) ∙ not-false _ (c .if2 .left)))
 
 pub size-in-spec : {M : Type 1} → statement M
-size-in-spec =
-    tie.close
-    (tie.spec
-    is-digits-requires
-    returns
-    spelt-requires
-    returns-2
-    greatest-n-requires
-    returns-3
-    returns-4)
+size-in-spec = tie.close (tie.spec is-digits-requires returns spelt-requires in-range-requires returns-2 returns-3)

@@ -15,7 +15,7 @@ abbrev line : tie.After-start → List ℕ
 line c = now (c .before .before .before .before .args .l)
 
 word : (c : tie.After-start) → WordFound (line c) (c .before .before .before .before .args .from) (c .start .given .0 .0) (c .start .given .0 .1 .0)
-word c = words-next _ _ _ _ (c .before .before .before .before .pre .1) (sym (c .before .before .next-word .ensures) ∙ c .start .given .1)
+word c = words-next _ _ _ _ (c .before .before .before .before .pre) (sym (c .before .before .next-word .ensures) ∙ c .start .given .1)
 
 next-word-requires : tie.Need-next-word-requires
 next-word-requires c κs = search needs
