@@ -115,7 +115,9 @@ fn reading() -> bool {
         || accepted = baseline::reading::read(file.as_bytes(), &mut plain).is_ok(),
     );
     let speed = |time: f64| file.len() as f64 * 1e3 / time;
-    println!("\nreading a 3D file, N = {READING_N}, seven decimals, {} bytes, medians of {READING_ROUNDS} rounds", file.len());
+    let bytes = file.len();
+    println!("\nreading a 3D file, N = {READING_N}, seven decimals, {bytes} bytes");
+    println!("medians of {READING_ROUNDS} rounds");
     println!("ours, MB/s\tbaseline, MB/s\tratio of times");
     println!("{:.0}\t{:.0}\t{:.2}", speed(our_time), speed(plain_time), our_time / plain_time);
     number == 0 && accepted && ours == plain

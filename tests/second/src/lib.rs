@@ -32,7 +32,7 @@ pub mod report;
 pub mod run;
 pub mod show;
 pub mod side;
-mod small;
+pub mod small;
 
 #[cfg(feature = "ours")]
 pub mod ffi;

@@ -3,16 +3,20 @@
 use crate::gen::{FileCase, LookCase, PictureCase};
 use crate::side::{Second, Side};
 
+/// Bytes without the lines, and then without the bytes, that the difference does not need.
+pub fn fewer_bytes(file: &[u8], tries: usize, differs: impl Fn(&[u8]) -> bool) -> Vec<u8> {
+    let lines: Vec<Vec<u8>> = file.split(|byte| *byte == b'\n').map(<[u8]>::to_vec).collect();
+    let lines = fewer(lines, tries, |lines| differs(&lines.join(&b'\n')));
+    fewer(lines.join(&b'\n'), tries, differs)
+}
+
 /// A file without the lines, bytes and table places that the difference does not need.
 /// Long files are tried fewer times.
 pub fn smaller_file(case: &FileCase, side: &dyn Side) -> FileCase {
     let differs = |case: &FileCase| side.read(case) != Second.read(case);
     let tries = 200 + 20_000_000 / (case.file.len() + 1);
     let with_file = |file: Vec<u8>| FileCase { file, ..case.clone() };
-    let lines: Vec<Vec<u8>> = case.file.split(|byte| *byte == b'\n').map(<[u8]>::to_vec).collect();
-    let lines = fewer(lines, tries, |lines| differs(&with_file(lines.join(&b'\n'))));
-    let bytes = lines.join(&b'\n');
-    let bytes = fewer(bytes, tries, |bytes| differs(&with_file(bytes.to_vec())));
+    let bytes = fewer_bytes(&case.file, tries, |bytes| differs(&with_file(bytes.to_vec())));
     let case = with_file(bytes);
     let with_places = |table_len: usize| FileCase { table_len, ..case.clone() };
     let places = (0..case.table_len.min(100)).find(|few| differs(&with_places(*few)));

@@ -18,6 +18,7 @@ use second::reading::{read, Reading};
 use second::report::report;
 use second::run::{run, Wanted};
 use second::show::{escaped, list, quoted};
+use second::small::fewer_bytes;
 use second::{cases, paper};
 use std::collections::BTreeMap;
 use std::io::{self, Read, Write};
@@ -130,12 +131,11 @@ fn reports(seed: &str, count: &str, program: &[&str]) -> Result<(), String> {
     let mut seen: BTreeMap<u32, u64> = BTreeMap::new();
     for index in 0..count {
         let file = report_input(seed, index);
-        let (own, theirs) = (report(&file), printed_by(program, &file));
-        let theirs = theirs.map_err(|fault| format!("{}: {fault}", program[0]))?;
-        if theirs != own {
-            let (own, theirs, file) = (escaped(&own), escaped(&theirs), quoted(&file));
+        let own = report(&file);
+        if printed_by(program, &file)? != own {
             return Err(format!(
-                "the two differ: seed {seed}, case {index}\nfile: {file}\nsecond: {own}\nother:  {theirs}"
+                "the two differ: seed {seed}, case {index}\n{}",
+                tell_report(&file, program)?
             ));
         }
         *seen.entry(report_number(&own)).or_default() += 1;
@@ -149,6 +149,16 @@ fn reports(seed: &str, count: &str, program: &[&str]) -> Result<(), String> {
     }
 }
 
+/// A differing file, made small, and what each side prints for it. Every try is a run of the
+/// program.
+fn tell_report(file: &[u8], program: &[&str]) -> Result<String, String> {
+    const TRIES: usize = 400;
+    let differs = |file: &[u8]| printed_by(program, file).is_ok_and(|bytes| bytes != report(file));
+    let file = fewer_bytes(file, TRIES, differs);
+    let (own, theirs) = (escaped(&report(&file)), escaped(&printed_by(program, &file)?));
+    Ok(format!("file:   {}\nsecond: {own}\nother:  {theirs}", quoted(&file)))
+}
+
 /// So many reports show every number.
 const ENOUGH_REPORTS: u64 = 1_000;
 
@@ -160,7 +170,11 @@ fn report_number(printed: &[u8]) -> u32 {
 }
 
 /// What a program prints for an input. A program that has seen enough may close its input.
-fn printed_by(program: &[&str], input: &[u8]) -> io::Result<Vec<u8>> {
+fn printed_by(program: &[&str], input: &[u8]) -> Result<Vec<u8>, String> {
+    run_on(program, input).map_err(|fault| format!("{}: {fault}", program[0]))
+}
+
+fn run_on(program: &[&str], input: &[u8]) -> io::Result<Vec<u8>> {
     let mut command = Command::new(program[0]);
     command.args(&program[1..]).stdin(Stdio::piped()).stdout(Stdio::piped());
     let mut child = command.spawn()?;
@@ -171,5 +185,9 @@ fn printed_by(program: &[&str], input: &[u8]) -> io::Result<Vec<u8>> {
             }
         }
     }
-    Ok(child.wait_with_output()?.stdout)
+    let output = child.wait_with_output()?;
+    match output.status.success() {
+        true => Ok(output.stdout),
+        false => Err(io::Error::other(output.status.to_string())),
+    }
 }
