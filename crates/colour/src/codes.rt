@@ -17,7 +17,7 @@ ghost use Rattle.colour.specs.Limits.{sumLimit};
 ghost use Rattle.colour.specs.Adding.{sumIn};
 
 // 1 as a sample, in ten-millionths.
-const SAMPLE_ONE: u64 = 10_000_000;
+pub const SAMPLE_ONE: u64 = 10_000_000;
 
 // The code nearest to S / (w·10,000,000): the raw and the corrected depth are one, so that M falls out.
 fn code_of(sum: Whole, dom: Domain, m: u16) -> u16

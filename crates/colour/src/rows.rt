@@ -1,4 +1,5 @@
 // A row by itself: its code for a colour, and the D over which it may carry the weight (document 01, "Interpolation").
+use crate::codes::SAMPLE_ONE;
 use crate::place::domain_of;
 use crate::place::width_of;
 use crate::sums::sample_of;
@@ -14,9 +15,6 @@ ghost use Rattle.rules.specs.Units.{sampleOne, sampleLimit};
 ghost use Rattle.rules.specs.Interpolation.{denOf, rowCode};
 ghost use Rattle.colour.specs.Places.{Readable};
 ghost use Rattle.colour.specs.Adding.{RowAt};
-
-// 1 as a sample, in ten-millionths.
-const SAMPLE_ONE: u64 = 10_000_000;
 
 // D: what the weights of a colour add up to.
 pub fn den_of(d: Description, m: u16, c: Colour) -> u64

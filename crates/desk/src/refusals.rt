@@ -21,7 +21,10 @@ pub fn write_meaning(fd: i32, reason: Refusal) {
         Refusal::LowerNotBelowUpper => write(fd, b"a lower bound not below its upper bound"),
         Refusal::DomainTooWide => write(fd, b"a domain wider than 10"),
         Refusal::DomainsDiffer => write(fd, b"3D with domains that differ between colours"),
-        Refusal::TableTooShort => write(fd, b"more rows than this program has room for"),
+        Refusal::TableTooShort => write(
+            fd,
+            b"table shorter than 3 * rows, so this program has too little room",
+        ),
         Refusal::TooManyRows => write(fd, b"more data lines than rows"),
         Refusal::NotThreeNumbers => write(fd, b"data line is not three numbers"),
         Refusal::SampleBeyond => write(fd, b"sample beyond -1000 to 1000"),
