@@ -1,13 +1,14 @@
 -- A number kept at one past the limit is judged as the number is: too great where it is, and itself where it is not.
 use Prim.Native.Nat.{ℕ, _≤_, _<_}
-use mathlib.Core.Path.{_≡_}
-use mathlib.Core.Bool.{true, false}
+use mathlib.Core.Path.{_≡_, refl}
+use mathlib.Core.Bool.{Bool, true, false, cond}
 use mathlib.Core.List.{List}
 use native.Mathlib.Omega.{arith}
-use borrow.Author.Tests.{le-leb, lt-leb}
+use borrow.Author.Tests.{le-leb, lt-leb, leb-true}
+use lib.Dec.{leb}
 use Rattle.rules.specs.Numerals.{digits, spell}
 use Rattle.numbers.specs.Cuts.{kept}
-use Rattle.desk.specs.Arguments.{argumentOf}
+use Rattle.desk.specs.Arguments.{argumentOf, UpTo}
 use Rattle.desk.specs.declared.arguments.Argument.the-variants.{Number, TooGreat, NoNumber}
 
 module _ (most : ℕ) (text : List ℕ) where
@@ -25,3 +26,13 @@ module _ (most : ℕ) (text : List ℕ) where
     at-most h =
         let s : spell 0 text ≡ n = omega arith in
         rw (d, s, le-leb n most h)
+
+  -- what an argument says is within the limit
+  pub up-to : UpTo most (argumentOf most text)
+  unfolding argumentOf
+  up-to = by (digits text) (leb (spell 0 text) most) refl
+    where
+      by : (d t : Bool) → leb (spell 0 text) most ≡ t → UpTo most (cond d (cond t (Number (spell 0 text)) TooGreat) NoNumber)
+      by true true e = leb-true _ _ e
+      by true false e = tt
+      by false t e = tt

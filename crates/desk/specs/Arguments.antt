@@ -1,5 +1,5 @@
 -- What an argument says as a number.
-use Prim.Native.Nat.{ℕ}
+use Prim.Native.Nat.{ℕ, _≤_}
 use mathlib.Core.Bool.{cond}
 use mathlib.Core.List.{List}
 use lib.Dec.{leb}
@@ -10,3 +10,9 @@ use Rattle.desk.specs.declared.arguments.Argument.the-variants.{Number, 
 -- digits alone, at least one, spell a number, which is the argument's where it is at most `most`
 unfoldable pub argumentOf : ℕ → List ℕ → Argument
 argumentOf most text = cond (digits text) (cond (leb (spell 0 text) most) (Number (spell 0 text)) TooGreat) NoNumber
+
+-- a number that it says is at most `most`
+abbrev pub UpTo : ℕ → Argument → Type 0
+UpTo most (Number n) = n ≤ most
+UpTo most TooGreat = Unit {0}
+UpTo most NoNumber = Unit {0}

@@ -4,7 +4,7 @@ use numbers::spelt;
 ghost use mathlib.Core.Path.{_≡_};
 ghost use Prim.Native.Nat.{_≤_};
 ghost use Rattle.numbers.specs.Cuts.{mostLimit};
-ghost use Rattle.desk.specs.Arguments.{argumentOf};
+ghost use Rattle.desk.specs.Arguments.{argumentOf, UpTo};
 
 // What an argument says: a number up to the limit, a greater one, or none.
 pub enum Argument {
@@ -31,6 +31,7 @@ pub fn number_in(text: &[u8], most: u64) -> Argument
 // The argument at a place of the command line; one that is missing, empty or longer than a path is no number.
 pub fn number_at(place: usize, most: u64) -> Argument
     requires { ⌜ most ≤ mostLimit ⌝ }
+    ensures { λ r. ⌜ UpTo most r ⌝ }
 {
     let mut text = io::buffer();
     let n = os::arg(place, &mut text);

@@ -1,0 +1,90 @@
+-- A colour's rows as the code keeps them, and the span of their codes: the two that carry nothing in 1D change no span.
+use Prim.Native.Nat.{ℕ, _*_, _≤_, _<_, min, max}
+use mathlib.Core.Path.{_≡_, refl, ap, ap₂, sym, subst, _∙_}
+use mathlib.Core.Bool.{true, false}
+use mathlib.Core.List.{List, [], _∷_}
+use native.Mathlib.Nat.{mul-pos}
+use native.Mathlib.Omega.{arith}
+use borrow.Author.Tests.{le-leb}
+use lib.IntN.{ℤ}
+use Rattle.rules.specs.Units.{rowsOf, inRange}
+use Rattle.rules.specs.Descriptions.{rows}
+use Rattle.rules.specs.Interpolation.{denOf, rowCode}
+use Rattle.rules.specs.Demands.{used, Each}
+use Rattle.rules.specs.declared.Colour.{Colour}
+use Rattle.rules.specs.declared.Colour.the-variants.{Red, Green, Blue}
+use Rattle.rules.specs.declared.Description.{Description}
+use Rattle.rules.specs.declared.Kind.{Kind}
+use Rattle.rules.specs.declared.Kind.the-variants.{OneD, ThreeD}
+use Rattle.rules.specs.declared.Share.{Share}
+use Rattle.rules.specs.declared.Shares.{Shares}
+use Rattle.rules.proofs.Tests.{both-and}
+use Rattle.rules.proofs.Judged.{Sound, sound-of, wide-enough}
+use Rattle.colour.specs.Adding.{RowAt}
+use Rattle.colour.proofs.Weighing.{row-stands}
+use Rattle.explain.specs.declared.rows.Four.{Four}
+use Rattle.explain.specs.declared.rows.Span.{Span}
+use Rattle.explain.specs.Spans.{carries, widened, spanOf, shownSpan, listed, fourOf, Seen}
+
+pub four-for : {k kind : Kind} {x c : Colour} (shares : Shares) → kind ≡ k → c ≡ x → fourOf k x shares ≡ fourOf kind c shares
+four-for shares e f = ap₂ (λ a b. fourOf a b shares) (sym e) (sym f)
+
+pub four-spans : (codeOf : ℕ → ℕ) (m : ℕ) (k : Kind) (c : Colour) (shares : Shares) → spanOf codeOf m (fourOf k c shares) ≡ spanOf codeOf m (used k c shares)
+unfolding spanOf widened carries
+four-spans codeOf m ThreeD c shares = refl
+four-spans codeOf m OneD Red shares = refl
+four-spans codeOf m OneD Green shares = refl
+four-spans codeOf m OneD Blue shares = refl
+
+-- ---- one row more
+
+module _ (codeOf : ℕ → ℕ) (s : Share) (span : Span) where
+  pub idle-same : carries s ≡ false → span ≡ widened codeOf s span
+  unfolding widened
+  idle-same e = rw e
+
+  pub carrying-widens : (code least greatest : ℕ) → carries s ≡ true → code ≡ codeOf (s .row) → least ≡ min code (span .least) → greatest ≡ max code (span .greatest)
+      → record { least = least; greatest = greatest } ≡ widened codeOf s span
+  unfolding widened
+  carrying-widens code least greatest e is low high =
+      rw e (ap₂ (λ a b. record { least = a; greatest = b }) (low ∙ ap (λ x. min x (span .least)) is) (high ∙ ap (λ x. max x (span .greatest)) is))
+
+-- ---- the rows of a look that is shown stand in the table
+
+module _ {d : Description} {table : List ℤ} {m : ℕ} {shares : Shares} (seen : Seen d table m shares) where
+  abbrev sound : Sound d table
+  sound = sound-of d table (seen .could)
+
+  stand-all : (ss : List Share) → Each (λ s. s .row < rows d) ss → Each (λ s. RowAt table (3 * s .row)) ss
+  stand-all [] h = tt
+  stand-all (s ∷ ss) h = (row-stands d table sound (s .row) (h .0), stand-all ss (h .1))
+
+  first-row : RowAt table 0
+  first-row = row-stands d table sound 0 (rows-there (d .kind) (d .n) (sound .least))
+    where
+      rows-there : (k : Kind) (n : ℕ) → 2 ≤ n → 0 < rowsOf k n
+      rows-there OneD n h = omega arith
+      rows-there ThreeD n h = mul-pos (mul-pos (omega arith) (omega arith)) (omega arith)
+
+  pub four-stand : (k : Kind) → d .kind ≡ k → (c : Colour) → Each (λ s. RowAt table (3 * s .row)) (fourOf k c shares)
+  four-stand k e c = by k c (stand-all (used k c shares) (subst (λ x. Each (λ s. s .row < rows d) (used x c shares)) e (seen .in-table c)))
+    where
+      by : (k : Kind) (c : Colour) → Each (λ s. RowAt table (3 * s .row)) (used k c shares) → Each (λ s. RowAt table (3 * s .row)) (fourOf k c shares)
+      by ThreeD c h = h
+      by OneD Red h = (h .0, (h .1 .0, (first-row, (first-row, tt))))
+      by OneD Green h = (h .0, (h .1 .0, (first-row, (first-row, tt))))
+      by OneD Blue h = (h .0, (h .1 .0, (first-row, (first-row, tt))))
+
+  pub in-range : inRange (d .kind) (d .n) ≡ true
+  in-range = both-and _ _ (le-leb _ _ (sound .least)) (le-leb _ _ (sound .most))
+
+  pub den-there : (c : Colour) → 0 < denOf d m c
+  den-there c = mul-pos (seen .deep) (wide-enough (sound .domains c))
+
+  pub listed-stand : (c : Colour) (four : Four) → listed four ≡ fourOf (d .kind) c shares → Each (λ s. RowAt table (3 * s .row)) (listed four)
+  listed-stand c four e = subst (Each (λ s. RowAt table (3 * s .row))) (sym e) (four-stand (d .kind) refl c)
+
+  -- the span of the four is what is shown
+  pub four-shown : (c : Colour) (four : Four) → listed four ≡ fourOf (d .kind) c shares
+      → spanOf (rowCode m (denOf d m c) table c) m (listed four) ≡ shownSpan d table m shares c
+  four-shown c four e = let codeOf = rowCode m (denOf d m c) table c in ap (spanOf codeOf m) e ∙ four-spans codeOf m (d .kind) c shares

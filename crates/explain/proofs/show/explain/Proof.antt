@@ -1,0 +1,95 @@
+-- What the look ensures is all that is asked of one that is shown.
+use mathlib.Core.Path.{sym, _∙_}
+use Rattle.explain.proofs.Between.{seen}
+use borrow.Author.Needs.{needs}
+use Rattle.explain.proofs.show.explain.Statement.{statement}
+use Rattle.explain.proofs.show.explain.Tie as tie
+
+of-requires : tie.Need-of-requires
+of-requires c κs = search needs
+
+enum-known-depth : tie.Need-enum-known-depth
+enum-known-depth c = search needs
+
+enum-told : tie.Need-enum-told
+enum-told c = search needs
+
+slice-aggregate-say-refusal : tie.Need-slice-aggregate-say-refusal
+slice-aggregate-say-refusal c = search needs
+
+say-refusal-requires : tie.Need-say-refusal-requires
+say-refusal-requires c κs = search needs
+
+returns : tie.Need-returns
+returns c = search needs
+
+enum-known-pixel : tie.Need-enum-known-pixel
+enum-known-pixel c = search needs
+
+enum-told-2 : tie.Need-enum-told-2
+enum-told-2 c = search needs
+
+slice-aggregate-say-refusal-2 : tie.Need-slice-aggregate-say-refusal-2
+slice-aggregate-say-refusal-2 c = search needs
+
+say-refusal-requires-2 : tie.Need-say-refusal-requires-2
+say-refusal-requires-2 c κs = search needs
+
+returns-2 : tie.Need-returns-2
+returns-2 c = search needs
+
+look-requires : tie.Need-look-requires
+look-requires c κs = search needs
+
+enum-known-reason : tie.Need-enum-known-reason
+enum-known-reason c = search needs
+
+slice-aggregate-say-refusal-3 : tie.Need-slice-aggregate-say-refusal-3
+slice-aggregate-say-refusal-3 c = search needs
+
+say-refusal-requires-3 : tie.Need-say-refusal-requires-3
+say-refusal-requires-3 c κs = search needs
+
+enum-known-codes : tie.Need-enum-known-codes
+enum-known-codes c = search needs
+
+show-pixel-requires : tie.Need-show-pixel-requires
+show-pixel-requires c κs = search needs
+
+show-look-requires : tie.Need-show-look-requires
+show-look-requires c κs =
+    let codes = c .before .before in
+    let look = codes .before .before in
+    let depth = look .before .before .before .before .before in
+    seen (look .look .ensures) (codes .codes .given .1) (depth .depth .given .0 .0) (sym (depth .before .before .of .ensures) ∙ depth .depth .given .1)
+
+returns-3 : tie.Need-returns-3
+returns-3 c = search needs
+
+returns-4 : tie.Need-returns-4
+returns-4 c = search needs
+
+pub explain-spec : {M : Type 1} → statement M
+explain-spec =
+    tie.close
+    (tie.spec
+    of-requires
+    enum-known-depth
+    enum-told
+    slice-aggregate-say-refusal
+    say-refusal-requires
+    returns
+    enum-known-pixel
+    enum-told-2
+    slice-aggregate-say-refusal-2
+    say-refusal-requires-2
+    returns-2
+    look-requires
+    enum-known-reason
+    slice-aggregate-say-refusal-3
+    say-refusal-requires-3
+    enum-known-codes
+    show-pixel-requires
+    show-look-requires
+    returns-3
+    returns-4)

@@ -1,0 +1,51 @@
+-- The least and the greatest code of the rows that carry a colour's weight.
+use Prim.Native.Nat.{ℕ, _<_, min, max}
+use mathlib.Core.Path.{_≡_}
+use mathlib.Core.Bool.{Bool, true, cond}
+use mathlib.Core.List.{List, [], _∷_, _++_}
+use lib.IntN.{ℤ, pos}
+use lib.Signed.{ltZ}
+use Rattle.rules.specs.Descriptions.{rows, couldBeRead}
+use Rattle.rules.specs.Interpolation.{share, denOf, rowCode}
+use Rattle.rules.specs.Demands.{used, Each}
+use Rattle.rules.specs.declared.Colour.{Colour}
+use Rattle.rules.specs.declared.Description.{Description}
+use Rattle.rules.specs.declared.Kind.{Kind}
+use Rattle.rules.specs.declared.Kind.the-variants.{OneD, ThreeD}
+use Rattle.rules.specs.declared.Share.{Share}
+use Rattle.rules.specs.declared.Shares.{Shares}
+use Rattle.explain.specs.declared.rows.Four.{Four}
+use Rattle.explain.specs.declared.rows.Span.{Span}
+
+-- whether a row carries weight
+unfoldable pub carries : Share → Bool
+carries s = ltZ (pos 0) (s .weight)
+
+-- with one row more, by what code a row has; a row that carries no weight changes nothing
+unfoldable pub widened : (ℕ → ℕ) → Share → Span → Span
+widened codeOf s span =
+    cond (carries s) (record { least = min (codeOf (s .row)) (span .least); greatest = max (codeOf (s .row)) (span .greatest) }) span
+
+-- of all that carry weight, for codes up to m; of none, the least is m and the greatest 0
+unfoldable pub spanOf : (ℕ → ℕ) → ℕ → List Share → Span
+spanOf codeOf m [] = record { least = m; greatest = 0 }
+spanOf codeOf m (s ∷ ss) = widened codeOf s (spanOf codeOf m ss)
+
+-- what is shown of a colour
+abbrev pub shownSpan : Description → List ℤ → ℕ → Shares → Colour → Span
+shownSpan d table m shares c = spanOf (rowCode m (denOf d m c) table c) m (used (d .kind) c shares)
+
+-- ---- as the code keeps a colour's rows: in 1D with two that carry nothing
+
+abbrev pub listed : Four → List Share
+listed f = f .first ∷ f .second ∷ f .third ∷ f .fourth ∷ []
+
+abbrev pub fourOf : Kind → Colour → Shares → List Share
+fourOf OneD c s = used OneD c s ++ (share 0 0 ∷ share 0 0 ∷ [])
+fourOf ThreeD c s = used ThreeD c s
+
+-- what is asked of a look that is shown
+pub record Seen (d : Description) (table : List ℤ) (m : ℕ) (shares : Shares) : Type 0 where
+  pub could : couldBeRead d table ≡ true
+  pub deep : 0 < m
+  pub in-table : (c : Colour) → Each (λ s. s .row < rows d) (used (d .kind) c shares)

@@ -1,0 +1,81 @@
+// The arguments after the table: a depth and a pixel.
+use desk::Argument;
+use desk::number_at;
+use rules::Codes;
+
+// The greatest code of any depth. No depth has more bits either.
+const MOST: u32 = 65_535;
+
+// What the arguments ask about: a depth and three codes, or nothing that can be understood.
+pub enum Asked {
+    Plainly {
+        bits: u32,
+        red: u32,
+        green: u32,
+        blue: u32,
+    },
+    Unclear,
+}
+
+// A pixel, or that one of the codes is greater than any depth has.
+pub enum Pixel {
+    Held(Codes),
+    Beyond,
+}
+
+// What one argument gives.
+enum Given {
+    Value(u32),
+    NoNumber,
+}
+
+// Numbers past the greatest are as good as the next one: look refuses them all alike.
+fn value_at(place: usize) -> Given {
+    match number_at(place, MOST as u64) {
+        Argument::Number(n) => Given::Value(n as u32),
+        Argument::TooGreat => Given::Value(MOST + 1),
+        Argument::NoNumber => Given::NoNumber,
+    }
+}
+
+// Five arguments after the program's name, and four of them numbers.
+pub fn read_arguments() -> Asked {
+    if os::arg_count() != 6 {
+        return Asked::Unclear;
+    }
+    let Given::Value(bits) = value_at(2) else {
+        return Asked::Unclear;
+    };
+    let Given::Value(red) = value_at(3) else {
+        return Asked::Unclear;
+    };
+    let Given::Value(green) = value_at(4) else {
+        return Asked::Unclear;
+    };
+    let Given::Value(blue) = value_at(5) else {
+        return Asked::Unclear;
+    };
+    Asked::Plainly {
+        bits,
+        red,
+        green,
+        blue,
+    }
+}
+
+pub fn pixel_of(red: u32, green: u32, blue: u32) -> Pixel {
+    if red > MOST {
+        return Pixel::Beyond;
+    }
+    if green > MOST {
+        return Pixel::Beyond;
+    }
+    if blue > MOST {
+        return Pixel::Beyond;
+    }
+    Pixel::Held(Codes {
+        red: red as u16,
+        green: green as u16,
+        blue: blue as u16,
+    })
+}

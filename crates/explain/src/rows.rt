@@ -1,0 +1,122 @@
+// The rows that a colour's code is made of, and the least and the greatest of their codes.
+use colour::row_code;
+use rules::Colour;
+use rules::Description;
+use rules::Kind;
+use rules::Share;
+use rules::Shares;
+ghost use mathlib.Core.Path.{_≡_};
+ghost use mathlib.Core.List.{[], _∷_};
+ghost use Prim.Native.Nat.{ℕ, _*_, _<_, min, max};
+ghost use Rattle.rules.specs.Interpolation.{share, rowCode};
+ghost use Rattle.rules.specs.Demands.{Each};
+ghost use Rattle.colour.specs.Adding.{RowAt};
+ghost use Rattle.explain.specs.Spans.{carries, widened, spanOf, shownSpan, listed, fourOf, Seen};
+
+// A colour's rows and weights: in 1D two, and two that carry nothing.
+pub struct Four {
+    pub first: Share,
+    pub second: Share,
+    pub third: Share,
+    pub fourth: Share,
+}
+
+// The least and the greatest of some codes.
+pub struct Span {
+    pub least: u16,
+    pub greatest: u16,
+}
+
+fn two(first: Share, second: Share) -> Four
+    ensures { λ r. ⌜ listed r ≡ first ∷ second ∷ share 0 0 ∷ share 0 0 ∷ [] ⌝ }
+{
+    let idle = Share { row: 0, weight: 0 };
+    Four {
+        first,
+        second,
+        third: idle,
+        fourth: idle,
+    }
+}
+
+// The rows and weights of a colour, of the six that a look shows.
+pub fn four_of(kind: Kind, c: Colour, shares: Shares) -> Four
+    ensures { λ r. ⌜ listed r ≡ fourOf kind c shares ⌝ }
+{
+    let first = shares.first;
+    let second = shares.second;
+    let third = shares.third;
+    let fourth = shares.fourth;
+    let fifth = shares.fifth;
+    let sixth = shares.sixth;
+    let Kind::OneD = kind else {
+        return Four {
+            first,
+            second,
+            third,
+            fourth,
+        };
+    };
+    match c {
+        Colour::Red => two(first, second),
+        Colour::Green => two(third, fourth),
+        Colour::Blue => two(fifth, sixth),
+    }
+}
+
+// Whether a row carries weight.
+pub fn carries(share: Share) -> bool
+    ensures { λ r. ⌜ r ≡ carries share ⌝ }
+{
+    share.weight > 0
+}
+
+fn lesser(a: u16, b: u16) -> u16
+    ensures { λ r. ⌜ r ≡ min a b ⌝ }
+{
+    if b < a { b } else { a }
+}
+
+fn greater(a: u16, b: u16) -> u16
+    ensures { λ r. ⌜ r ≡ max a b ⌝ }
+{
+    if a < b { b } else { a }
+}
+
+// With one row more; a row that carries no weight changes nothing.
+fn wider(span: Span, table: &[i64], m: u16, c: Colour, share: Share) -> Span
+    requires { ⌜ RowAt (now table) (3 * share .row) ⌝ }
+    ensures { λ r. ⌜ ((den : ℕ) → 0 < den → r ≡ widened (rowCode m den (now (table .entry)) c) share span) ⌝ }
+{
+    if !carries(share) {
+        return span;
+    }
+    let code = row_code(table, m, c, share.row);
+    let least = lesser(code, span.least);
+    let greatest = greater(code, span.greatest);
+    Span { least, greatest }
+}
+
+// The least and the greatest code of the rows that carry weight; the last is added first.
+fn span_of(table: &[i64], m: u16, c: Colour, four: Four) -> Span
+    requires { ⌜ Each (λ s. RowAt (now table) (3 * s .row)) (listed four) ⌝ }
+    ensures { λ r. ⌜ ((den : ℕ) → 0 < den → r ≡ spanOf (rowCode m den (now (table .entry)) c) m (listed four)) ⌝ }
+{
+    let none = Span {
+        least: m,
+        greatest: 0,
+    };
+    let last = wider(none, table, m, c, four.fourth);
+    let last_two = wider(last, table, m, c, four.third);
+    let last_three = wider(last_two, table, m, c, four.second);
+    wider(last_three, table, m, c, four.first)
+}
+
+// The least and the greatest code of the rows that a colour's code is made of. The code never lies outside them.
+pub fn span_shown(d: Description, table: &[i64], m: u16, shares: Shares, c: Colour) -> Span
+    requires { ⌜ Seen d (now table) m shares ⌝ }
+    ensures { λ r. ⌜ r ≡ shownSpan d (now (table .entry)) m shares c ⌝ }
+{
+    let kind = d.kind;
+    span_of(table, m, c, four_of(kind, c, shares))
+}
