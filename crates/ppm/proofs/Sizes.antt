@@ -20,7 +20,7 @@ UpTo limit (Says number) = number .value ≤ limit
 UpTo limit (Lacks fault) = Unit {0}
 
 -- where one of two is chosen, what holds of both holds
-either : {A : Type 0} (P : A → Type 0) (t : Bool) {x y : A} → P x → P y → P (cond t x y)
+pub either : {A : Type 0} (P : A → Type 0) (t : Bool) {x y : A} → P x → P y → P (cond t x y)
 either P true p q = p
 either P false p q = q
 
