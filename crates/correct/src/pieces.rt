@@ -26,7 +26,7 @@ struct Piece {
     bytes: usize,
 }
 
-// `picture` judges the whole table at each call, so a piece is much larger than it would have to be for the memory's sake.
+// `picture` judges the whole table at each call, so a piece is as large as fits the stack with ease.
 const PIECE_PIXELS: usize = 32_768;
 
 // Corrects the pixels that the first n bytes are, up to the first that has a code above the greatest, into the same bytes.

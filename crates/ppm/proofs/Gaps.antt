@@ -1,13 +1,13 @@
 -- The gap before a number, from the place that a scan has come to: one byte more, a byte that ends it, and the end.
-use Prim.Native.Nat.{ℕ, suc, _+_, _≤_, _<_}
+use Prim.Native.Nat.{ℕ, _+_, _≤_, _<_}
 use mathlib.Core.Path.{_≡_}
-use mathlib.Core.Bool.{Bool, true, false, cond}
-use mathlib.Core.List.{List, [], _∷_}
+use mathlib.Core.Bool.{Bool, true, false}
+use mathlib.Core.List.{List}
 use native.Mathlib.Numerals.{add-one}
 use native.Mathlib.Omega.{arith}
-use lib.ListN.{length, getD, drop, drop-of-length-le, length-drop}
+use lib.ListN.{length, getD, drop, drop-of-length-le}
 use lib.Seq.{drop-cons}
-use Rattle.ppm.specs.Header.{goesOn, commentAfter, gapLength, gapEnd}
+use Rattle.ppm.specs.Header.{goesOn, commentAfter, gapLength}
 
 -- the gap's length, where its first i bytes are passed
 abbrev pub gapFrom : Bool → List ℕ → ℕ → ℕ

@@ -8,12 +8,10 @@ use lib.Dec.{eqb, leb, ltb}
 use lib.ListN.{length, getD, take, drop}
 use Rattle.rules.specs.Numerals.{spell}
 use Rattle.ppm.specs.Header.{Sized, mostSize, whitespace, counted, gapEnd, digitsEnd, fieldBetween, fieldAt, withMaxval, afterHeight, withHeight, afterWidth, withWidth, startsP6, headerOf}
-use Rattle.ppm.specs.declared.header.Count.{Count}
 use Rattle.ppm.specs.declared.header.Fault.{Fault}
 use Rattle.ppm.specs.declared.header.Fault.the-variants.{Beyond}
 use Rattle.ppm.specs.declared.header.Field.{Field}
 use Rattle.ppm.specs.declared.header.Field.the-variants.{Says, Lacks}
-use Rattle.ppm.specs.declared.header.Header.{Header}
 use Rattle.ppm.specs.declared.header.Part.{Part}
 
 -- a number that is found is within its limit
@@ -22,7 +20,7 @@ UpTo limit (Says number) = number .value ≤ limit
 UpTo limit (Lacks fault) = Unit {0}
 
 -- where one of two is chosen, what holds of both holds
-either : {A : Type 0} (P : A → Type 0) (t : Bool) {x y : A} → P x → P y → P (cond t x y)
+pub either : {A : Type 0} (P : A → Type 0) (t : Bool) {x y : A} → P x → P y → P (cond t x y)
 either P true p q = p
 either P false p q = q
 

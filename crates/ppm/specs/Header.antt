@@ -2,7 +2,7 @@
 -- whitespace, and a single whitespace byte after maxval. A comment goes from # to the end of its line.
 -- We are narrower in one thing: # directly after P6 or a digit is refused, since a comment there may be read in two ways.
 use Prim.Native.Nat.{ℕ, _+_, _-_, _≤_}
-use mathlib.Core.Bool.{Bool, true, false, cond, not, _&&_, _||_}
+use mathlib.Core.Bool.{Bool, false, cond, not, _&&_, _||_}
 use mathlib.Core.List.{List, [], _∷_}
 use lib.Dec.{eqb, leb, ltb}
 use lib.ListN.{length, take, drop, getD}

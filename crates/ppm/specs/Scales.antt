@@ -26,7 +26,7 @@ abbrev pub depthWith : ℕ → DepthFound
 depthWith m = KnownDepth (record { greatest = m })
 
 -- a scale fits a maxval: maxval is the greatest code of its depth, and above 255 a code is two bytes
-pub record Fits (maxval : ℕ) (s : Scale) : Type 0 where
+pub record ScaleFits (maxval : ℕ) (s : Scale) : Type 0 where
   pub depth : depthOf (s .bits) ≡ depthWith maxval
   pub greatest : s .greatest ≡ maxval
   pub wide : s .wide ≡ ltb 255 maxval

@@ -3,7 +3,6 @@ use denote.Ref.{now}
 use mathlib.Core.Path.{subst}
 use Rattle.desk.specs.Loads.{Loads}
 use Rattle.correct.proofs.Loading.{loaded-could}
-use native.Mathlib.Omega.{arith}
 use borrow.Author.Needs.{needs}
 use Rattle.correct.proofs.correct_by.Statement.{statement}
 use Rattle.correct.proofs.correct_by.Tie as tie

@@ -3,7 +3,6 @@ use mathlib.Core.Path.{sym, ap, subst, _∙_}
 use Rattle.ppm.specs.Header.{Sized}
 use Rattle.ppm.specs.Scales.{depthWith}
 use Rattle.ppm.proofs.Scaling.{scale-fits}
-use native.Mathlib.Omega.{arith}
 use borrow.Author.Needs.{needs}
 use Rattle.correct.proofs.correct_input.Statement.{statement}
 use Rattle.correct.proofs.correct_input.Tie as tie

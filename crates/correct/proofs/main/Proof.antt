@@ -3,7 +3,6 @@ use Prim.Native.Nat.{ℕ}
 use mathlib.Core.Path.{sym}
 use lib.IntN.{pos}
 use lib.ListN.{length-replicate}
-use native.Mathlib.Omega.{arith}
 use borrow.Author.Needs.{needs}
 use Rattle.correct.proofs.main.Statement.{statement}
 use Rattle.correct.proofs.main.Tie as tie

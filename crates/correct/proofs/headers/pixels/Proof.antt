@@ -1,6 +1,5 @@
 -- The product of two numbers within the limit is within the limit's square.
 use native.Mathlib.Nat.{mul-le-mul}
-use borrow.Author.Needs.{needs}
 use native.Mathlib.Omega.{arith}
 use Rattle.correct.proofs.headers.pixels.Statement.{statement}
 use Rattle.correct.proofs.headers.pixels.Tie as tie

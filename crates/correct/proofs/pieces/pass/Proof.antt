@@ -1,7 +1,6 @@
 -- The three arrays have the lengths that a piece asks for.
 use Prim.Native.Nat.{ℕ}
 use lib.ListN.{length-replicate}
-use native.Mathlib.Omega.{arith}
 use borrow.Author.Needs.{needs}
 use Rattle.correct.proofs.pieces.pass.Statement.{statement}
 use Rattle.correct.proofs.pieces.pass.Tie as tie

@@ -1,7 +1,5 @@
 -- Each arm of the match knows the maxval; the last knows that it is none of the four.
 use borrow.Author.Tests.{ne-eqb}
-use borrow.Author.Needs.{needs}
-use native.Mathlib.Omega.{arith}
 use Rattle.ppm.proofs.depth.scale_of.Statement.{statement}
 use Rattle.ppm.proofs.depth.scale_of.Tie as tie
 

@@ -1,7 +1,6 @@
 -- Maxval is the last number, or what is wrong with it.
 use mathlib.Core.Path.{sym, ap, _∙_}
 use Rattle.ppm.specs.Header.{withMaxval, afterHeight}
-use native.Mathlib.Omega.{arith}
 use borrow.Author.Needs.{needs}
 use Rattle.ppm.proofs.header.after_height.Statement.{statement}
 use Rattle.ppm.proofs.header.after_height.Tie as tie

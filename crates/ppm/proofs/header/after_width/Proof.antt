@@ -2,7 +2,6 @@
 use denote.Ref.{now}
 use mathlib.Core.Path.{sym, ap, subst, _∙_}
 use Rattle.ppm.specs.Header.{EndsWithin, withHeight, afterWidth}
-use native.Mathlib.Omega.{arith}
 use borrow.Author.Needs.{needs}
 use Rattle.ppm.proofs.header.after_width.Statement.{statement}
 use Rattle.ppm.proofs.header.after_width.Tie as tie

@@ -1,7 +1,5 @@
 -- Outside of a comment # begins one; in one, newline and carriage return end it.
 use borrow.Author.Tests.{eq-eqb, ne-eqb, not-true, not-false}
-use borrow.Author.Needs.{needs}
-use native.Mathlib.Omega.{arith}
 use Rattle.ppm.proofs.header.comment_after.Statement.{statement}
 use Rattle.ppm.proofs.header.comment_after.Tie as tie
 

@@ -5,7 +5,6 @@ use mathlib.Core.Path.{ap, _∙_}
 use lib.ListN.{length}
 use Rattle.rules.specs.Lines.{digit, run}
 use Rattle.scan.proofs.Runs.{part-to-end}
-use native.Mathlib.Omega.{arith}
 use borrow.Author.Needs.{needs}
 use Rattle.ppm.proofs.header.digits_end.Statement.{statement}
 use Rattle.ppm.proofs.header.digits_end.Tie as tie

@@ -5,7 +5,6 @@ use mathlib.Core.Path.{ap, _∙_}
 use mathlib.Core.Bool.{false}
 use Rattle.scan.proofs.Runs.{part-to-end}
 use Rattle.ppm.specs.Header.{gapLength}
-use native.Mathlib.Omega.{arith}
 use borrow.Author.Needs.{needs}
 use Rattle.ppm.proofs.header.gap_end.Statement.{statement}
 use Rattle.ppm.proofs.header.gap_end.Tie as tie

@@ -1,6 +1,5 @@
 -- In a comment, at its #, or whitespace.
 use borrow.Author.Tests.{eq-eqb, ne-eqb}
-use native.Mathlib.Omega.{arith}
 use borrow.Author.Needs.{needs}
 use Rattle.ppm.proofs.header.goes_on.Statement.{statement}
 use Rattle.ppm.proofs.header.goes_on.Tie as tie

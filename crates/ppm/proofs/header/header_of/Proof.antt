@@ -6,7 +6,6 @@ use borrow.Author.Tests.{lt-ltb, le-ltb, not-true, not-false}
 use lib.Dec.{ltb}
 use lib.ListN.{length}
 use Rattle.ppm.specs.Header.{EndsWithin, startsP6, withWidth, headerOf}
-use native.Mathlib.Omega.{arith}
 use borrow.Author.Needs.{needs}
 use Rattle.ppm.proofs.header.header_of.Statement.{statement}
 use Rattle.ppm.proofs.header.header_of.Tie as tie

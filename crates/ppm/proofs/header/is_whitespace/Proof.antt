@@ -1,7 +1,5 @@
 -- Space first, then 9 to 13.
 use borrow.Author.Tests.{eq-eqb, ne-eqb, lt-leb, le-leb}
-use borrow.Author.Needs.{needs}
-use native.Mathlib.Omega.{arith}
 use Rattle.ppm.proofs.header.is_whitespace.Statement.{statement}
 use Rattle.ppm.proofs.header.is_whitespace.Tie as tie
 

@@ -1,7 +1,6 @@
 -- Byte by byte.
 use borrow.Author.Tests.{eq-eqb, ne-eqb}
 use Rattle.ppm.specs.Header.{startsP6}
-use native.Mathlib.Omega.{arith}
 use borrow.Author.Needs.{needs}
 use Rattle.ppm.proofs.header.starts_p6.Statement.{statement}
 use Rattle.ppm.proofs.header.starts_p6.Tie as tie

@@ -1,10 +1,10 @@
 -- The lesser byte alone, or the greater at an even place and the lesser at an odd one.
 use denote.Ref.{now}
 use Prim.Native.Nat.{_+_, _*_, _/_, _<_}
-use mathlib.Core.Path.{_≡_, sym, subst, ap, _∙_}
+use mathlib.Core.Path.{_≡_, subst, _∙_}
 use borrow.Author.Tests.{not-true, not-false}
-use lib.ListN.{length, getD}
-use Rattle.ppm.specs.Raster.{byteCount, bytesOf}
+use lib.ListN.{length}
+use Rattle.ppm.specs.Raster.{byteCount}
 use Rattle.ppm.proofs.Codes.{narrow-byte, wide-bytes}
 use native.Mathlib.Omega.{arith}
 use borrow.Author.Needs.{needs}

@@ -1,5 +1,4 @@
 -- One or two bytes for each code.
-use native.Mathlib.Omega.{arith}
 use borrow.Author.Needs.{needs}
 use Rattle.ppm.proofs.raster.byte_count.Statement.{statement}
 use Rattle.ppm.proofs.raster.byte_count.Tie as tie

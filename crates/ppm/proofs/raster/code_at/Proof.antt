@@ -1,8 +1,8 @@
 -- Two bytes make a code, or one does.
 use denote.Ref.{now}
-use Prim.Native.Nat.{_+_, _*_, _/_, _<_}
-use mathlib.Core.Path.{_≡_, sym, subst, _∙_}
-use lib.ListN.{length, getD}
+use Prim.Native.Nat.{_+_, _*_, _<_}
+use mathlib.Core.Path.{subst, _∙_}
+use lib.ListN.{length}
 use Rattle.ppm.specs.Raster.{codeCount, codesOf}
 use Rattle.ppm.proofs.Codes.{wide-code}
 use native.Mathlib.Omega.{arith}
