@@ -27,7 +27,6 @@ ghost use Prim.Native.Nat.{_+_, _≤_};
 ghost use lib.IntN.{ℤ};
 ghost use lib.ListN.{length, drop};
 ghost use Rattle.numbers.specs.Cuts.{mostLimit, mostPlaces};
-ghost use Rattle.rules.specs.Units.{greatestN};
 ghost use Rattle.rules.specs.Grammar.{lineLimit};
 ghost use Rattle.rules.specs.Lines.{wordsOf};
 ghost use Rattle.rules.specs.Content.{formed, threeOf, values, boundsOf, samplesOn, sizeOf, parameters, contentBy};
