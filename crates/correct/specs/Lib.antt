@@ -1,2 +1,3 @@
--- What a corrected piece is.
+-- When a header is known, and what a corrected piece is.
+pub mod Headers
 pub mod Pieces

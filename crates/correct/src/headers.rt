@@ -5,9 +5,11 @@ use ppm::Fault;
 use ppm::Frame;
 use ppm::Header;
 use ppm::header_of;
-ghost use Prim.Native.Nat.{_<_, _≤_};
+ghost use mathlib.Core.Path.{_≡_};
+ghost use Prim.Native.Nat.{_*_, _<_, _≤_};
 ghost use lib.ListN.{length};
 ghost use Rattle.ppm.specs.Header.{Sized, mostSize};
+ghost use Rattle.correct.specs.Headers.{settled};
 ghost use Rattle.correct.specs.Pieces.{mostPixels};
 
 // One byte more, at a place; false where the input has ended.
@@ -18,7 +20,9 @@ fn read_byte(bytes: &mut [u8], at: usize) -> bool
 }
 
 // Whether more bytes cannot change what a header says.
-fn is_settled(header: Header) -> bool {
+fn is_settled(header: Header) -> bool
+    ensures { λ r. ⌜ r ≡ settled header ⌝ }
+{
     match header {
         Header::Stands(_) => true,
         Header::Wrong(fault) => match fault {
@@ -69,7 +73,7 @@ pub fn write(frame: Frame) -> bool {
 
 pub fn pixels(frame: Frame) -> u64
     requires { ⌜ (frame .width ≤ mostSize) × (frame .height ≤ mostSize) ⌝ }
-    ensures { λ r. ⌜ r ≤ mostPixels ⌝ }
+    ensures { λ r. ⌜ (r ≡ frame .width * frame .height) × (r ≤ mostPixels) ⌝ }
 {
     frame.width * frame.height
 }

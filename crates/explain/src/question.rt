@@ -2,6 +2,8 @@
 use desk::Argument;
 use desk::number_at;
 use rules::Codes;
+ghost use mathlib.Core.Path.{_≡_};
+ghost use Rattle.explain.specs.Questions.{pixelAsked};
 
 // The greatest code of any depth. No depth has more bits either.
 const MOST: u32 = 65_535;
@@ -63,7 +65,10 @@ pub fn read_arguments() -> Asked {
     }
 }
 
-pub fn pixel_of(red: u32, green: u32, blue: u32) -> Pixel {
+// The pixel, where a code of 16 bits holds each.
+pub fn pixel_of(red: u32, green: u32, blue: u32) -> Pixel
+    ensures { λ r. ⌜ r ≡ pixelAsked red green blue ⌝ }
+{
     if red > MOST {
         return Pixel::Beyond;
     }

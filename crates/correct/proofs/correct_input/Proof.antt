@@ -58,7 +58,7 @@ pass-requires c κs =
         could = found .before .before .before .before .before .pre;
         known = fits .depth ∙ ap depthWith (sym (fits .greatest));
       },
-      c .pixels .ensures,
+      c .pixels .ensures .1,
     )
 
 say-outcome-requires : tie.Need-say-outcome-requires
