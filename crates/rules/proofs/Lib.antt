@@ -16,11 +16,12 @@ pub mod OneLine
 -- the lines in their order
 pub mod Order
 pub mod Walk
--- demand 2: acceptance is the grammar; the first refused line decides; where numbers and title stand; what is accepted is not 24
+-- demand 2: acceptance is the grammar; the first refused line decides; where numbers and title stand, and the lines by their numbers; what is accepted is not 24
 pub mod Acceptance
 pub mod Refusals
 pub mod Places
 pub mod Titles
+pub mod LineNumbers
 pub mod Bridge
 -- the test of 24 is the property `Sound`; a known depth's M
 pub mod Judged
