@@ -32,9 +32,10 @@ pub mod EitherReading
 pub mod Rule
 pub mod RowsAndWeights
 pub mod Demand3
--- demand 1: each promise decides its answer; the answers by their checks; what reading's promise decides; titles change no answer
+-- demand 1: each promise decides its answer; the answers by their checks, and the numbers that each call can answer; what reading's promise decides; titles change no answer
 pub mod Unique
 pub mod Checks
+pub mod AnswerNumbers
 pub mod Promised
 pub mod Untitled
 pub mod Crossing
