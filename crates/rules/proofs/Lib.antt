@@ -26,12 +26,13 @@ pub mod Bridge
 -- the test of 24 is the property `Sound`; a known depth's M
 pub mod Judged
 pub mod Depths
--- demand 3: either reading; the rule's own; weights and rows; what is asked of an accepted look
+-- demand 3: either reading; the rule's own; weights and rows; what is asked of an accepted look; the ends of the domain
 pub mod Layers
 pub mod EitherReading
 pub mod Rule
 pub mod RowsAndWeights
 pub mod Demand3
+pub mod DomainEnds
 -- demand 1: each promise decides its answer; the answers by their checks, and the numbers that each call can answer; what reading's promise decides; titles change no answer
 pub mod Unique
 pub mod Checks
