@@ -190,7 +190,7 @@ pub read-number : (file : List ℕ) (places : ℕ) → readNumber (read file pla
 unfolding read
 read-number file places = lines-low places 0 0 start (linesOf file)
 
--- and so does whatever keeps its promise
+-- and so does every call that keeps reading's promise
 pub reads-number : {file : List ℕ} {table table′ : List ℤ} {r : Read} → Reads file table r table′ → readNumber r ≤ 18
 reads-number {file} {table} h = omega (arith, h .number, read-number file (length table))
 
@@ -214,6 +214,7 @@ pub look-number : (d : Description) (table : List ℤ) (bits : ℕ) (pixel : Cod
 unfolding look refusalNumber
 look-number d table bits pixel = either OfLook (couldBeRead d table) _ _ (looked d table pixel (depthOf bits)) (inr (inr (inr (inl refl))))
 
+-- and so does every call that keeps look's promise
 pub looks-number : {d : Description} {table : List ℤ} {bits : ℕ} {pixel : Codes} {r : Look} → Looks d table bits pixel r → OneOf (lookNumber r) (0 ∷ 20 ∷ 23 ∷ 24 ∷ [])
 looks-number {d} {table} {bits} {pixel} h = subst (λ n. OneOf n (0 ∷ 20 ∷ 23 ∷ 24 ∷ [])) (sym (h .number)) (look-number d table bits pixel)
 
@@ -238,6 +239,7 @@ unfolding picture refusalNumber
 picture-number d table bits src places =
     either OfPicture (couldBeRead d table) _ _ (pictured (depthOf bits) src places) (inr (inr (inr (inr (inr (inl refl))))))
 
+-- and so does every call that keeps picture's promise
 pub pictures-number : {d : Description} {table : List ℤ} {bits : ℕ} {src dst dst′ : List ℕ} {r : Picture} → Pictures d table bits src dst r dst′
     → OneOf (pictureNumber r) (0 ∷ 20 ∷ 21 ∷ 22 ∷ 23 ∷ 24 ∷ [])
 pictures-number {d} {table} {bits} {src} {dst} h =

@@ -31,6 +31,7 @@ module _ (m : ℕ) (dom : Domain) (c : ℕ) where
   abbrev pub AtUpper : Type 0
   AtUpper = (pos m *ℤ dom .upper .0) ≤ℤ pos (boundOne * c)
 
+  -- 1000·c − lo·M, before it is moved
   abbrev shift : ℤ
   shift = pos (boundOne * c) -ℤ (pos m *ℤ dom .lower .0)
 
@@ -103,11 +104,14 @@ module _ (d : Description) (table : List ℤ) (m : ℕ) (pixel : Codes) (could :
       own-point d table m pixel could deep (λ _. d .n - 1) (λ k. upper-position m (domain d k) (codeIn pixel k) (d .n) (h k)) c
       ∙ ap (λ r. pos (denOf d m c) *ℤ sampleAt table r c) (last-own (d .kind) (d .n) c (sound-of d table could .least))
 
-  -- in 1D each colour by itself, whatever the others are
+  -- ---- in 1D each colour by itself, whatever the others are
+
   module _ (line : d .kind ≡ OneD) (c : Colour) where
+    -- at the lower bound or below, the sample of row 0
     pub first-row-1d : AtLower m (domain d c) (codeIn pixel c) → total table c (sharesFor d m pixel (d .kind) c) ≡ pos (denOf d m c) *ℤ sampleAt table 0 c
     first-row-1d h =
         own-line d table m pixel could deep line 0 c (lower-position m (domain d c) (codeIn pixel c) (d .n) h ∙ sym (NatL.zero-mul (denOf d m c)))
 
+    -- at the upper bound or above, the sample of row N − 1
     pub last-row-1d : AtUpper m (domain d c) (codeIn pixel c) → total table c (sharesFor d m pixel (d .kind) c) ≡ pos (denOf d m c) *ℤ sampleAt table (d .n - 1) c
     last-row-1d h = own-line d table m pixel could deep line (d .n - 1) c (upper-position m (domain d c) (codeIn pixel c) (d .n) h)

@@ -58,6 +58,7 @@ line-then (b ∷ l) s h = split (eqb b 10) h (line-then l s)
     split true g ih = absurd (omega arith)
     split false g ih = ap (onFirst b) (ih g)
 
+-- a line and no other
 line-alone : (l : List ℕ) → newlines l ≡ 0 → linesOf (l ++ []) ≡ l ∷ []
 unfolding linesOf onFirst newlines
 line-alone [] h = refl
@@ -114,7 +115,7 @@ line-stands file (v ∷ lines) l ls h = split (lines-cut file v (lines ++ (l ∷
           place = λ p. k .place (p + length v + 1) ∙ omega (arith, length-append v (10 ∷ k .before));
         }
 
--- what stands in a file as a line is one of its lines
+-- the lines of a file from a line's beginning on
 lines-after : (lines : List (List ℕ)) (before s : List ℕ) → linesOf before ≡ lines ++ ([] ∷ []) → linesOf (before ++ s) ≡ lines ++ linesOf s
 lines-after [] before s h = split (lines-cut before [] [] h)
   where
@@ -132,10 +133,12 @@ lines-after (v ∷ lines) before s h = split (lines-cut before v (lines ++ ([] �
         ∙ line-then v (s′ ++ s) (line-whole before v (lines ++ ([] ∷ [])) h)
         ∙ ap (λ (vs : List (List ℕ)). v ∷ vs) (again s′ y)
 
+-- a line up to its end, and other lines or none
 line-ends : (l rest : List ℕ) → newlines l ≡ 0 → Ends rest → (ls : List (List ℕ)) × (linesOf (l ++ rest) ≡ l ∷ ls)
 line-ends l rest h (inl e) = ([], ap (λ (x : List ℕ). linesOf (l ++ x)) e ∙ line-alone l h)
 line-ends l rest h (inr (s, e)) = (linesOf s, ap (λ (x : List ℕ). linesOf (l ++ x)) e ∙ line-then l s h)
 
+-- what stands in a file as a line is one of its lines
 pub stands-line : {file : List ℕ} {lines : List (List ℕ)} {l : List ℕ} → Stands file lines l → (ls : List (List ℕ)) × (linesOf file ≡ lines ++ (l ∷ ls))
 stands-line {lines = lines} {l = l} k =
     let (ls, e) = line-ends l (k .rest) (k .one-line) (k .ends) in
@@ -166,8 +169,9 @@ pub record RefusedEnd (file : List ℕ) (places : ℕ) (r : Refusal) (m : ℕ) :
   pub refused : endFault places (final start items) ≡ some r
   pub number : m ≡ 1 + newlines file
 
-pub refusal-number : (file : List ℕ) (places : ℕ) (r : Refusal) (m : ℕ) → read file places ≡ Refused r m → RefusedLine file places r m ⊎ RefusedEnd file places r m
-refusal-number file places r m h = by (refused-first file places r m h)
+-- every refusal is of the one or of the other
+pub line-of-refusal : (file : List ℕ) (places : ℕ) (r : Refusal) (m : ℕ) → read file places ≡ Refused r m → RefusedLine file places r m ⊎ RefusedEnd file places r m
+line-of-refusal file places r m h = by (refused-first file places r m h)
   where
     by : Stopped places 0 0 start (linesOf file) r m → RefusedLine file places r m ⊎ RefusedEnd file places r m
     by (at-line lines l rest is e n kept admitted refused) =
@@ -187,12 +191,12 @@ refusal-number file places r m h = by (refused-first file places r m h)
         inr (record { items = is; kept = kept; admitted = admitted; refused = refused; number = omega (arith, lines-count file) })
 
 -- and back: where a line or the end is so refused, reading answers that refusal with that number
-pub number-refusal : (file : List ℕ) (places : ℕ) (r : Refusal) (m : ℕ) → RefusedLine file places r m ⊎ RefusedEnd file places r m → read file places ≡ Refused r m
-number-refusal file places r m (inl k) =
+pub refusal-of-line : (file : List ℕ) (places : ℕ) (r : Refusal) (m : ℕ) → RefusedLine file places r m ⊎ RefusedEnd file places r m → read file places ≡ Refused r m
+refusal-of-line file places r m (inl k) =
     let (ls, e) = stands-line (k .stands) in
     let place : beginning 0 (k .lines) ≡ length (k .stands .before) = omega (arith, k .stands .place 0) in
     first-refused file places r m
     (at-line (k .lines) (k .line) ls (k .items) e (omega (arith, k .number, newlines-before (k .stands))) (k .kept) (k .admitted)
     (ap (λ (p : ℕ). judge places (final start (k .items)) p (k .line)) place ∙ k .refused))
-number-refusal file places r m (inr k) =
+refusal-of-line file places r m (inr k) =
     first-refused file places r m (at-end (k .items) (omega (arith, k .number, lines-count file)) (k .kept) (k .admitted) (k .refused))
