@@ -118,6 +118,17 @@ module _ (d : Description) (table : List ℤ) (raw : ℕ) (pixel : Codes) (could
           let one : (k : Colour) → level (positionOf d raw pixel k) (denOf d raw c) t ≡ j k = λ k. level-at (denOf d raw c) k t (one-den e k c) l in
           rw (one Red, one Green, one Blue)
 
+  -- in 1D each colour by itself
+  pub own-line : d .kind ≡ OneD → (j : ℕ) (c : Colour) → positionOf d raw pixel c ≡ j * denOf d raw c
+      → total table c (sharesFor d raw pixel (d .kind) c) ≡ pos (denOf d raw c) *ℤ sampleAt table j c
+  unfolding layerRow
+  own-line e j c h =
+      stairs-total table c (rule-stairs (d .kind) refl c)
+      ∙ layered-own table c (layerRow d raw pixel (d .kind) c) (denOf d raw c) j (in-own (d .kind) e)
+    where
+      in-own : (k : Kind) → k ≡ OneD → (t : ℕ) → t < denOf d raw c → layerRow d raw pixel k c t ≡ j
+      in-own k e t l = ap (λ x. layerRow d raw pixel x c t) e ∙ ap (λ p. level p (denOf d raw c) t) h ∙ level-own (denOf d raw c) j t l
+
   -- the rows are below the count of rows
   rows-below : (k : Kind) (c : Colour) → Each (λ x. x .row < rowsOf k (d .n)) (sharesFor d raw pixel k c)
   unfolding pair path

@@ -1,6 +1,6 @@
 -- A refusal is that of the first line that does not pass, or of the end, and has its number.
 use Prim.Native.Nat.{ℕ, suc, _+_}
-use mathlib.Core.Path.{_≡_, refl, ap, _∙_}
+use mathlib.Core.Path.{_≡_, refl, sym, ap, _∙_}
 use mathlib.Core.Bool.{Bool, true, false, cond}
 use mathlib.Core.List.{List, [], _∷_, _++_}
 use mathlib.Core.Option.{Option, none, some}
@@ -15,7 +15,7 @@ use Rattle.rules.specs.declared.Item.{Item}
 use Rattle.rules.specs.declared.Refusal.{Refusal}
 use Rattle.rules.specs.declared.Read.the-variants.{Refused}
 use Rattle.rules.proofs.Order.{Admitted, final}
-use Rattle.rules.proofs.Walk.{Found, Passed, passes}
+use Rattle.rules.proofs.Walk.{Found, Passed, let-pass, passes}
 use Rattle.rules.proofs.OneLine.{find, found}
 
 -- where a line begins that stands after others, the first of which begins at p
@@ -65,6 +65,42 @@ stopped places p n st (l ∷ ls) r m h = split (judge places st p l) refl h (λ 
 pub refused-first : (file : List ℕ) (places : ℕ) (r : Refusal) (m : ℕ) → read file places ≡ Refused r m → Stopped places 0 0 start (linesOf file) r m
 unfolding read
 refused-first file places r m h = stopped places 0 0 start (linesOf file) r m h
+
+-- ---- and back: the refusal of such a line, or of the end, is the answer
+
+module _ (places : ℕ) (r : Refusal) where
+  line-stops : (p n : ℕ) (st : State) (before : List (List ℕ)) (l : List ℕ) (rest : List (List ℕ)) (is : List Item)
+      → Lines p before is → Admitted places st is → judge places (final st is) (beginning p before) l ≡ refuse r
+      → readLines places p n st (before ++ (l ∷ rest)) ≡ Refused r (n + length before + 1)
+  unfolding readLines
+  line-stops p n st [] l rest [] k a e = rw e (ap (Refused r) (omega arith))
+  line-stops p n st [] l rest (i ∷ is) k a e = absurd k
+  line-stops p n st (v ∷ before) l rest [] k a e = absurd k
+  line-stops p n st (v ∷ before) l rest (i ∷ is) k a e =
+      rw (let-pass places st p v i (found p v i (k .0)) (a .0))
+      (line-stops (p + length v + 1) (suc n) (add st i) before l rest is (k .1) (a .1) e ∙ ap (Refused r) (omega arith))
+
+  end-stops : (p n : ℕ) (st : State) (ls : List (List ℕ)) (is : List Item)
+      → Lines p ls is → Admitted places st is → endFault places (final st is) ≡ some r → readLines places p n st ls ≡ Refused r (n + length ls)
+  unfolding readLines
+  end-stops p n st [] [] k a e = rw e (ap (Refused r) (omega arith))
+  end-stops p n st [] (i ∷ is) k a e = absurd k
+  end-stops p n st (l ∷ ls) [] k a e = absurd k
+  end-stops p n st (l ∷ ls) (i ∷ is) k a e =
+      rw (let-pass places st p l i (found p l i (k .0)) (a .0))
+      (end-stops (p + length l + 1) (suc n) (add st i) ls is (k .1) (a .1) e ∙ ap (Refused r) (omega arith))
+
+-- the first refused line decides the answer: its refusal and its number
+pub first-refused : (file : List ℕ) (places : ℕ) (r : Refusal) (m : ℕ) → Stopped places 0 0 start (linesOf file) r m → read file places ≡ Refused r m
+unfolding read
+first-refused file places r m (at-line before l rest is e n k a u) =
+    ap (readLines places 0 0 start) e ∙ line-stops places r 0 0 start before l rest is k a u ∙ ap (Refused r) (sym n)
+first-refused file places r m (at-end is n k a u) = end-stops places r 0 0 start (linesOf file) is k a u ∙ ap (Refused r) (sym n)
+
+-- so no file is refused in two ways
+pub refused-one : (file : List ℕ) (places : ℕ) (r q : Refusal) (m n : ℕ)
+    → Stopped places 0 0 start (linesOf file) r m → Stopped places 0 0 start (linesOf file) q n → (r ≡ q) × (m ≡ n)
+refused-one file places r q m n h k = let e : Refused r m ≡ Refused q n = sym (first-refused file places r m h) ∙ first-refused file places q n k in (cc, cc)
 
 -- the end of the file is on line 1 plus all newlines
 pub lines-count : (s : List ℕ) → length (linesOf s) ≡ 1 + newlines s

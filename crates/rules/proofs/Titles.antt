@@ -32,7 +32,7 @@ pub data Cut (s l : List ℕ) (ls : List (List ℕ)) : Type 0 where
 no-lines : (l : List ℕ) (ls : List (List ℕ)) → l ∷ ls ≡ [] → ⊥
 no-lines l ls e = let z : _≡_ {A = ℕ} 0 1 = cc in omega arith
 
-lines-some : (s : List ℕ) → linesOf s ≡ [] → ⊥
+pub lines-some : (s : List ℕ) → linesOf s ≡ [] → ⊥
 unfolding linesOf onFirst
 lines-some [] h = no-lines _ _ h
 lines-some (b ∷ rest) h = split (eqb b 10) (linesOf rest) h
