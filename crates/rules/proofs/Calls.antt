@@ -161,36 +161,39 @@ module _ {eleven table : List ℤ} {bits : ℕ} {pixel : List ℕ} {number : ℕ
         },
   )
 
-module _ {eleven table : List ℤ} {bits : ℕ} {pixel : List ℕ} {number : ℕ} {codes′ rows′ : List ℕ} {weights′ : List ℤ} (h : LooksC eleven table bits pixel number codes′ rows′ weights′) where
-  -- a refusal writes zeros
-  pub look-refused : (number ≡ 0 → ⊥) → (codes′ ≡ replicate 3 0) × (rows′ ≡ replicate 6 0) × (weights′ ≡ replicate 6 (pos 0))
-  look-refused not-0 = by (lookIn eleven table bits (pixelIn pixel)) (h .number-so) (h .codes-so) (h .rows-so) (h .weights-so)
-    where
-      by : (r : Look) → number ≡ lookNumber r → codes′ ≡ lookCodes r → rows′ ≡ lookRows r → weights′ ≡ lookWeights r
-          → (codes′ ≡ replicate 3 0) × (rows′ ≡ replicate 6 0) × (weights′ ≡ replicate 6 (pos 0))
-      by (L.Accepted c s) n codes rows weights = absurd (not-0 n)
-      by (L.Refused r) n codes rows weights = (codes, rows, weights)
+module _
+    {eleven table : List ℤ} {bits : ℕ} {pixel : List ℕ} {number : ℕ} {codes′ rows′ : List ℕ} {weights′ : List ℤ}
+    (h : LooksC eleven table bits pixel number codes′ rows′ weights′)
+  where
+    -- a refusal writes zeros
+    pub look-refused : (number ≡ 0 → ⊥) → (codes′ ≡ replicate 3 0) × (rows′ ≡ replicate 6 0) × (weights′ ≡ replicate 6 (pos 0))
+    look-refused not-0 = by (lookIn eleven table bits (pixelIn pixel)) (h .number-so) (h .codes-so) (h .rows-so) (h .weights-so)
+      where
+        by : (r : Look) → number ≡ lookNumber r → codes′ ≡ lookCodes r → rows′ ≡ lookRows r → weights′ ≡ lookWeights r
+            → (codes′ ≡ replicate 3 0) × (rows′ ≡ replicate 6 0) × (weights′ ≡ replicate 6 (pos 0))
+        by (L.Accepted c s) n codes rows weights = absurd (not-0 n)
+        by (L.Refused r) n codes rows weights = (codes, rows, weights)
 
-  pub look-accepted : number ≡ 0 → LookAccepted eleven table bits pixel codes′ rows′ weights′
-  look-accepted z = by (describedIn eleven) refl
-    where
-      by : (o : Option Description) → describedIn eleven ≡ o → LookAccepted eleven table bits pixel codes′ rows′ weights′
-      by none e = absurd (refused-not-0 CouldNotBeRead (sym (h .number-so ∙ ap lookNumber (look-undescribed eleven table bits (pixelIn pixel) e)) ∙ z))
-      by (some d) e =
-          let l = look-laid e .0 h in
-          let a = looks-right (l .looks) (sym (l .number-so) ∙ z) in
-          record {
-            d = d;
-            described = e;
-            m = a .m;
-            known = a .known;
-            codes = a .codes;
-            shares = a .shares;
-            codes-so = l .codes-so ∙ ap lookCodes (a .accepted);
-            rows-so = l .rows-so ∙ ap lookRows (a .accepted);
-            weights-so = l .weights-so ∙ ap lookWeights (a .accepted);
-            all-right = a .all-right;
-          }
+    pub look-accepted : number ≡ 0 → LookAccepted eleven table bits pixel codes′ rows′ weights′
+    look-accepted z = by (describedIn eleven) refl
+      where
+        by : (o : Option Description) → describedIn eleven ≡ o → LookAccepted eleven table bits pixel codes′ rows′ weights′
+        by none e = absurd (refused-not-0 CouldNotBeRead (sym (h .number-so ∙ ap lookNumber (look-undescribed eleven table bits (pixelIn pixel) e)) ∙ z))
+        by (some d) e =
+            let l = look-laid e .0 h in
+            let a = looks-right (l .looks) (sym (l .number-so) ∙ z) in
+            record {
+              d = d;
+              described = e;
+              m = a .m;
+              known = a .known;
+              codes = a .codes;
+              shares = a .shares;
+              codes-so = l .codes-so ∙ ap lookCodes (a .accepted);
+              rows-so = l .rows-so ∙ ap lookRows (a .accepted);
+              weights-so = l .weights-so ∙ ap lookWeights (a .accepted);
+              all-right = a .all-right;
+            }
 
 -- ---- picture
 
@@ -302,7 +305,9 @@ module _ {eleven table : List ℤ} {bits : ℕ} {src dst : List ℕ} {number : �
 
       by : (o : Option Description) → describedIn eleven ≡ o → dst′ ≡ dst
       by none e = h .memory ∙ output-undescribed eleven table bits src dst e
-      by (some d) e = h .memory ∙ output-described eleven table bits src dst e ∙ left d (picture d table bits src (length dst)) (h .number-so ∙ ap pictureNumber (picture-described eleven table bits src dst e))
+      by (some d) e =
+          h .memory ∙ output-described eleven table bits src dst e
+          ∙ left d (picture d table bits src (length dst)) (h .number-so ∙ ap pictureNumber (picture-described eleven table bits src dst e))
 
   pub picture-accepted : number ≡ 0 → PictureAccepted eleven table bits src dst dst′
   picture-accepted z = by (describedIn eleven) refl
