@@ -36,7 +36,7 @@ use Rattle.rules.specs.declared.Shares.{Shares}
 use Rattle.rules.proofs.Acceptance.{keeps-accepted}
 use Rattle.rules.proofs.Colours.{place-below}
 use Rattle.rules.proofs.Unique.{refused-not-0, reads-is, is-reads, looks-is, is-looks, pictures-is, is-pictures}
-use Rattle.rules.proofs.Checks.{PicturePassed, picture-passed, pixelAt, PictureCodes, picture-codes, output-length}
+use Rattle.rules.proofs.Checks.{look-not-24, picture-not-24, PicturePassed, picture-passed, pixelAt, PictureCodes, picture-codes, output-length}
 use Rattle.rules.proofs.Depths.{depth-bounds}
 use Rattle.rules.proofs.Demand3.{right, looks-right}
 use Rattle.rules.proofs.Promised.{Kept, refused-unchanged, reads-accepted, reads-bridge}
@@ -317,3 +317,19 @@ module _ {eleven table : List ℤ} {bits : ℕ} {src dst : List ℕ} {number : �
       by (some d) e =
           let l = picture-laid e .0 h in
           accepted-so eleven table bits src dst e (sym (pictures-is (l .pictures) .0) ∙ accepted-by (l .answer) (sym (l .number-so) ∙ z)) (l .pictures .memory)
+
+-- ---- one call after another: no look and no picture of what an accepted reading wrote is 24
+
+module _ {file : List ℕ} {table table′ eleven′ : List ℤ} {line′ : ℕ} (h : ReadsC file table 0 table′ eleven′ line′) where
+  abbrev bridged : (describedIn eleven′ ≡ some (retitled (read-accepted h refl .d) noTitle)) × (couldBeRead (retitled (read-accepted h refl .d) noTitle) table′ ≡ true)
+  bridged = read-bridge (read-accepted h refl)
+
+  pub read-then-look : {bits : ℕ} {pixel : List ℕ} {number : ℕ} {codes′ rows′ : List ℕ} {weights′ : List ℤ}
+      → LooksC eleven′ table′ bits pixel number codes′ rows′ weights′ → number ≡ 24 → ⊥
+  read-then-look {bits} {pixel} l e =
+      look-not-24 _ table′ bits (pixelIn pixel) (bridged .1) (sym (l .number-so ∙ ap lookNumber (look-described eleven′ table′ bits (pixelIn pixel) (bridged .0))) ∙ e)
+
+  pub read-then-picture : {bits : ℕ} {src dst : List ℕ} {number : ℕ} {dst′ : List ℕ} → PicturesC eleven′ table′ bits src dst number dst′ → number ≡ 24 → ⊥
+  read-then-picture {bits} {src} {dst} p e =
+      picture-not-24 _ table′ bits src (length dst) (bridged .1)
+      (sym (p .number-so ∙ ap pictureNumber (picture-described eleven′ table′ bits src dst (bridged .0))) ∙ e)
