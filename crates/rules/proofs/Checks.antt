@@ -16,7 +16,7 @@ use Rattle.rules.specs.Units.{depthOf, colourPlace, codeIn}
 use Rattle.rules.specs.Descriptions.{couldBeRead}
 use Rattle.rules.specs.Lines.{every}
 use Rattle.rules.specs.Looking.{within, shown, correct, lookAt, look}
-use Rattle.rules.specs.Answers.{lookNumber, lookCodes, pictureNumber}
+use Rattle.rules.specs.Answers.{refusalNumber, lookNumber, lookCodes, pictureNumber}
 use Rattle.rules.specs.Picturing.{pixelOf, corrected, pictureWith, pictureAt, picture, outputAfter}
 use Rattle.rules.specs.declared.Codes.{Codes}
 use Rattle.rules.specs.declared.Colour.{Colour}
@@ -84,6 +84,22 @@ module _ (d : Description) (table : List ℤ) (bits : ℕ) (pixel : Codes) where
       by-24 : (b : Bool) → couldBeRead d table ≡ b → LookPassed d table bits pixel
       by-24 true e = by-20 (depthOf bits) e refl
       by-24 false e = absurd (not-refused (look-24 d table bits pixel e))
+
+  -- what could be read is not 24
+  pub look-not-24 : couldBeRead d table ≡ true → lookNumber (look d table bits pixel) ≡ 24 → ⊥
+  unfolding refusalNumber
+  look-not-24 could z = by-20 (depthOf bits) refl
+    where
+      other : {r : Look} → look d table bits pixel ≡ r → lookNumber r ≡ 24
+      other e = sym (ap lookNumber e) ∙ z
+
+      by-23 : (m : Depth) (b : Bool) → depthOf bits ≡ Known m → within (m .greatest) pixel ≡ b → ⊥
+      by-23 m true k w = let e : _≡_ {A = ℕ} 0 24 = other (look-0 d table bits pixel m could k w) in omega arith
+      by-23 m false k w = let e : _≡_ {A = ℕ} 23 24 = other (look-23 d table bits pixel m could k w) in omega arith
+
+      by-20 : (x : DepthFound) → depthOf bits ≡ x → ⊥
+      by-20 Unknown u = let e : _≡_ {A = ℕ} 20 24 = other (look-20 d table bits pixel could u) in omega arith
+      by-20 (Known m) k = by-23 m (within (m .greatest) pixel) k refl
 
 -- ---- picture: 24, 20, 21, 22, 23, accepted
 
@@ -155,6 +171,24 @@ module _ (d : Description) (table : List ℤ) (bits : ℕ) (src : List ℕ) (pla
       by-24 : (b : Bool) → couldBeRead d table ≡ b → PicturePassed d table bits src places
       by-24 true e = by-20 (depthOf bits) e refl
       by-24 false e = absurd (not-refused (picture-24 d table bits src places e))
+
+  -- what could be read is not 24
+  pub picture-not-24 : couldBeRead d table ≡ true → pictureNumber (picture d table bits src places) ≡ 24 → ⊥
+  unfolding refusalNumber
+  picture-not-24 could z = by-20 (depthOf bits) refl
+    where
+      other : {r : Picture} → picture d table bits src places ≡ r → pictureNumber r ≡ 24
+      other e = sym (ap pictureNumber e) ∙ z
+
+      by-23 : (m : Depth) → depthOf bits ≡ Known m → Dec (length src % 3 ≡ 0) → Dec (length src ≤ places) → (b : Bool) → within-all (m .greatest) src ≡ b → ⊥
+      by-23 m k (no over) room b w = let e : _≡_ {A = ℕ} 21 24 = other (picture-21 d table bits src places m could k over) in omega arith
+      by-23 m k (yes whole) (no short) b w = let e : _≡_ {A = ℕ} 22 24 = other (picture-22 d table bits src places m could k whole (omega arith)) in omega arith
+      by-23 m k (yes whole) (yes room) false w = let e : _≡_ {A = ℕ} 23 24 = other (picture-23 d table bits src places m could k whole room w) in omega arith
+      by-23 m k (yes whole) (yes room) true w = let e : _≡_ {A = ℕ} 0 24 = other (picture-0 d table bits src places m could k whole room w) in omega arith
+
+      by-20 : (x : DepthFound) → depthOf bits ≡ x → ⊥
+      by-20 Unknown u = let e : _≡_ {A = ℕ} 20 24 = other (picture-20 d table bits src places could u) in omega arith
+      by-20 (Known m) k = by-23 m k (ℕ-discrete (length src % 3) 0) (decLe (length src) places) (within-all (m .greatest) src) refl
 
 -- ---- the pixels of a picture
 

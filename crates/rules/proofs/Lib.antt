@@ -41,6 +41,8 @@ pub mod Promised
 pub mod Untitled
 pub mod Crossing
 pub mod Fits
+-- the demands again, of the three calls that loggers link
+pub mod Calls
 -- document 01's cases, and the wrong programs that the promises rule out
 pub mod Cases
 pub mod WrongPrograms

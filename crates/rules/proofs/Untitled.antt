@@ -46,7 +46,7 @@ module _ (d : Description) (t : Title) where
   same-agree OneD = refl
   same-agree ThreeD = refl
 
-  same-24 : (table : List ℤ) → couldBeRead e table ≡ couldBeRead d table
+  pub same-24 : (table : List ℤ) → couldBeRead e table ≡ couldBeRead d table
   unfolding couldBeRead roomy
   same-24 table = rw (same-agree (d .kind))
 
