@@ -1,21 +1,19 @@
 -- The demands, of the three C calls themselves: what a call's number says of the memory that it was lent.
 -- Each call is the reading, look or picture behind it with its answer laid out as numbers, so what holds of those holds of it.
-use Prim.Native.Nat.{ℕ, _+_, _*_, _%_, _≤_, _<_}
-use mathlib.Core.Path.{_≡_, refl, sym, ap, _∙_}
+use Prim.Native.Nat.{ℕ}
+use mathlib.Core.Path.{_≡_, refl, sym, ap, subst, _∙_}
 use mathlib.Core.Bool.{true}
 use mathlib.Core.Logic.{_↔_}
-use mathlib.Core.List.{List, _++_, map}
+use mathlib.Core.List.{List, map}
 use mathlib.Core.Option.{Option, none, some}
-use native.Mathlib.Omega.{arith}
 use lib.IntN.{ℤ, pos}
-use lib.ListN.{length, drop, getD, replicate, List·getD-append}
-use lib.Seq.{drop-append-seam}
-use Rattle.rules.specs.Units.{depthOf, colourPlace, codeIn}
+use lib.ListN.{length, replicate}
+use Rattle.rules.specs.Units.{depthOf}
 use Rattle.rules.specs.Descriptions.{noTitle, zeros, couldBeRead}
 use Rattle.rules.specs.Grammar.{Keeps}
 use Rattle.rules.specs.Reading.{read}
-use Rattle.rules.specs.Looking.{look, shown, correct}
-use Rattle.rules.specs.Picturing.{picture, corrected, outputAfter}
+use Rattle.rules.specs.Looking.{look}
+use Rattle.rules.specs.Picturing.{picture, outputAfter}
 use Rattle.rules.specs.Answers.{readNumber, readLine, readDescription, lookNumber, codesOf, sharesOf, lookCodes, lookRows, lookWeights, pictureNumber}
 use Rattle.rules.specs.Promises.{Reads, Looks, Pictures}
 use Rattle.rules.specs.Boundary.{elevenOf, describedIn, pixelIn, lookIn, pictureIn, outputIn, ReadsC, LooksC, PicturesC}
@@ -34,12 +32,10 @@ use Rattle.rules.specs.declared.Refusal.the-variants.{CouldNotBeRead}
 use Rattle.rules.specs.declared.Share.{Share}
 use Rattle.rules.specs.declared.Shares.{Shares}
 use Rattle.rules.proofs.Acceptance.{keeps-accepted}
-use Rattle.rules.proofs.Colours.{place-below}
 use Rattle.rules.proofs.Unique.{refused-not-0, reads-is, is-reads, looks-is, is-looks, pictures-is, is-pictures}
-use Rattle.rules.proofs.Checks.{look-not-24, picture-not-24, PicturePassed, picture-passed, pixelAt, PictureCodes, picture-codes, output-length}
-use Rattle.rules.proofs.Depths.{depth-bounds}
-use Rattle.rules.proofs.Demand3.{right, looks-right}
-use Rattle.rules.proofs.Promised.{Kept, refused-unchanged, reads-accepted, reads-bridge}
+use Rattle.rules.proofs.Checks.{look-not-24, picture-not-24}
+use Rattle.rules.proofs.Demand3.{looks-right}
+use Rattle.rules.proofs.Promised.{Kept, refused-unchanged, reads-accepted, reads-bridge, RightPicture, pictures-right}
 use Rattle.rules.proofs.Untitled.{retitled, same-24}
 use Rattle.rules.proofs.Crossing.{crosses}
 
@@ -203,24 +199,11 @@ pub record PictureLaid (d : Description) (table : List ℤ) (bits : ℕ) (src ds
   pub pictures : Pictures d table bits src dst answer dst′
   pub number-so : number ≡ pictureNumber answer
 
--- the codes of pixel k of a picture are those of a look at it that is right
-pub record PixelRight (d : Description) (table : List ℤ) (m : ℕ) (src dst′ : List ℕ) (k : ℕ) : Type 0 where
-  pub codes : Codes
-  pub shares : Shares
-  pub written : (c : Colour) → getD dst′ (3 * k + colourPlace c) 0 ≡ codeIn codes c
-  pub all-right : (c : Colour) → Right d table m m (pixelAt src k) codes shares c
-
--- what acceptance says: whole pixels with room for their codes, each corrected, and later places as they were
+-- what acceptance says: the eleven numbers describe a table, and the picture is right by it
 pub record PictureAccepted (eleven table : List ℤ) (bits : ℕ) (src dst dst′ : List ℕ) : Type 0 where
   pub d : Description
   pub described : describedIn eleven ≡ some d
-  pub m : ℕ
-  pub known : depthOf bits ≡ Known (record { greatest = m })
-  pub whole : length src % 3 ≡ 0
-  pub room : length src ≤ length dst
-  pub as-long : length dst′ ≡ length dst
-  pub later : drop (length src) dst′ ≡ drop (length src) dst
-  pub pixels : (k : ℕ) → 3 * k < length src → PixelRight d table m src dst′ k
+  pub picture-right : RightPicture d table bits src dst dst′
 
 accepted-by : (r : Picture) → pictureNumber r ≡ 0 → r ≡ P.Accepted
 accepted-by P.Accepted z = refl
@@ -239,45 +222,6 @@ module _ (eleven table : List ℤ) (bits : ℕ) (src dst : List ℕ) where
 
   output-undescribed : describedIn eleven ≡ none → outputIn eleven table bits src dst ≡ dst
   output-undescribed e = rw e
-
-  accepted-so : {d : Description} {dst′ : List ℕ} → describedIn eleven ≡ some d → picture d table bits src (length dst) ≡ P.Accepted
-      → dst′ ≡ outputAfter d table bits src dst (picture d table bits src (length dst)) → PictureAccepted eleven table bits src dst dst′
-  unfolding outputAfter
-  accepted-so {d} {dst′} described accepted memory =
-      record {
-        d = d;
-        described = described;
-        m = q .m;
-        known = q .known;
-        whole = p .whole;
-        room = p .room;
-        as-long = ap length memory ∙ output-length d table bits src dst;
-        later = ap (drop (length src)) output ∙ ap (λ n. drop n (codes ++ rest)) (sym (q .as-long)) ∙ drop-append-seam codes rest;
-        pixels = λ k inside. record {
-          codes = correct d table (q .m) (q .m) (pixelAt src k);
-          shares = shown d (q .m) (pixelAt src k) (d .kind);
-          written = λ c.
-              ap (λ x. getD x (3 * k + colourPlace c) 0) output
-              ∙ List·getD-append codes rest 0 (3 * k + colourPlace c) (omega (arith, inside, place-below c, p .whole, q .as-long))
-              ∙ q .the-same k inside c;
-          all-right = right d table (q .m) (q .m) (pixelAt src k) (p .could) (depth-bounds bits _ (q .known) .0);
-        };
-      }
-    where
-      p : PicturePassed d table bits src (length dst)
-      p = picture-passed d table bits src (length dst) accepted
-
-      q : PictureCodes d table bits src
-      q = picture-codes d table bits src (length dst) accepted
-
-      codes : List ℕ
-      codes = corrected d table bits src
-
-      rest : List ℕ
-      rest = drop (length src) dst
-
-      output : dst′ ≡ codes ++ rest
-      output = memory ∙ ap (outputAfter d table bits src dst) accepted
 
 module _ {eleven table : List ℤ} {bits : ℕ} {src dst : List ℕ} {number : ℕ} {dst′ : List ℕ} where
   pub picture-laid : {d : Description} → describedIn eleven ≡ some d → PicturesC eleven table bits src dst number dst′ ↔ PictureLaid d table bits src dst number dst′
@@ -316,7 +260,8 @@ module _ {eleven table : List ℤ} {bits : ℕ} {src dst : List ℕ} {number : �
       by none e = absurd (refused-not-0 CouldNotBeRead (sym (h .number-so ∙ ap pictureNumber (picture-undescribed eleven table bits src dst e)) ∙ z))
       by (some d) e =
           let l = picture-laid e .0 h in
-          accepted-so eleven table bits src dst e (sym (pictures-is (l .pictures) .0) ∙ accepted-by (l .answer) (sym (l .number-so) ∙ z)) (l .pictures .memory)
+          let accepted = accepted-by (l .answer) (sym (l .number-so) ∙ z) in
+          record { d = d; described = e; picture-right = pictures-right (subst (λ r. Pictures d table bits src dst r dst′) accepted (l .pictures)) }
 
 -- ---- one call after another: no look and no picture of what an accepted reading wrote is 24
 

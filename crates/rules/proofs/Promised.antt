@@ -1,6 +1,6 @@
 -- What the promises decide, in the properties' words: an accepted file keeps the specification, a refused one leaves the table as it was;
 -- every code of an accepted picture is right, a refused one leaves the output as it was.
-use Prim.Native.Nat.{ℕ, _+_, _*_, _<_}
+use Prim.Native.Nat.{ℕ, _+_, _*_, _%_, _≤_, _<_}
 use mathlib.Core.Path.{_≡_, sym, ap, subst, _∙_}
 use mathlib.Core.Bool.{true}
 use mathlib.Core.Logic.{_↔_}
@@ -18,8 +18,8 @@ use Rattle.rules.specs.Looking.{shown, correct}
 use Rattle.rules.specs.Picturing.{corrected, picture, outputAfter}
 use Rattle.rules.specs.Demands.{Right}
 use Rattle.rules.specs.Promises.{Reads, Pictures}
+use Rattle.rules.specs.declared.Codes.{Codes}
 use Rattle.rules.specs.declared.Colour.{Colour}
-use Rattle.rules.specs.declared.Colour.the-variants.{Red, Green, Blue}
 use Rattle.rules.specs.declared.DepthFound.the-variants.{Known}
 use Rattle.rules.specs.declared.Description.{Description}
 use Rattle.rules.specs.declared.Picture.{Picture}
@@ -27,6 +27,7 @@ use Rattle.rules.specs.declared.Picture.the-variants as P
 use Rattle.rules.specs.declared.Read.{Read}
 use Rattle.rules.specs.declared.Read.the-variants.{Accepted, Refused}
 use Rattle.rules.specs.declared.Refusal.{Refusal}
+use Rattle.rules.specs.declared.Shares.{Shares}
 use Rattle.rules.proofs.Acceptance.{accepted-keeps, keeps-accepted}
 use Rattle.rules.proofs.Bridge.{bridge}
 use Rattle.rules.proofs.Places.{keeps-length}
@@ -76,12 +77,22 @@ reads-length {file} {table} (Accepted d) h =
 
 -- ---- picture
 
--- an accepted picture at the depth whose greatest code is m: the codes of each pixel are right, and later places are as they were
+-- the codes of pixel k of a picture are those of a look at it that is right
+pub record PixelRight (d : Description) (table : List ℤ) (m : ℕ) (src dst′ : List ℕ) (k : ℕ) : Type 0 where
+  pub codes : Codes
+  pub shares : Shares
+  pub written : (c : Colour) → getD dst′ (3 * k + colourPlace c) 0 ≡ codeIn codes c
+  pub all-right : (c : Colour) → Right d table m m (pixelAt src k) codes shares c
+
+-- an accepted picture, at the depth whose greatest code is m: whole pixels with room for their codes, each corrected, and later places as they were
 pub record RightPicture (d : Description) (table : List ℤ) (bits : ℕ) (src dst dst′ : List ℕ) : Type 0 where
   pub m : ℕ
   pub known : depthOf bits ≡ Known (record { greatest = m })
-  pub pixel-right : (k : ℕ) → 3 * k < length src → (c : Colour) → Right d table m m (pixelAt src k) (pixelAt dst′ k) (shown d m (pixelAt src k) (d .kind)) c
+  pub whole : length src % 3 ≡ 0
+  pub room : length src ≤ length dst
+  pub as-long : length dst′ ≡ length dst
   pub later : drop (length src) dst′ ≡ drop (length src) dst
+  pub pixels : (k : ℕ) → 3 * k < length src → PixelRight d table m src dst′ k
 
 module _ {d : Description} {table : List ℤ} {bits : ℕ} {src dst dst′ : List ℕ} where
   -- a refusal leaves the output as it was
@@ -95,36 +106,39 @@ module _ {d : Description} {table : List ℤ} {bits : ℕ} {src dst dst′ : Lis
 
   pub pictures-right : Pictures d table bits src dst P.Accepted dst′ → RightPicture d table bits src dst dst′
   unfolding outputAfter
-  pictures-right p = record { m = m; known = codes .known; pixel-right = pixel-right; later = later }
+  pictures-right h =
+      record {
+        m = q .m;
+        known = q .known;
+        whole = p .whole;
+        room = p .room;
+        as-long = pictures-length h;
+        later = ap (drop (length src)) output ∙ drop-at codes rest (length src) (q .as-long);
+        pixels = λ k inside. record {
+          codes = correct d table (q .m) (q .m) (pixelAt src k);
+          shares = shown d (q .m) (pixelAt src k) (d .kind);
+          written = λ c.
+              ap (λ x. getD x (3 * k + colourPlace c) 0) output
+              ∙ List·getD-append codes rest 0 (3 * k + colourPlace c) (omega (arith, inside, place-below c, p .whole, q .as-long))
+              ∙ q .the-same k inside c;
+          all-right = right d table (q .m) (q .m) (pixelAt src k) (p .could) (depth-bounds bits _ (q .known) .0);
+        };
+      }
     where
       accepted : picture d table bits src (length dst) ≡ P.Accepted
-      accepted = sym (pictures-is p .0)
+      accepted = sym (pictures-is h .0)
 
-      passed : PicturePassed d table bits src (length dst)
-      passed = picture-passed d table bits src (length dst) accepted
+      p : PicturePassed d table bits src (length dst)
+      p = picture-passed d table bits src (length dst) accepted
 
-      codes : PictureCodes d table bits src
-      codes = picture-codes d table bits src (length dst) accepted
+      q : PictureCodes d table bits src
+      q = picture-codes d table bits src (length dst) accepted
 
-      m : ℕ
-      m = codes .m
+      codes : List ℕ
+      codes = corrected d table bits src
 
-      after : dst′ ≡ corrected d table bits src ++ drop (length src) dst
-      after = p .memory ∙ ap (outputAfter d table bits src dst) accepted
+      rest : List ℕ
+      rest = drop (length src) dst
 
-      later : drop (length src) dst′ ≡ drop (length src) dst
-      later = ap (drop (length src)) after ∙ drop-at (corrected d table bits src) (drop (length src) dst) (length src) (codes .as-long)
-
-      -- a code of the output is that of the definition
-      code : (k : ℕ) → 3 * k < length src → (c : Colour) (i : ℕ) → i ≡ 3 * k + colourPlace c → getD dst′ i 0 ≡ codeIn (correct d table m m (pixelAt src k)) c
-      code k h c i e =
-          ap (λ j. getD dst′ j 0) e
-          ∙ ap (λ xs. getD xs (3 * k + colourPlace c) 0) after
-          ∙ List·getD-append (corrected d table bits src) (drop (length src) dst) 0 (3 * k + colourPlace c) (omega (arith, codes .as-long, passed .whole, place-below c))
-          ∙ codes .the-same k h c
-
-      pixel-right : (k : ℕ) → 3 * k < length src → (c : Colour) → Right d table m m (pixelAt src k) (pixelAt dst′ k) (shown d m (pixelAt src k) (d .kind)) c
-      pixel-right k h c =
-          let made : pixelAt dst′ k ≡ correct d table m m (pixelAt src k) = rw (code k h Red (3 * k) (omega arith), code k h Green (3 * k + 1) (omega arith), code k h Blue (3 * k + 2) (omega arith)) in
-          subst (λ x. Right d table m m (pixelAt src k) x (shown d m (pixelAt src k) (d .kind)) c) (sym made)
-          (right d table m m (pixelAt src k) (passed .could) (depth-bounds bits (record { greatest = m }) (codes .known) .0) c)
+      output : dst′ ≡ codes ++ rest
+      output = h .memory ∙ ap (outputAfter d table bits src dst) accepted

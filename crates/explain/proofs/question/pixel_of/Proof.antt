@@ -1,5 +1,4 @@
 -- The tests in the definition's order; codes that pass them fit 16 bits.
-use native.Mathlib.Omega.{arith}
 use borrow.Author.Needs.{needs}
 use borrow.Author.Tests.{le-leb, lt-leb}
 use Rattle.explain.proofs.question.pixel_of.Statement.{statement}
