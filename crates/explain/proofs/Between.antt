@@ -11,7 +11,7 @@ use Rattle.rules.specs.Units.{depthOf, codeIn}
 use Rattle.rules.specs.Interpolation.{denOf, rowCode}
 use Rattle.rules.specs.Answers.{lookNumber}
 use Rattle.rules.specs.Promises.{Looks}
-use Rattle.rules.specs.Demands.{used, Carried, Right}
+use Rattle.rules.specs.Demands.{used, Carried, Right, AllRight}
 use Rattle.rules.specs.declared.Codes.{Codes}
 use Rattle.rules.specs.declared.Colour.{Colour}
 use Rattle.rules.specs.declared.Depth.{Depth}
@@ -22,7 +22,7 @@ use Rattle.rules.specs.declared.Look.the-variants.{Accepted}
 use Rattle.rules.specs.declared.Share.{Share}
 use Rattle.rules.specs.declared.Shares.{Shares}
 use Rattle.rules.proofs.Checks.{look-passed}
-use Rattle.rules.proofs.Demand3.{AllRight, looks-right}
+use Rattle.rules.proofs.Demand3.{looks-right}
 use Rattle.rules.proofs.Depths.{depth-bounds}
 use Rattle.explain.specs.Spans.{carries, widened, spanOf, shownSpan, Seen}
 use Rattle.explain.specs.declared.rows.Span.{Span}

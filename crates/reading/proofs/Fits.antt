@@ -5,7 +5,7 @@ use mathlib.Core.Bool.{Bool, true, false, true≢false}
 use native.Mathlib.Omega.{arith}
 use Rattle.rules.specs.Units.{inRange}
 use Rattle.rules.specs.Descriptions.{lowest, highest, noTitle, description, everyColour, boundsFit}
-use Rattle.rules.specs.Judge.{orElse, noSize, describe, given}
+use Rattle.rules.specs.Judge.{givenOr, noSize, describe, given}
 use Rattle.rules.specs.declared.Bounds.{Bounds}
 use Rattle.rules.specs.declared.Size.{Size}
 use Rattle.rules.specs.declared.Title.{Title}
@@ -104,7 +104,7 @@ module _ {st : State} (f : Fit st) where
       let s = chosen (st .sized) (st .size) noSize (f .no-size) in
       λ i. description (t i) (lo i) (hi i) (s i)
     where
-      chosen : {A : Type 0} (there : Bool) (a default : A) → (there ≡ false → a ≡ default) → orElse default (marked there a) ≡ a
+      chosen : {A : Type 0} (there : Bool) (a default : A) → (there ≡ false → a ≡ default) → givenOr default (marked there a) ≡ a
       chosen true a default h = refl
       chosen false a default h = sym (h refl)
 

@@ -14,7 +14,7 @@ use Rattle.rules.specs.Lines.{after, blank, inTitle, inWord, linesOf, qu
 use Rattle.rules.specs.Items.{lowerIn, numbersOf, rowIn, sizeIn, titleIn, upperIn}
 use Rattle.rules.specs.Grammar.{Keeps, Lines, gather, lowers, put, uppers}
 use Rattle.rules.specs.Content.{closes, contentBy, contentOf, quoted, titleOf}
-use Rattle.rules.specs.Judge.{State, describe, domainFault, endFault, given, noSize, orElse, start}
+use Rattle.rules.specs.Judge.{State, describe, domainFault, endFault, given, noSize, givenOr, start}
 use Rattle.rules.specs.Reading.{read, samplesIn, samplesOf}
 use Rattle.rules.specs.declared.Content.the-variants.{Says, Wrong}
 use Rattle.rules.specs.declared.Item.{Item}
@@ -83,7 +83,7 @@ without-fault places d s =
 
 -- ---- accepted, so it keeps
 
-once-one : {A : Type 0} (default : A) (xs : List A) (o : Option A) → Once none xs o → given o ≡ true → xs ≡ orElse default o ∷ []
+once-one : {A : Type 0} (default : A) (xs : List A) (o : Option A) → Once none xs o → given o ≡ true → xs ≡ givenOr default o ∷ []
 once-one default [] o h g = absurd (no-true (sym (ap given (sym h) ∙ g)))
 once-one default (a ∷ []) o h g = rw (h .1)
 once-one default (a ∷ b ∷ more) o h g = absurd (no-some a (h .1 .0))

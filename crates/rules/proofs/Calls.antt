@@ -17,7 +17,7 @@ use Rattle.rules.specs.Picturing.{picture, outputAfter}
 use Rattle.rules.specs.Answers.{readNumber, readLine, readDescription, lookNumber, codesOf, sharesOf, lookCodes, lookRows, lookWeights, pictureNumber}
 use Rattle.rules.specs.Promises.{Reads, Looks, Pictures}
 use Rattle.rules.specs.Boundary.{elevenOf, describedIn, pixelIn, lookIn, pictureIn, outputIn, ReadsC, LooksC, PicturesC}
-use Rattle.rules.specs.Demands.{Right}
+use Rattle.rules.specs.Demands.{Right, Kept, RightPicture}
 use Rattle.rules.specs.declared.Codes.{Codes}
 use Rattle.rules.specs.declared.Colour.{Colour}
 use Rattle.rules.specs.declared.DepthFound.the-variants.{Known}
@@ -35,7 +35,7 @@ use Rattle.rules.proofs.Acceptance.{keeps-accepted}
 use Rattle.rules.proofs.Unique.{refused-not-0, reads-is, is-reads, looks-is, is-looks, pictures-is, is-pictures}
 use Rattle.rules.proofs.Checks.{look-not-24, picture-not-24}
 use Rattle.rules.proofs.Demand3.{looks-right}
-use Rattle.rules.proofs.Promised.{Kept, refused-unchanged, reads-accepted, reads-bridge, RightPicture, pictures-right}
+use Rattle.rules.proofs.Promised.{refused-unchanged, reads-accepted, reads-bridge, pictures-right}
 use Rattle.rules.proofs.Untitled.{retitled, same-24}
 use Rattle.rules.proofs.Crossing.{crosses}
 

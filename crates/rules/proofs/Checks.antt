@@ -18,6 +18,7 @@ use Rattle.rules.specs.Lines.{every}
 use Rattle.rules.specs.Looking.{within, shown, correct, lookAt, look}
 use Rattle.rules.specs.Answers.{refusalNumber, lookNumber, lookCodes, pictureNumber}
 use Rattle.rules.specs.Picturing.{pixelOf, corrected, pictureWith, pictureAt, picture, outputAfter}
+use Rattle.rules.specs.Demands.{pixelAt}
 use Rattle.rules.specs.declared.Codes.{Codes}
 use Rattle.rules.specs.declared.Colour.{Colour}
 use Rattle.rules.specs.declared.Depth.{Depth}
@@ -202,10 +203,6 @@ pub at-every : (kind : ℕ → Bool) (l : List ℕ) → ((k : ℕ) → k < lengt
 unfolding every
 at-every kind [] h = refl
 at-every kind (b ∷ l) h = both-and _ _ (h 0 (omega arith)) (at-every kind l (λ k i. h (suc k) (omega arith)))
-
--- pixel k of a run of codes
-abbrev pub pixelAt : List ℕ → ℕ → Codes
-pixelAt src k = pixelOf (getD src (3 * k) 0) (getD src (3 * k + 1) 0) (getD src (3 * k + 2) 0)
 
 pub pixel-within : (m : ℕ) (src : List ℕ) → within-all m src ≡ true → (k : ℕ) → 3 * k + 2 < length src → within m (pixelAt src k) ≡ true
 unfolding within

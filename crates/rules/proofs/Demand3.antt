@@ -13,26 +13,23 @@ use Rattle.whole.specs.Nearest.{Nearest, code, weights, Unsigned, Carrying}
 use Rattle.whole.proofs.Halves as H
 use Rattle.whole.proofs.NearestLaws.{code-nearest, code-scale}
 use Rattle.whole.proofs.Between.{codes-below, codes-above}
-use Rattle.rules.specs.Units.{sampleOne, depthOf, rowsOf, rowAt, sampleAt, codeIn}
+use Rattle.rules.specs.Units.{sampleOne, rowsOf, rowAt, sampleAt, codeIn}
 use Rattle.rules.specs.Descriptions.{domain, width, couldBeRead}
 use Rattle.rules.specs.Interpolation.{denOf, positionOf, indexOf, fractionOf, order, pairBy, pathBy, climb, pair, path, sharesFor, weighed, total, denominator, codeBy, rowCode}
 use Rattle.rules.specs.Looking.{shown, codeOf, correct}
 use Rattle.rules.specs.Answers.{lookNumber}
 use Rattle.rules.specs.Promises.{Looks}
 use Rattle.rules.specs.Readings.{Reading}
-use Rattle.rules.specs.Demands.{used, Each, Carried, ByReading, line, cube, Right}
+use Rattle.rules.specs.Demands.{used, Each, Carried, ByReading, line, cube, Right, AllRight}
 use Rattle.rules.specs.declared.Codes.{Codes}
 use Rattle.rules.specs.declared.Colour.{Colour}
 use Rattle.rules.specs.declared.Colour.the-variants.{Red, Green, Blue}
-use Rattle.rules.specs.declared.DepthFound.the-variants.{Known}
 use Rattle.rules.specs.declared.Description.{Description}
 use Rattle.rules.specs.declared.Domain.{Domain}
 use Rattle.rules.specs.declared.Kind.{Kind}
 use Rattle.rules.specs.declared.Kind.the-variants.{OneD, ThreeD}
 use Rattle.rules.specs.declared.Look.{Look}
-use Rattle.rules.specs.declared.Look.the-variants.{Accepted}
 use Rattle.rules.specs.declared.Share.{Share}
-use Rattle.rules.specs.declared.Shares.{Shares}
 use Rattle.rules.proofs.Judged.{Sound, sound-of, wide-enough}
 use Rattle.rules.proofs.Depths.{depth-bounds}
 use Rattle.rules.proofs.Layers.{level, level-own, Stairs, layered, layered-own, stairs-total}
@@ -231,14 +228,6 @@ right d table raw corrected pixel could deep c =
     unsigned = weights-unsigned table c stairs
 
 -- ---- of every answer that meets the promise and is accepted
-
-pub record AllRight (d : Description) (table : List ℤ) (bits : ℕ) (pixel : Codes) (r : Look) : Type 0 where
-  pub m : ℕ
-  pub known : depthOf bits ≡ Known (record { greatest = m })
-  pub codes : Codes
-  pub shares : Shares
-  pub accepted : r ≡ Accepted codes shares
-  pub all-right : (c : Colour) → Right d table m m pixel codes shares c
 
 pub looks-right : {d : Description} {table : List ℤ} {bits : ℕ} {pixel : Codes} {r : Look} → Looks d table bits pixel r → lookNumber r ≡ 0 → AllRight d table bits pixel r
 looks-right {d} {table} {bits} {pixel} {r} l z =

@@ -11,7 +11,7 @@ use lib.ListN.{length}
 use Rattle.rules.specs.Descriptions.{description, highest, lowest, noTitle, rows}
 use Rattle.rules.specs.Items.{lowerIn, rowIn, sizeIn, titleIn, upperIn}
 use Rattle.rules.specs.Grammar.{AtMostOne, KeywordsFirst, NoKeyword, gather, isKeyword, isRow, put}
-use Rattle.rules.specs.Judge.{State, add, counted, describe, domainFault, given, headFault, need, newer, noSize, orElse, orderFault, repeats}
+use Rattle.rules.specs.Judge.{State, add, counted, describe, domainFault, given, headFault, need, newer, noSize, givenOr, orderFault, repeats}
 use Rattle.rules.specs.declared.Form.{Form}
 use Rattle.rules.specs.declared.Form.the-variants.{Idle, Keyed, Data}
 use Rattle.rules.specs.declared.Item.{Item}
@@ -53,12 +53,12 @@ abbrev pub Once : {A : Type 0} → Option A → List A → Option A → Type 0
 Once s [] r = r ≡ s
 Once s (a ∷ xs) r = (s ≡ none) × Once (some a) xs r
 
-pub given-once : {A : Type 0} (default : A) (xs : List A) (o : Option A) → Once none xs o → AtMostOne xs default (orElse default o)
+pub given-once : {A : Type 0} (default : A) (xs : List A) (o : Option A) → Once none xs o → AtMostOne xs default (givenOr default o)
 given-once default [] o h = rw h
 given-once default (a ∷ []) o h = rw (h .1)
 given-once default (a ∷ b ∷ more) o h = absurd (no-some a (h .1 .0))
 
-pub once-given : {A : Type 0} (default : A) (xs : List A) (x : A) → AtMostOne xs default x → (o : Option A) × Once none xs o × (x ≡ orElse default o)
+pub once-given : {A : Type 0} (default : A) (xs : List A) (x : A) → AtMostOne xs default x → (o : Option A) × Once none xs o × (x ≡ givenOr default o)
 once-given default [] x h = (none, refl, h)
 once-given default (a ∷ []) x h = (some a, (refl, refl), h)
 once-given default (a ∷ b ∷ more) x h = absurd h
@@ -263,7 +263,7 @@ pub record Due (places : ℕ) (st : State) (is : List Item) (t : Option Title) (
   pub size : Once (st .size) (gather sizeIn is) s
 
 abbrev pub told : Option Title → Option Bounds → Option Bounds → Option Size → Description
-told t lo up s = description (orElse noTitle t) (orElse lowest lo) (orElse highest up) (orElse noSize s)
+told t lo up s = description (givenOr noTitle t) (givenOr lowest lo) (givenOr highest up) (givenOr noSize s)
 
 pub admitted-due : (places : ℕ) (st : State) (is : List Item) → Admitted places st is
     → Due places st is ((final st is) .title) ((final st is) .lower) ((final st is) .upper) ((final st is) .size)

@@ -1,6 +1,6 @@
 -- What the promises decide, in the properties' words: an accepted file keeps the specification, a refused one leaves the table as it was;
 -- every code of an accepted picture is right, a refused one leaves the output as it was.
-use Prim.Native.Nat.{ℕ, _+_, _*_, _%_, _≤_, _<_}
+use Prim.Native.Nat.{ℕ, _+_, _*_}
 use mathlib.Core.Path.{_≡_, sym, ap, subst, _∙_}
 use mathlib.Core.Bool.{true}
 use mathlib.Core.Logic.{_↔_}
@@ -9,29 +9,24 @@ use native.Mathlib.Omega.{arith}
 use lib.ListN.{length, drop, getD, length-append, length-drop, List·getD-append}
 use lib.Seq.{drop-at}
 use lib.IntN.{ℤ}
-use Rattle.rules.specs.Units.{depthOf, colourPlace, codeIn}
+use Rattle.rules.specs.Units.{colourPlace}
 use Rattle.rules.specs.Descriptions.{rows, couldBeRead}
 use Rattle.rules.specs.Lines.{linesOf}
-use Rattle.rules.specs.Grammar.{Keeps}
 use Rattle.rules.specs.Reading.{samplesOf, tableAfter}
 use Rattle.rules.specs.Looking.{shown, correct}
 use Rattle.rules.specs.Picturing.{corrected, picture, outputAfter}
-use Rattle.rules.specs.Demands.{Right}
+use Rattle.rules.specs.Demands.{Kept, pixelAt, RightPicture}
 use Rattle.rules.specs.Promises.{Reads, Pictures}
-use Rattle.rules.specs.declared.Codes.{Codes}
-use Rattle.rules.specs.declared.Colour.{Colour}
-use Rattle.rules.specs.declared.DepthFound.the-variants.{Known}
 use Rattle.rules.specs.declared.Description.{Description}
 use Rattle.rules.specs.declared.Picture.{Picture}
 use Rattle.rules.specs.declared.Picture.the-variants as P
 use Rattle.rules.specs.declared.Read.{Read}
 use Rattle.rules.specs.declared.Read.the-variants.{Accepted, Refused}
 use Rattle.rules.specs.declared.Refusal.{Refusal}
-use Rattle.rules.specs.declared.Shares.{Shares}
 use Rattle.rules.proofs.Acceptance.{accepted-keeps, keeps-accepted}
 use Rattle.rules.proofs.Bridge.{bridge}
 use Rattle.rules.proofs.Places.{keeps-length}
-use Rattle.rules.proofs.Checks.{pixelAt, PicturePassed, picture-passed, PictureCodes, picture-codes, output-length}
+use Rattle.rules.proofs.Checks.{PicturePassed, picture-passed, PictureCodes, picture-codes, output-length}
 use Rattle.rules.proofs.Colours.{place-below}
 use Rattle.rules.proofs.Demand3.{right}
 use Rattle.rules.proofs.Depths.{depth-bounds}
@@ -46,12 +41,6 @@ module _ {file : List ℕ} {table : List ℤ} where
   pub refused-unchanged : {reason : Refusal} {n : ℕ} {t : List ℤ} → Reads file table (Refused reason n) t → t ≡ table
   unfolding tableAfter
   refused-unchanged h = after-answer h
-
--- a file that keeps the specification: its samples first, later places as they were
-pub record Kept (file : List ℕ) (table : List ℤ) (d : Description) (t : List ℤ) : Type 0 where
-  pub samples : List ℤ
-  pub keeps : Keeps file (length table) d samples
-  pub memory : t ≡ samples ++ drop (3 * rows d) table
 
 module _ {file : List ℕ} {table : List ℤ} {d : Description} {t : List ℤ} where
   -- a reader accepts exactly the files that keep the specification, with their description and samples
@@ -76,23 +65,6 @@ reads-length {file} {table} (Accepted d) h =
     ∙ omega (arith, length-drop (3 * rows d) table, keeps-length file (length table) d (k .samples) (k .keeps), k .keeps .room)
 
 -- ---- picture
-
--- the codes of pixel k of a picture are those of a look at it that is right
-pub record PixelRight (d : Description) (table : List ℤ) (m : ℕ) (src dst′ : List ℕ) (k : ℕ) : Type 0 where
-  pub codes : Codes
-  pub shares : Shares
-  pub written : (c : Colour) → getD dst′ (3 * k + colourPlace c) 0 ≡ codeIn codes c
-  pub all-right : (c : Colour) → Right d table m m (pixelAt src k) codes shares c
-
--- an accepted picture, at the depth whose greatest code is m: whole pixels with room for their codes, each corrected, and later places as they were
-pub record RightPicture (d : Description) (table : List ℤ) (bits : ℕ) (src dst dst′ : List ℕ) : Type 0 where
-  pub m : ℕ
-  pub known : depthOf bits ≡ Known (record { greatest = m })
-  pub whole : length src % 3 ≡ 0
-  pub room : length src ≤ length dst
-  pub as-long : length dst′ ≡ length dst
-  pub later : drop (length src) dst′ ≡ drop (length src) dst
-  pub pixels : (k : ℕ) → 3 * k < length src → PixelRight d table m src dst′ k
 
 module _ {d : Description} {table : List ℤ} {bits : ℕ} {src dst dst′ : List ℕ} where
   -- a refusal leaves the output as it was

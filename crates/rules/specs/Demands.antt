@@ -1,5 +1,5 @@
--- Demands 2 and 3: where an accepted file's numbers and title stand, and what is asked of an accepted look, colour by colour.
-use Prim.Native.Nat.{ℕ, _≤_, _<_}
+-- Demands 2 and 3: where an accepted file's numbers and title stand, and what is asked of an accepted look and an accepted picture, colour by colour.
+use Prim.Native.Nat.{ℕ, _+_, _*_, _%_, _≤_, _<_}
 use mathlib.Core.Path.{_≡_}
 use mathlib.Core.Logic.{_⊎_}
 use mathlib.Core.Bool.{Bool, true, false, cond}
@@ -8,22 +8,26 @@ use lib.ListN.{length, take, drop, getD}
 use lib.IntN.{ℤ, pos, _*ℤ_}
 use lib.Signed.{_<ℤ_, _≤ℤ_}
 use Rattle.whole.specs.Nearest.{Nearest, weights}
-use Rattle.rules.specs.Units.{samplePlaces, sampleLimit, colourPlace, codeIn}
+use Rattle.rules.specs.Units.{depthOf, samplePlaces, sampleLimit, colourPlace, codeIn}
 use Rattle.rules.specs.Descriptions.{rows}
 use Rattle.rules.specs.Lines.{linesOf, wordsOf}
 use Rattle.rules.specs.Numerals.{Exact}
-use Rattle.rules.specs.Grammar.{TitleLine}
+use Rattle.rules.specs.Grammar.{Keeps, TitleLine}
 use Rattle.rules.specs.Content.{formOf}
 use Rattle.rules.specs.Interpolation.{Order, denOf, positionOf, pairBy, pathBy, denominator, weighed, total, rowCode}
+use Rattle.rules.specs.Picturing.{pixelOf}
 use Rattle.rules.specs.Readings.{Reading, Descends}
 use Rattle.rules.specs.declared.Form.{Form}
 use Rattle.rules.specs.declared.Form.the-variants.{Idle, Keyed, Data, Neither}
 use Rattle.rules.specs.declared.Codes.{Codes}
 use Rattle.rules.specs.declared.Colour.{Colour}
 use Rattle.rules.specs.declared.Colour.the-variants.{Red, Green, Blue}
+use Rattle.rules.specs.declared.DepthFound.the-variants.{Known}
 use Rattle.rules.specs.declared.Description.{Description}
 use Rattle.rules.specs.declared.Kind.{Kind}
 use Rattle.rules.specs.declared.Kind.the-variants.{OneD, ThreeD}
+use Rattle.rules.specs.declared.Look.{Look}
+use Rattle.rules.specs.declared.Look.the-variants.{Accepted}
 use Rattle.rules.specs.declared.Share.{Share}
 use Rattle.rules.specs.declared.Shares.{Shares}
 use Rattle.rules.specs.declared.Title.{Title}
@@ -63,6 +67,12 @@ pub record Titled (file : List ℕ) (t : Title) : Type 0 where
   pub ends : Ends rest
   pub line-so : TitleLine (length before) line t
   pub bytes-so : take (t .length) (drop (t .place) file) ≡ line-so .text
+
+-- a file that keeps the specification: its samples first, later places as they were
+pub record Kept (file : List ℕ) (table : List ℤ) (d : Description) (t : List ℤ) : Type 0 where
+  pub samples : List ℤ
+  pub keeps : Keeps file (length table) d samples
+  pub memory : t ≡ samples ++ drop (3 * rows d) table
 
 -- ---- demand 3
 
@@ -105,3 +115,33 @@ pub record Right (d : Description) (table : List ℤ) (raw corrected : ℕ) (pix
   -- the code lies between the least and the greatest code of the rows whose weight is above 0
   pub below : (a : ℕ) → Carried (λ x. rowCode corrected (denOf d raw c) table c (x .row) ≤ a) (used (d .kind) c shares) → codeIn codes c ≤ a
   pub above : (a : ℕ) → Carried (λ x. a ≤ rowCode corrected (denOf d raw c) table c (x .row)) (used (d .kind) c shares) → a ≤ codeIn codes c
+
+-- an accepted look: its depth is known, and each colour is right
+pub record AllRight (d : Description) (table : List ℤ) (bits : ℕ) (pixel : Codes) (r : Look) : Type 0 where
+  pub m : ℕ
+  pub known : depthOf bits ≡ Known (record { greatest = m })
+  pub codes : Codes
+  pub shares : Shares
+  pub accepted : r ≡ Accepted codes shares
+  pub all-right : (c : Colour) → Right d table m m pixel codes shares c
+
+-- pixel k of a run of codes
+abbrev pub pixelAt : List ℕ → ℕ → Codes
+pixelAt src k = pixelOf (getD src (3 * k) 0) (getD src (3 * k + 1) 0) (getD src (3 * k + 2) 0)
+
+-- the codes of pixel k of a picture are those of a look at it that is right
+pub record PixelRight (d : Description) (table : List ℤ) (m : ℕ) (src dst′ : List ℕ) (k : ℕ) : Type 0 where
+  pub codes : Codes
+  pub shares : Shares
+  pub written : (c : Colour) → getD dst′ (3 * k + colourPlace c) 0 ≡ codeIn codes c
+  pub all-right : (c : Colour) → Right d table m m (pixelAt src k) codes shares c
+
+-- an accepted picture, at the depth whose greatest code is m: whole pixels with room for their codes, each corrected, and later places as they were
+pub record RightPicture (d : Description) (table : List ℤ) (bits : ℕ) (src dst dst′ : List ℕ) : Type 0 where
+  pub m : ℕ
+  pub known : depthOf bits ≡ Known (record { greatest = m })
+  pub whole : length src % 3 ≡ 0
+  pub room : length src ≤ length dst
+  pub as-long : length dst′ ≡ length dst
+  pub later : drop (length src) dst′ ≡ drop (length src) dst
+  pub pixels : (k : ℕ) → 3 * k < length src → PixelRight d table m src dst′ k

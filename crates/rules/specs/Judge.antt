@@ -62,9 +62,9 @@ abbrev pub given : {A : Type 0} → Option A → Bool
 given none = false
 given (some a) = true
 
-abbrev pub orElse : {A : Type 0} → A → Option A → A
-orElse a none = a
-orElse a (some b) = b
+abbrev pub givenOr : {A : Type 0} → A → Option A → A
+givenOr a none = a
+givenOr a (some b) = b
 
 -- no size counts as 1D with no rows
 abbrev pub noSize : Size
@@ -72,7 +72,7 @@ noSize = record { kind = OneD; n = 0 }
 
 -- what a state describes
 unfoldable pub describe : State → Description
-describe st = description (orElse noTitle (st .title)) (orElse lowest (st .lower)) (orElse highest (st .upper)) (orElse noSize (st .size))
+describe st = description (givenOr noTitle (st .title)) (givenOr lowest (st .lower)) (givenOr highest (st .upper)) (givenOr noSize (st .size))
 
 -- whether a keyword's line was there
 unfoldable pub repeats : Keyword → State → Bool

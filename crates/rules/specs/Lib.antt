@@ -22,6 +22,6 @@ pub mod Answers
 pub mod Promises
 pub mod Reporting
 pub mod Boundary
--- demands 2 and 3: the other readings of a position, where an accepted file's numbers stand, and what is asked of an accepted look
+-- demands 2 and 3: the other readings of a position, where an accepted file's numbers stand, and what is asked of an accepted look and picture
 pub mod Readings
 pub mod Demands
