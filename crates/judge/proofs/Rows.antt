@@ -3,12 +3,11 @@ use Prim.Native.Nat.{ℕ, _*_, _≤_}
 use mathlib.Core.Path.{_≡_}
 use mathlib.Core.Bool.{true}
 use native.Mathlib.Nat.{mul-le-mul}
-use native.Mathlib.Omega.{arith}
 use borrow.Author.Tests.{leb-true}
 use lib.Dec.{leb}
 use Rattle.rules.specs.Units.{greatestN, inRange, rowsOf}
 use Rattle.rules.specs.declared.Kind.{Kind}
-use Rattle.rules.specs.declared.Kind.the-variants.{OneD, ThreeD}
+use Rattle.rules.proofs.Judged.{rows-most as most-rows}
 use Rattle.rules.proofs.Tests.{and-both}
 
 pub at-most : (k : Kind) (n : ℕ) → inRange k n ≡ true → n ≤ greatestN k
@@ -18,5 +17,4 @@ pub cubed : (n : ℕ) → n ≤ 256 → (n * n ≤ 65536) × (n * n * n ≤ 16_7
 cubed n h = let square : n * n ≤ 65536 = mul-le-mul h h in (square, mul-le-mul square h)
 
 pub rows-most : (k : Kind) (n : ℕ) → inRange k n ≡ true → rowsOf k n ≤ 16_777_216
-rows-most OneD n e = omega (arith, at-most OneD n e)
-rows-most ThreeD n e = cubed n (at-most ThreeD n e) .1
+rows-most k n e = most-rows k n (at-most k n e)

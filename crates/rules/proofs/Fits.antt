@@ -1,17 +1,15 @@
 -- What crosses the C boundary fits the numbers that it crosses in: N, a title's place and length 63 bits, a row 32.
-use Prim.Native.Nat.{ℕ, suc, _+_, _≤_, _<_}
-use mathlib.Core.Path.{_≡_, refl, ap, subst, _∙_}
+use Prim.Native.Nat.{ℕ, _≤_, _<_}
+use mathlib.Core.Path.{_≡_, refl, subst}
 use mathlib.Core.Logic.{_⊎_, inl, inr}
 use mathlib.Core.Bool.{Bool, true, false, cond}
 use mathlib.Core.Option.{Option, none, some}
-use mathlib.Core.List.{List, [], _∷_, _++_, map}
+use mathlib.Core.List.{List, [], _∷_, map}
 use native.Mathlib.Omega.{arith}
-use native.Mathlib.Nat.{mul-le-mul}
 use lib.IntN.{ℤ}
-use lib.ListN.{length, length-append}
-use Rattle.rules.specs.Units.{greatestN, rowsOf, depthOf}
+use lib.ListN.{length}
+use Rattle.rules.specs.Units.{greatestN, depthOf}
 use Rattle.rules.specs.Descriptions.{noTitle, rows, couldBeRead}
-use Rattle.rules.specs.Items.{named}
 use Rattle.rules.specs.Reading.{read}
 use Rattle.rules.specs.Looking.{within, shown, correct, lookAt, look}
 use Rattle.rules.specs.Interpolation.{pair, path, pairBy, pathBy, climb}
@@ -26,7 +24,6 @@ use Rattle.rules.specs.declared.DepthFound.{DepthFound}
 use Rattle.rules.specs.declared.DepthFound.the-variants.{Known, Unknown}
 use Rattle.rules.specs.declared.Kind.{Kind}
 use Rattle.rules.specs.declared.Kind.the-variants.{OneD, ThreeD}
-use Rattle.rules.specs.declared.Keyword.the-variants.{ATitle}
 use Rattle.rules.specs.declared.Look.the-variants as L
 use Rattle.rules.specs.declared.Read.{Read}
 use Rattle.rules.specs.declared.Read.the-variants as R
@@ -37,8 +34,8 @@ use Rattle.rules.proofs.Acceptance.{accepted-keeps}
 use Rattle.rules.proofs.Bridge.{bridge}
 use Rattle.rules.proofs.Demand3.{right}
 use Rattle.rules.proofs.Depths.{depth-bounds}
-use Rattle.rules.proofs.Judged.{sound-of}
-use Rattle.rules.proofs.Titles.{title-or-none}
+use Rattle.rules.proofs.Judged.{rows-most, sound-of}
+use Rattle.rules.proofs.Titles.{title-or-none, titled-inside}
 
 -- ---- a description
 
@@ -47,20 +44,10 @@ pub record Crossable (d : Description) : Type 0 where
   pub place : d .title .place < 9_223_372_036_854_775_808
   pub span : d .title .length < 9_223_372_036_854_775_808
 
--- a title stands in its file
-titled-within : (file : List ℕ) (t : Title) → Titled file t → (t .place < length file) × (t .length < length file)
-titled-within file t h = rw (h .line-so .title-so) (omega (arith, whole, of-line), omega (arith, whole, of-line))
-  where
-    whole : length file ≡ length (h .before) + (length (h .line) + length (h .rest))
-    whole = rw (h .file-so, length-append (h .before) (h .line ++ h .rest), length-append (h .line) (h .rest)) refl
-
-    of-line : length (h .line) ≡ length (h .line-so .lead) + (length (named ATitle) + (length (h .line-so .gap) + suc (length (h .line-so .text) + suc (length (h .line-so .trail)))))
-    of-line = ap length (h .line-so .line) ∙ simp length-append
-
 module _ (file : List ℕ) (table : List ℤ) (held : length file < 9_223_372_036_854_775_808) where
   title-fits : (t : Title) → (t ≡ noTitle) ⊎ Titled file t → (t .place < 9_223_372_036_854_775_808) × (t .length < 9_223_372_036_854_775_808)
   title-fits t (inl e) = rw e (omega arith, omega arith)
-  title-fits t (inr h) = let w = titled-within file t h in (omega (arith, w .0, held), omega (arith, w .1, held))
+  title-fits t (inr h) = let inside = titled-inside file t h in (omega (arith, inside, held), omega (arith, inside, held))
 
   accepted-fits : (d : Description) → read file (length table) ≡ R.Accepted d → Crossable d
   accepted-fits d e =
@@ -93,11 +80,6 @@ all-six a b c d e f = (a, (b, (c, (d, (e, (f, tt))))))
 -- the zeros of a refusal
 zeros-fit : RowsFit (0 ∷ 0 ∷ 0 ∷ 0 ∷ 0 ∷ 0 ∷ [])
 zeros-fit = all-six (omega arith) (omega arith) (omega arith) (omega arith) (omega arith) (omega arith)
-
--- a table has at most 256·256·256 rows
-rows-most : (k : Kind) (n : ℕ) → n ≤ greatestN k → rowsOf k n ≤ 16_777_216
-rows-most OneD n h = omega arith
-rows-most ThreeD n h = mul-le-mul (mul-le-mul h h) h
 
 module _ (d : Description) (table : List ℤ) (m : ℕ) (pixel : Codes) (could : couldBeRead d table ≡ true) (deep : 0 < m) where
   few : rows d ≤ 16_777_216

@@ -3,6 +3,7 @@ use Prim.Native.Nat.{ℕ, zero, suc, _*_, _≤_, _<_}
 use mathlib.Core.Path.{_≡_, refl, sym, ap, ap₂, _∙_}
 use mathlib.Core.Bool.{Bool, true, false, _&&_}
 use mathlib.Core.List.{List, [], _∷_}
+use native.Mathlib.Nat.{mul-le-mul}
 use native.Mathlib.Omega.{arith}
 use borrow.Author.Tests.{leb-true, le-leb}
 use lib.Dec.{leb}
@@ -12,7 +13,7 @@ use lib.Seq.{getD-take, length-take-le}
 use lib.Signed.{_<ℤ_, ltZ, leZ, ≤ℤ-refl, ltZ-yes, leZ-yes}
 use Rattle.whole.proofs.Halves as H
 use Rattle.whole.proofs.Held.{passed, true-by, false-by, le-up}
-use Rattle.rules.specs.Units.{sampleLimit, boundLimit, widthLimit, greatestN}
+use Rattle.rules.specs.Units.{sampleLimit, boundLimit, widthLimit, greatestN, rowsOf}
 use Rattle.rules.specs.Descriptions.{rows, domain, width, everyColour, boundsFit, ordered, narrow, sameDomain, agree, roomy, samplesFit, couldBeRead}
 use Rattle.rules.specs.declared.Colour.{Colour}
 use Rattle.rules.specs.declared.Colour.the-variants.{Red, Green, Blue}
@@ -37,6 +38,13 @@ pub record Sound (d : Description) (table : List ℤ) : Type 0 where
   pub one-domain : d .kind ≡ ThreeD → (c : Colour) → domain d c ≡ d .red
   pub long : 3 * rows d ≤ length table
   pub samples : (k : ℕ) → k < 3 * rows d → natAbs (getD table k (pos 0)) ≤ sampleLimit
+
+-- ---- rows
+
+-- a table has at most 256·256·256 rows
+pub rows-most : (k : Kind) (n : ℕ) → n ≤ greatestN k → rowsOf k n ≤ 16_777_216
+rows-most OneD n h = omega arith
+rows-most ThreeD n h = mul-le-mul (mul-le-mul h h) h
 
 -- ---- a domain by itself
 

@@ -36,7 +36,7 @@ use Rattle.rules.proofs.Tests.{and-both}
 use Rattle.rules.proofs.Sorts.{title-item}
 use Rattle.rules.proofs.Acceptance.{accepted-keeps}
 use Rattle.rules.proofs.Refusals.{Stopped, at-line, at-end, refused-first, lines-count}
-use Rattle.rules.proofs.Titles.{title-stands}
+use Rattle.rules.proofs.Titles.{title-stands, titled-inside}
 use Rattle.rules.proofs.Judged.{bounds-within, every-each}
 use Rattle.rules.proofs.Bridge.{gathered, only-one, in-range, bounds-fit}
 use Rattle.rules.proofs.Unique.{number-below}
@@ -92,11 +92,7 @@ module _ (file : List ℕ) (places : ℕ) (d : Description) (accepted : read fil
 
   pub title-inside : d .title .there ≡ true → d .title .place + d .title .length ≤ length file
   title-inside there =
-      let t = title-stands file places d (samplesOf (linesOf file)) kept there in
-      let l = t .line-so in
-      let e = ap (λ (x : Title). x .place + x .length) (l .title-so) in
-      let f = simp length-append at (ap length (t .file-so)) in
-      let g = simp length-append at (ap length (l .line)) in
+      let inside = titled-inside file (d .title) (title-stands file places d (samplesOf (linesOf file)) kept there) in
       omega arith
 
   -- a title is no longer than its line

@@ -1,5 +1,5 @@
 -- The title's place and length are those of the file's own bytes.
-use Prim.Native.Nat.{ℕ, _+_}
+use Prim.Native.Nat.{ℕ, _+_, _<_}
 use mathlib.Core.Path.{_≡_, refl, sym, ap, subst, _∙_}
 use mathlib.Core.Logic.{_⊎_, inl, inr}
 use mathlib.Core.Bool.{Bool, true, false, cond}
@@ -122,6 +122,15 @@ titled-lines pre s (l ∷ ls) (i ∷ is) t ts b e h g = split (titleIn i) refl g
         let n : length pre + length l + 1 ≡ length pre′ = sym (simp length-append (omega arith)) in
         let f : pre′ ++ s′ ≡ pre ++ s = rw x (simp append-assoc) in
         subst (λ (v : List ℕ). Titled v t) f (again pre′ s′ (inr (pre ++ l, sym (append-assoc pre l (10 ∷ [])))) y (subst (λ (p : ℕ). Lines p ls is) n (h .1)) q)
+
+-- a title ends before its file does: the closing quote comes after it
+pub titled-inside : (file : List ℕ) (t : Title) → Titled file t → t .place + t .length < length file
+titled-inside file t h =
+    let l = h .line-so in
+    let e = ap (λ (x : Title). x .place + x .length) (l .title-so) in
+    let f = simp length-append at (ap length (h .file-so)) in
+    let g = simp length-append at (ap length (l .line)) in
+    omega arith
 
 -- a file that keeps the specification and has a title has it where the description says
 pub title-or-none : (file : List ℕ) (places : ℕ) (d : Description) (samples : List ℤ) → Keeps file places d samples → (d .title ≡ noTitle) ⊎ Titled file (d .title)
