@@ -5,13 +5,13 @@ use mathlib.Core.Logic.{_⊎_, inl, inr}
 use native.Mathlib.Omega.{arith}
 use borrow.Author.Tests.{le-leb, lt-leb}
 use Rattle.rules.specs.Units.{rowAt, stride}
-use Rattle.rules.specs.Interpolation.{Order, 1st, 2nd, 3rd, rgb, rbg, brg, grb, gbr, bgr, order, climb, pathBy}
+use Rattle.rules.specs.Looking.Interpolation.{Order, 1st, 2nd, 3rd, rgb, rbg, brg, grb, gbr, bgr, order, climb, pathBy}
 use Rattle.rules.specs.Looking.{six}
-use Rattle.rules.specs.Readings.{Descends}
+use Rattle.rules.specs.Looking.Readings.{Descends}
 use Rattle.rules.specs.declared.Colour.{Colour}
 use Rattle.rules.specs.declared.Colour.the-variants.{Red, Green, Blue}
 use Rattle.rules.specs.declared.Shares.{Shares}
-use Rattle.rules.proofs.Rule.{rule-descends}
+use Rattle.rules.proofs.Looking.Rule.{rule-descends}
 use Rattle.colour.specs.Places.{three, along}
 
 -- ---- which order

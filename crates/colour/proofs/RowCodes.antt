@@ -8,7 +8,7 @@ use Rattle.whole.specs.Nearest.{code}
 use Rattle.whole.proofs.Halves as H
 use Rattle.whole.proofs.NearestLaws.{code-scale}
 use Rattle.rules.specs.Units.{sampleOne, sampleAt}
-use Rattle.rules.specs.Interpolation.{denominator, codeBy, rowCode}
+use Rattle.rules.specs.Looking.Interpolation.{denominator, codeBy, rowCode}
 use Rattle.rules.specs.declared.Colour.{Colour}
 
 weights-exchanged : (m den : ℕ) (z : ℤ) → pos m *ℤ (pos den *ℤ z) ≡ pos den *ℤ (pos m *ℤ z)

@@ -8,7 +8,7 @@ use lib.Signed.{_≤ℤ_}
 use Rattle.whole.specs.Nearest.{weights}
 use Rattle.rules.specs.Units.{sampleLimit, colourPlace}
 use Rattle.rules.specs.Descriptions.{rows}
-use Rattle.rules.specs.Interpolation.{denOf, weighed, total}
+use Rattle.rules.specs.Looking.Interpolation.{denOf, weighed, total}
 use Rattle.rules.specs.Demands.{Each, used}
 use Rattle.rules.specs.declared.Colour.{Colour}
 use Rattle.rules.specs.declared.Colour.the-variants.{Red, Green, Blue}

@@ -5,7 +5,7 @@ use mathlib.Core.Bool.{true}
 use mathlib.Core.List.{List, [], _∷_}
 use lib.IntN.{ℤ}
 use Rattle.rules.specs.Descriptions.{couldBeRead}
-use Rattle.rules.specs.Interpolation.{den, index, fraction, 1st, 2nd, 3rd, order, climb}
+use Rattle.rules.specs.Looking.Interpolation.{den, index, fraction, 1st, 2nd, 3rd, order, climb}
 use Rattle.rules.specs.declared.Colour.{Colour}
 use Rattle.rules.specs.declared.Colour.the-variants.{Red, Green, Blue}
 use Rattle.rules.specs.declared.Description.{Description}

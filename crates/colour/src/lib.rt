@@ -21,7 +21,7 @@ ghost use mathlib.Core.Bool.{true};
 ghost use Prim.Native.Nat.{_<_};
 ghost use Rattle.rules.specs.Units.{codeIn};
 ghost use Rattle.rules.specs.Descriptions.{couldBeRead};
-ghost use Rattle.rules.specs.Interpolation.{denOf, codeBy};
+ghost use Rattle.rules.specs.Looking.Interpolation.{denOf, codeBy};
 ghost use Rattle.rules.specs.Looking.{within, shown, correct};
 ghost use Rattle.rules.specs.Demands.{used};
 ghost use Rattle.rules.specs.Promises.{Looks};

@@ -12,7 +12,7 @@ ghost use Prim.Native.Nat.{ℕ, _*_, _≤_, _<_};
 ghost use lib.IntN.{pos, natAbs, _*ℤ_};
 ghost use Rattle.whole.specs.Nearest.{code};
 ghost use Rattle.rules.specs.Units.{sampleOne, sampleLimit};
-ghost use Rattle.rules.specs.Interpolation.{denOf, rowCode};
+ghost use Rattle.rules.specs.Looking.Interpolation.{denOf, rowCode};
 ghost use Rattle.colour.specs.Places.{Readable};
 ghost use Rattle.colour.specs.Adding.{RowAt};
 

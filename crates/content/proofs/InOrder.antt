@@ -11,7 +11,7 @@ use mir.Val.{ofZ, toZ}
 use mir.ValLaws.{toZ-ofZ}
 use denote.Enum.Declared.{tagOf}
 use types.Run.{OneOf}
-use Rattle.rules.specs.Content.{valued, values}
+use Rattle.rules.specs.Reading.Contents.{valued, values}
 use Rattle.rules.specs.declared.Content.{Content}
 use Rattle.rules.specs.declared.Content.the-variants.{Wrong}
 use Rattle.rules.specs.declared.Number.{Number}

@@ -8,8 +8,8 @@ use native.Mathlib.Decide.{decLe}
 use borrow.Author.Tests.{leb-true, lt-leb}
 use lib.Dec.{leb}
 use Rattle.rules.specs.Units.{greatestN, inRange}
-use Rattle.rules.specs.Numerals.{digits, spell}
-use Rattle.rules.specs.Content.{sizeOf}
+use Rattle.rules.specs.Reading.Numerals.{digits, spell}
+use Rattle.rules.specs.Reading.Contents.{sizeOf}
 use Rattle.rules.specs.declared.Content.the-variants.{Says, Wrong}
 use Rattle.rules.specs.declared.Item.the-variants.{OfSize}
 use Rattle.rules.specs.declared.Kind.{Kind}

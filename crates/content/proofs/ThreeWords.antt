@@ -5,9 +5,9 @@ use mathlib.Core.Bool.{cond, _&&_}
 use mathlib.Core.List.{List, []}
 use mathlib.Core.Option.{Option, none, some}
 use lib.ListN.{take, drop}
-use Rattle.rules.specs.Lines.{wordsOf}
-use Rattle.rules.specs.Numbers.{numberOf}
-use Rattle.rules.specs.Content.{formed, threeOf}
+use Rattle.rules.specs.Reading.Lines.{wordsOf}
+use Rattle.rules.specs.Reading.Numbers.{numberOf}
+use Rattle.rules.specs.Reading.Contents.{formed, threeOf}
 use Rattle.rules.specs.declared.Number.{Number}
 use Rattle.rules.specs.declared.Three.{Three}
 use Rattle.text.proofs.WordsFrom.{WordFound}

@@ -9,12 +9,12 @@ use lib.Dec.{leb}
 use lib.IntN.{ℤ}
 use lib.ListN.{length, take, length-take}
 use lib.Seq.{length-take-le, take-at, take-take}
-use Rattle.rules.specs.Lines.{every, run}
+use Rattle.rules.specs.Reading.Lines.{every, run}
 use Rattle.rules.specs.Picturing.{corrected, outputAfter}
 use Rattle.rules.specs.Promises.{Pictures}
 use Rattle.rules.specs.declared.Description.{Description}
 use Rattle.rules.specs.declared.Picture.{Picture}
-use Rattle.rules.proofs.Checks.{corrected-length, picture-0}
+use Rattle.rules.proofs.Picturing.Checks.{corrected-length, picture-0}
 use Rattle.rules.proofs.Tests.{both-and}
 use Rattle.scan.proofs.Runs.{run-le}
 use Rattle.ppm.specs.Raster.{bytesOf, byteCount, codeCount, codesOf, Copied}

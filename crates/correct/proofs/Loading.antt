@@ -6,7 +6,7 @@ use mathlib.Core.List.{List}
 use lib.IntN.{ℤ}
 use Rattle.rules.specs.Descriptions.{couldBeRead}
 use Rattle.rules.specs.declared.Description.{Description}
-use Rattle.rules.proofs.Promised.{reads-bridge}
+use Rattle.rules.proofs.Reading.Bridge.{reads-bridge}
 use Rattle.desk.specs.Loads.{Loads}
 use Rattle.desk.specs.declared.loading.Loaded.the-variants.{Table}
 

@@ -7,7 +7,7 @@ use lib.Dec.{leb}
 use lib.IntN.{ℤ}
 use lib.ListN.{length, take}
 use Rattle.rules.specs.Descriptions.{couldBeRead}
-use Rattle.rules.specs.Lines.{run}
+use Rattle.rules.specs.Reading.Lines.{run}
 use Rattle.rules.specs.Picturing.{corrected}
 use Rattle.rules.specs.Units.{depthOf}
 use Rattle.rules.specs.declared.Description.{Description}

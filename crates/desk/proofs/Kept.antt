@@ -6,7 +6,7 @@ use mathlib.Core.List.{List}
 use native.Mathlib.Omega.{arith}
 use borrow.Author.Tests.{le-leb, lt-leb, leb-true}
 use lib.Dec.{leb}
-use Rattle.rules.specs.Numerals.{digits, spell}
+use Rattle.rules.specs.Reading.Numerals.{digits, spell}
 use Rattle.numbers.specs.Cuts.{kept}
 use Rattle.desk.specs.Arguments.{argumentOf, UpTo}
 use Rattle.desk.specs.declared.arguments.Argument.the-variants.{Number, TooGreat, NoNumber}

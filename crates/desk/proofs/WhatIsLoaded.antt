@@ -11,7 +11,7 @@ use Rattle.rules.specs.declared.Description.{Description}
 use Rattle.rules.specs.declared.Read.{Read}
 use Rattle.rules.specs.declared.Read.the-variants.{Accepted, Refused}
 use Rattle.rules.specs.declared.Refusal.{Refusal}
-use Rattle.rules.proofs.Promised.{refused-unchanged}
+use Rattle.rules.proofs.Reading.Bridge.{refused-unchanged}
 use Rattle.desk.specs.Loads.{Loads, LoadsAll}
 use Rattle.desk.specs.declared.loading.Loaded.{Loaded}
 use Rattle.desk.specs.declared.loading.Loaded.the-variants.{Table, Nothing}

@@ -3,7 +3,7 @@ use Prim.Native.Nat.{ℕ, _≤_}
 use mathlib.Core.Bool.{cond}
 use mathlib.Core.List.{List}
 use lib.Dec.{leb}
-use Rattle.rules.specs.Numerals.{digits, spell}
+use Rattle.rules.specs.Reading.Numerals.{digits, spell}
 use Rattle.desk.specs.declared.arguments.Argument.{Argument}
 use Rattle.desk.specs.declared.arguments.Argument.the-variants.{Number, TooGreat, NoNumber}
 

@@ -14,7 +14,7 @@ use Rattle.rules.specs.declared.Look.the-variants as L
 use Rattle.rules.specs.declared.Picture.{Picture}
 use Rattle.rules.specs.declared.Picture.the-variants as P
 use Rattle.rules.specs.declared.Refusal.the-variants.{CouldNotBeRead}
-use Rattle.rules.proofs.Unique.{looks-is}
+use Rattle.rules.proofs.Answers.{looks-is}
 use Rattle.erythmoda.specs.Layout.{crossed, LooksIn}
 use Rattle.erythmoda.specs.declared.layout.DescriptionFound.the-variants.{Known, Unknown}
 

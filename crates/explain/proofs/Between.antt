@@ -8,7 +8,7 @@ use lib.IntN.{ℤ, pos}
 use lib.Signed.{_<ℤ_, ltZ}
 use Rattle.whole.proofs.Held.{true-by}
 use Rattle.rules.specs.Units.{depthOf, codeIn}
-use Rattle.rules.specs.Interpolation.{denOf, rowCode}
+use Rattle.rules.specs.Looking.Interpolation.{denOf, rowCode}
 use Rattle.rules.specs.Answers.{lookNumber}
 use Rattle.rules.specs.Promises.{Looks}
 use Rattle.rules.specs.Demands.{used, Carried, Right, AllRight}
@@ -21,8 +21,8 @@ use Rattle.rules.specs.declared.Look.{Look}
 use Rattle.rules.specs.declared.Look.the-variants.{Accepted}
 use Rattle.rules.specs.declared.Share.{Share}
 use Rattle.rules.specs.declared.Shares.{Shares}
-use Rattle.rules.proofs.Checks.{look-passed}
-use Rattle.rules.proofs.Demand3.{looks-right}
+use Rattle.rules.proofs.Looking.Checks.{look-passed}
+use Rattle.rules.proofs.Looking.Demand3.{looks-right}
 use Rattle.rules.proofs.Depths.{depth-bounds}
 use Rattle.explain.specs.Spans.{carries, widened, spanOf, shownSpan, Seen}
 use Rattle.explain.specs.declared.rows.Span.{Span}

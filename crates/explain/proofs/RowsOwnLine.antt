@@ -6,8 +6,8 @@ use mathlib.Core.List.{List, [], _∷_}
 use native.Mathlib.Omega.{arith}
 use borrow.Author.Tests.{ne-eqb}
 use lib.ListN.{length, getD}
-use Rattle.rules.specs.Lines.{linesOf}
-use Rattle.rules.specs.Content.{formOf}
+use Rattle.rules.specs.Reading.Lines.{linesOf}
+use Rattle.rules.specs.Reading.Contents.{formOf}
 use Rattle.rules.specs.Demands.{isData, dataLines}
 use Rattle.explain.specs.RowLines.{dataLineFrom, lineOfRow}
 

@@ -5,7 +5,7 @@ use mathlib.Core.Bool.{true, false}
 use mathlib.Core.List.{List}
 use borrow.Author.Tests.{eq-eqb, ne-eqb}
 use lib.ListN.{take, drop}
-use Rattle.rules.specs.Content.{formOf}
+use Rattle.rules.specs.Reading.Contents.{formOf}
 use Rattle.rules.specs.Demands.{isData}
 use Rattle.text.specs.LinesFrom.{linesFrom}
 use Rattle.text.specs.declared.cursor.Cursor.{Cursor}

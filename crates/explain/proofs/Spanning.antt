@@ -9,7 +9,7 @@ use borrow.Author.Tests.{le-leb}
 use lib.IntN.{ℤ}
 use Rattle.rules.specs.Units.{rowsOf, inRange}
 use Rattle.rules.specs.Descriptions.{rows}
-use Rattle.rules.specs.Interpolation.{denOf, rowCode}
+use Rattle.rules.specs.Looking.Interpolation.{denOf, rowCode}
 use Rattle.rules.specs.Demands.{used, Each}
 use Rattle.rules.specs.declared.Colour.{Colour}
 use Rattle.rules.specs.declared.Colour.the-variants.{Red, Green, Blue}

@@ -3,8 +3,8 @@ use Prim.Native.Nat.{ℕ, suc, _-_}
 use mathlib.Core.Bool.{cond}
 use mathlib.Core.List.{List, [], _∷_}
 use lib.Dec.{eqb}
-use Rattle.rules.specs.Lines.{linesOf}
-use Rattle.rules.specs.Content.{formOf}
+use Rattle.rules.specs.Reading.Lines.{linesOf}
+use Rattle.rules.specs.Reading.Contents.{formOf}
 use Rattle.rules.specs.Demands.{isData}
 
 -- the number of data line k among lines of which the first has number n; 0 if there is none

@@ -6,7 +6,7 @@ use mathlib.Core.List.{List, [], _∷_, _++_}
 use lib.IntN.{ℤ, pos}
 use lib.Signed.{ltZ}
 use Rattle.rules.specs.Descriptions.{rows, couldBeRead}
-use Rattle.rules.specs.Interpolation.{share, denOf, rowCode}
+use Rattle.rules.specs.Looking.Interpolation.{share, denOf, rowCode}
 use Rattle.rules.specs.Demands.{used, Each}
 use Rattle.rules.specs.declared.Colour.{Colour}
 use Rattle.rules.specs.declared.Description.{Description}

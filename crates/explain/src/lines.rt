@@ -4,7 +4,7 @@ use text::Cursor;
 use text::Step;
 use text::form_of;
 ghost use mathlib.Core.Path.{_≡_};
-ghost use Rattle.rules.specs.Content.{formOf};
+ghost use Rattle.rules.specs.Reading.Contents.{formOf};
 ghost use Rattle.rules.specs.Demands.{isData};
 ghost use Rattle.explain.specs.RowLines.{lineOfRow};
 

@@ -8,7 +8,7 @@ use rules::Shares;
 ghost use mathlib.Core.Path.{_≡_};
 ghost use mathlib.Core.List.{[], _∷_};
 ghost use Prim.Native.Nat.{ℕ, _*_, _<_, min, max};
-ghost use Rattle.rules.specs.Interpolation.{share, rowCode};
+ghost use Rattle.rules.specs.Looking.Interpolation.{share, rowCode};
 ghost use Rattle.rules.specs.Demands.{Each};
 ghost use Rattle.colour.specs.Adding.{RowAt};
 ghost use Rattle.explain.specs.Spans.{carries, widened, spanOf, shownSpan, listed, fourOf, Seen};

@@ -10,7 +10,7 @@ use lib.IntN.{ℤ, pos, negsuc, natAbs}
 use lib.Signed.{ltZ}
 use Rattle.io.specs.Digits.{digits, glyph, Fewest}
 use Rattle.rules.specs.Reporting.{digitByte, decimalIn, decimal, signedDecimal}
-use Rattle.rules.proofs.Decimals.{one-digit, more-digits}
+use Rattle.rules.proofs.Reporting.Decimals.{one-digit, more-digits}
 
 -- a digit's byte
 glyph-digit : (d : ℕ) → d < 10 → glyph d ≡ digitByte d

@@ -10,8 +10,8 @@ use borrow.Author.Tests.{leb-true}
 use lib.Dec.{leb}
 use lib.ListN.{length, getD, drop, drop-of-length-le}
 use lib.Seq.{drop-cons}
-use Rattle.rules.specs.Lines.{digit, every}
-use Rattle.rules.specs.Numerals.{spell}
+use Rattle.rules.specs.Reading.Lines.{digit, every}
+use Rattle.rules.specs.Reading.Numerals.{spell}
 use Rattle.rules.proofs.Tests.{and-both}
 
 pub ten-pos : (k : ℕ) → 1 ≤ 10 ^ k

@@ -10,9 +10,9 @@ use borrow.Author.Tests.{lt-ltb, le-ltb, eq-eqb, ne-eqb}
 use lib.ListN.{length, take, drop, length-append, length-drop, take-append-drop, drop-of-length-le}
 use lib.Pow.{pow-add}
 use lib.Seq.{take-all}
-use Rattle.rules.specs.Lines.{digit, every}
-use Rattle.rules.specs.Numerals.{over, spell, under}
-use Rattle.rules.specs.Numbers.{settle}
+use Rattle.rules.specs.Reading.Lines.{digit, every}
+use Rattle.rules.specs.Reading.Numerals.{over, spell, under}
+use Rattle.rules.specs.Reading.Numbers.{settle}
 use Rattle.rules.specs.declared.Number.{Number}
 use Rattle.rules.proofs.Tests.{and-both, both-and}
 use Rattle.numbers.specs.Cuts.{Served, answer, cutOf, exponentCap, kept, mostLimit}

@@ -11,15 +11,14 @@ use lib.Dec.{ltb}
 use lib.ListN.{length, getD, drop, length-drop}
 use lib.Seq.{drop-drop}
 use mir.Val.{boolByte}
-use Rattle.rules.specs.Lines.{after, digit, eByte, every, minusByte, pointByte, run, starts}
-use Rattle.rules.specs.Numerals.{Exponent, Mantissa, Numeral, digits, plain, pointed}
-use Rattle.rules.specs.Numbers.{assemble, exponentOf, fractionOf, numeralOf, unsigned}
-use Rattle.rules.proofs.Numbers.{digits-parts, spells-of}
-use Rattle.rules.proofs.Runs.{after-stops, run-starts}
-use Rattle.scan.proofs.Runs.{run-le}
+use Rattle.rules.specs.Reading.Lines.{after, digit, eByte, every, minusByte, pointByte, run, starts}
+use Rattle.rules.specs.Reading.Numerals.{Exponent, Mantissa, Numeral, digits, plain, pointed}
+use Rattle.rules.specs.Reading.Numbers.{assemble, exponentOf, fractionOf, numeralOf, unsigned}
+use Rattle.rules.proofs.Reading.Numbers.{digits-parts, spells-of}
+use Rattle.rules.proofs.Reading.Runs.{after-stops, run-starts}
+use Rattle.scan.proofs.Runs.{run-le, drop-run, take-run}
 use Rattle.numbers.specs.Parts.{DigitsTo, part}
 use Rattle.numbers.proofs.Words.{run-there}
-use Rattle.scan.proofs.Runs.{drop-run, take-run}
 
 -- ---- the exponent
 

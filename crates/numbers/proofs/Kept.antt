@@ -6,7 +6,7 @@ use native.Mathlib.Nat.{mul-assoc, mul-one, mul-le-mul-left, pow-suc}
 use native.Mathlib.Numerals.{add-one}
 use native.Mathlib.Decide.{decLe}
 use native.Mathlib.Omega.{arith}
-use Rattle.rules.specs.Numerals.{spell}
+use Rattle.rules.specs.Reading.Numerals.{spell}
 use Rattle.numbers.specs.Cuts.{kept}
 use Rattle.numbers.proofs.Digits.{ten-pos}
 

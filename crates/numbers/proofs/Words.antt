@@ -8,8 +8,8 @@ use borrow.Author.Tests.{lt-ltb}
 use lib.Dec.{ltb}
 use lib.ListN.{length, drop}
 use mir.Val.{boolByte}
-use Rattle.rules.specs.Lines.{minusByte, plusByte, run, starts}
-use Rattle.rules.specs.Numbers.{unsigned}
+use Rattle.rules.specs.Reading.Lines.{minusByte, plusByte, run, starts}
+use Rattle.rules.specs.Reading.Numbers.{unsigned}
 
 -- ---- the first byte
 

@@ -6,8 +6,8 @@ use mathlib.Core.List.{List}
 use mathlib.Core.Option.{Option, none, some}
 use lib.Dec.{ltb}
 use lib.ListN.{length, take, drop}
-use Rattle.rules.specs.Lines.{after, digit, run, starts}
-use Rattle.rules.specs.Numerals.{Exponent, Numeral}
+use Rattle.rules.specs.Reading.Lines.{after, digit, run, starts}
+use Rattle.rules.specs.Reading.Numerals.{Exponent, Numeral}
 use Rattle.numbers.specs.declared.Parts.{Parts}
 use Rattle.numbers.specs.declared.NumeralFound.{NumeralFound}
 use Rattle.numbers.specs.declared.NumeralFound.the-variants.{Stands, NoNumber}

@@ -7,10 +7,10 @@ ghost use mathlib.Core.Option.{some};
 ghost use Prim.Native.Nat.{_+_, _-_, _*_, _^_, _≤_, min};
 ghost use lib.Dec.{eqb};
 ghost use lib.ListN.{length, drop};
-ghost use Rattle.rules.specs.Grammar.{lineLimit};
-ghost use Rattle.rules.specs.Lines.{eByte, starts};
-ghost use Rattle.rules.specs.Numerals.{digits, spell};
-ghost use Rattle.rules.specs.Numbers.{exponentOf, numberOf, numeralOf, unsigned, valueOf};
+ghost use Rattle.rules.specs.Reading.Grammar.{lineLimit};
+ghost use Rattle.rules.specs.Reading.Lines.{eByte, starts};
+ghost use Rattle.rules.specs.Reading.Numerals.{digits, spell};
+ghost use Rattle.rules.specs.Reading.Numbers.{exponentOf, numberOf, numeralOf, unsigned, valueOf};
 ghost use Rattle.numbers.specs.Cuts.{Served, answer, cutOf, exponentCap, kept, mostLimit, mostPlaces};
 ghost use Rattle.numbers.specs.Parts.{DigitsTo, Inside, PowerInside, exponentAt, numeral, numeralAt};
 

@@ -15,7 +15,8 @@ use Rattle.rules.specs.declared.Codes.{Codes}
 use Rattle.rules.specs.declared.DepthFound.the-variants.{Known}
 use Rattle.rules.specs.declared.Description.{Description}
 use Rattle.rules.specs.Demands.{pixelAt}
-use Rattle.rules.proofs.Checks.{pixel-within, corrected-length, corrected-at, look-0}
+use Rattle.rules.proofs.Picturing.Checks.{pixel-within, corrected-length, corrected-at}
+use Rattle.rules.proofs.Looking.Checks.{look-0}
 use Rattle.picture.specs.Filling.{pixelFrom, written, Judged, Fills}
 
 -- ---- a pixel written

@@ -7,8 +7,8 @@ use native.Mathlib.Numerals.{add-one}
 use lib.Dec.{leb, leb·zero}
 use lib.ListN.{length, drop, getD, drop-of-length-le}
 use lib.Seq.{drop-cons}
-use Rattle.rules.specs.Lines.{every}
-use Rattle.rules.proofs.Checks.{within-all}
+use Rattle.rules.specs.Reading.Lines.{every}
+use Rattle.rules.proofs.Picturing.Checks.{within-all}
 use Rattle.judge.proofs.Spans.{leb-max}
 
 -- the greatest of the first i codes, `most`, stands for them

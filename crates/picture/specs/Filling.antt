@@ -8,7 +8,7 @@ use lib.IntN.{ℤ}
 use lib.ListN.{length, take, drop, getD}
 use Rattle.rules.specs.Units.{depthOf}
 use Rattle.rules.specs.Descriptions.{couldBeRead}
-use Rattle.rules.specs.Lines.{every}
+use Rattle.rules.specs.Reading.Lines.{every}
 use Rattle.rules.specs.Answers.{codesOf}
 use Rattle.rules.specs.Picturing.{pixelOf, corrected}
 use Rattle.rules.specs.declared.Codes.{Codes}

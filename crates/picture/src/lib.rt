@@ -11,7 +11,7 @@ ghost use mathlib.Core.Path.{_≡_};
 ghost use Prim.Native.Nat.{ℕ, _+_, _<_, max};
 ghost use lib.Dec.{leb};
 ghost use lib.ListN.{length};
-ghost use Rattle.rules.specs.Lines.{every};
+ghost use Rattle.rules.specs.Reading.Lines.{every};
 ghost use Rattle.rules.specs.Promises.{Pictures};
 ghost use Rattle.picture.specs.Filling.{pixelFrom, written, Judged, Fills};
 

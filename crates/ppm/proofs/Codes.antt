@@ -7,7 +7,7 @@ use native.Mathlib.Omega.{arith}
 use borrow.Author.Tests.{leb-true}
 use lib.Dec.{leb}
 use lib.ListN.{length, getD}
-use Rattle.rules.specs.Lines.{every}
+use Rattle.rules.specs.Reading.Lines.{every}
 use Rattle.rules.proofs.Tests.{and-both}
 use Rattle.ppm.specs.Raster.{bytesOf, byteCount, codeCount, codesOf}
 

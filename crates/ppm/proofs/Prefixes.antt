@@ -10,8 +10,8 @@ use borrow.Author.Tests.{ne-eqb, le-ltb, ltb-false}
 use lib.Dec.{eqb, leb, ltb}
 use lib.ListN.{length, take, drop, getD, length-take}
 use lib.Seq.{length-take-le, take-all, take-take, take-nil, getD-take}
-use Rattle.rules.specs.Lines.{digit, run}
-use Rattle.rules.specs.Numerals.{spell}
+use Rattle.rules.specs.Reading.Lines.{digit, run}
+use Rattle.rules.specs.Reading.Numerals.{spell}
 use Rattle.ppm.specs.Header.{whitespace, goesOn, commentAfter, gapLength, gapEnd, digitsEnd, fieldBetween, fieldAt, withMaxval, afterHeight, withHeight, afterWidth, withWidth, startsP6, mostSize, mostMaxval, headerOf}
 use Rattle.ppm.specs.declared.header.Count.{Count}
 use Rattle.ppm.specs.declared.header.Fault.{Fault}

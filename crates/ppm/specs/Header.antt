@@ -6,8 +6,8 @@ use mathlib.Core.Bool.{Bool, false, cond, not, _&&_, _||_}
 use mathlib.Core.List.{List, [], _∷_}
 use lib.Dec.{eqb, leb, ltb}
 use lib.ListN.{length, take, drop, getD}
-use Rattle.rules.specs.Lines.{digit, hash, run}
-use Rattle.rules.specs.Numerals.{spell}
+use Rattle.rules.specs.Reading.Lines.{digit, hash, run}
+use Rattle.rules.specs.Reading.Numerals.{spell}
 use Rattle.ppm.specs.declared.header.Part.{Part}
 use Rattle.ppm.specs.declared.header.Part.the-variants.{Width, Height, Maxval}
 use Rattle.ppm.specs.declared.header.Fault.the-variants.{NotP6, EndsEarly, Malformed, Beyond}

@@ -3,7 +3,7 @@ ghost use mathlib.Core.Path.{_≡_};
 ghost use Prim.Native.Nat.{_+_, _*_, _/_, _%_, _<_, _≤_, min};
 ghost use lib.Dec.{leb};
 ghost use lib.ListN.{length, getD};
-ghost use Rattle.rules.specs.Lines.{run};
+ghost use Rattle.rules.specs.Reading.Lines.{run};
 ghost use Rattle.ppm.specs.Raster.{Copied, byteCount, bytesOf, codeCount, codesOf};
 
 fn smaller(a: usize, b: usize) -> usize

@@ -4,8 +4,7 @@ use Prim.Native.Nat.{ℕ, suc, _+_, _-_}
 use mathlib.Core.Path.{_≡_, sym, ap, subst, _∙_}
 use mathlib.Core.List.{List}
 use lib.ListN.{length, drop, take}
-use Rattle.rules.specs.Judge.{start, endFault, judge}
-use Rattle.rules.specs.Judge.{State as Given}
+use Rattle.rules.specs.Reading.Judge.{start, endFault, judge, State as Given}
 use Rattle.rules.specs.Reading.{finish, onward, readLines, read}
 use Rattle.rules.specs.declared.Refusal.{Refusal}
 use Rattle.rules.specs.declared.Read.{Read}

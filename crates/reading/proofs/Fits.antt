@@ -5,7 +5,7 @@ use mathlib.Core.Bool.{Bool, true, false, true≢false}
 use native.Mathlib.Omega.{arith}
 use Rattle.rules.specs.Units.{inRange}
 use Rattle.rules.specs.Descriptions.{lowest, highest, noTitle, description, everyColour, boundsFit}
-use Rattle.rules.specs.Judge.{givenOr, noSize, describe, given}
+use Rattle.rules.specs.Reading.Judge.{givenOr, noSize, describe, given}
 use Rattle.rules.specs.declared.Bounds.{Bounds}
 use Rattle.rules.specs.declared.Size.{Size}
 use Rattle.rules.specs.declared.Title.{Title}

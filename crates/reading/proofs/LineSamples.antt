@@ -10,10 +10,10 @@ use lib.ListN.{length, set, take-append-drop}
 use lib.Seq.{sets-eq}
 use denote.Enum.Declared.{tagOf}
 use types.Run.{OneOf}
-use Rattle.rules.specs.Lines.{wordsOf}
-use Rattle.rules.specs.Items.{numbersOf, rowIn}
-use Rattle.rules.specs.Grammar.{Line, gather, put}
-use Rattle.rules.specs.Content.{contentBy, contentOf, formOf, samplesOn}
+use Rattle.rules.specs.Reading.Lines.{wordsOf}
+use Rattle.rules.specs.Reading.Items.{numbersOf, rowIn}
+use Rattle.rules.specs.Reading.Grammar.{Line, gather, put}
+use Rattle.rules.specs.Reading.Contents.{contentBy, contentOf, formOf, samplesOn}
 use Rattle.rules.specs.Reading.{samplesIn, samplesOf}
 use Rattle.rules.specs.declared.Form.{Form}
 use Rattle.rules.specs.declared.Form.the-variants.{Data}
@@ -22,9 +22,9 @@ use Rattle.rules.specs.declared.Item.the-variants.{Nothing, OfTitle, OfLower, O
 use Rattle.rules.specs.declared.Refusal.{Refusal}
 use Rattle.rules.specs.declared.Row.{Row}
 use Rattle.rules.proofs.Form.{the-type}
-use Rattle.rules.proofs.Acceptance.{lines-samples}
-use Rattle.rules.proofs.OneLine.{found}
-use Rattle.rules.proofs.Order.{formFor}
+use Rattle.rules.proofs.Reading.Acceptance.{lines-samples}
+use Rattle.rules.proofs.Reading.OneLine.{found}
+use Rattle.rules.proofs.Reading.Order.{formFor}
 use Rattle.content.specs.Found.{sayRow}
 use Rattle.content.specs.declared.RowFound.{RowFound}
 use Rattle.content.specs.declared.RowFound.the-variants.{ARow, NoRow}

@@ -8,13 +8,12 @@ use lib.IntN.{ℤ}
 use lib.ListN.{length, drop, take, length-append, length-drop}
 use lib.Seq.{drop-at, drop-drop, length-take-le, take-add, take-all, take-append-seam, take-at}
 use Rattle.rules.specs.Descriptions.{rows}
-use Rattle.rules.specs.Lines.{linesOf}
-use Rattle.rules.specs.Content.{contentOf}
-use Rattle.rules.specs.Grammar.{Keeps, Lines}
+use Rattle.rules.specs.Reading.Lines.{linesOf}
+use Rattle.rules.specs.Reading.Contents.{contentOf}
+use Rattle.rules.specs.Reading.Grammar.{Keeps, Lines}
 use Rattle.rules.specs.Reading.{samplesIn, samplesOf}
 use Rattle.rules.specs.declared.Item.{Item}
-use Rattle.rules.proofs.Acceptance.{accepted-keeps}
-use Rattle.rules.proofs.Places.{keeps-length}
+use Rattle.rules.proofs.Reading.Acceptance.{accepted-keeps, keeps-length}
 use Rattle.text.specs.LinesFrom.{linesFrom}
 use Rattle.text.specs.declared.cursor.Cursor.{Cursor}
 use Rattle.text.proofs.Standing.{Standing, Beginning, LineFound, EndFound, step-first}

@@ -8,7 +8,7 @@ use borrow.Author.Tests.{eqb-false}
 use lib.Dec.{eqb}
 use Rattle.rules.specs.Units.{inRange, rowsOf}
 use Rattle.rules.specs.Descriptions.{rows}
-use Rattle.rules.specs.Judge.{describe, given, need, domainFault, headFault}
+use Rattle.rules.specs.Reading.Judge.{describe, given, need, domainFault, headFault}
 use Rattle.rules.specs.declared.Refusal.the-variants.{NoSize}
 use Rattle.rules.proofs.Tests.{need-none}
 use Rattle.reading.specs.View.{view, marked, Fit}

@@ -8,17 +8,17 @@ use native.Mathlib.Omega.{arith}
 use borrow.Author.Tests.{leb-true, ltb-true}
 use lib.ListN.{length}
 use Rattle.rules.specs.Descriptions.{rows}
-use Rattle.rules.specs.Grammar.{lineLimit, BoundsLine, Line}
-use Rattle.rules.specs.Content.{formOf, contentOf}
-use Rattle.rules.specs.Judge.{byteFault, describe, orderFault}
+use Rattle.rules.specs.Reading.Grammar.{lineLimit, BoundsLine, Line}
+use Rattle.rules.specs.Reading.Contents.{formOf, contentOf}
+use Rattle.rules.specs.Reading.Judge.{byteFault, describe, orderFault}
 use Rattle.rules.specs.declared.Bounds.{Bounds}
 use Rattle.rules.specs.declared.Content.the-variants.{Says}
 use Rattle.rules.specs.declared.Form.the-variants.{Data}
 use Rattle.rules.specs.declared.Item.{Item}
 use Rattle.rules.specs.declared.Item.the-variants.{Nothing, OfTitle, OfLower, OfUpper, OfSize, OfRow}
 use Rattle.rules.specs.declared.Keyword.{Keyword}
-use Rattle.rules.proofs.OneLine.{find, found}
-use Rattle.rules.proofs.Order.{formFor}
+use Rattle.rules.proofs.Reading.OneLine.{find, found}
+use Rattle.rules.proofs.Reading.Order.{formFor}
 use Rattle.rules.proofs.Tests.{need-none, first-none}
 use Rattle.judge.proofs.Rows.{rows-most}
 use Rattle.reading.specs.View.{view, BoundsWithin, Fit, RowWelcome, Welcome}

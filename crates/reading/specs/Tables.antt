@@ -4,7 +4,7 @@ use mathlib.Core.Path.{_≡_}
 use mathlib.Core.List.{List, _++_}
 use lib.ListN.{length, drop, take}
 use lib.IntN.{ℤ}
-use Rattle.rules.specs.Grammar.{Line}
+use Rattle.rules.specs.Reading.Grammar.{Line}
 use Rattle.rules.specs.Reading.{read}
 use Rattle.rules.specs.declared.Description.{Description}
 use Rattle.rules.specs.declared.Item.{Item}

@@ -6,8 +6,7 @@ use mathlib.Core.Option.{Option, none, some}
 use lib.IntN.{natAbs}
 use Rattle.rules.specs.Units.{boundLimit, inRange}
 use Rattle.rules.specs.Descriptions.{lowest, highest, noTitle}
-use Rattle.rules.specs.Judge.{noSize}
-use Rattle.rules.specs.Judge.{State as Given}
+use Rattle.rules.specs.Reading.Judge.{noSize, State as Given}
 use Rattle.rules.specs.declared.Bounds.{Bounds}
 use Rattle.rules.specs.declared.Item.{Item}
 use Rattle.rules.specs.declared.Item.the-variants.{Nothing, OfTitle, OfLower, OfUpper, OfSize, OfRow}

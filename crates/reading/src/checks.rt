@@ -16,7 +16,7 @@ ghost use mathlib.Core.Bool.{true, cond};
 ghost use lib.Dec.{ltb};
 ghost use Rattle.rules.specs.Units.{inRange};
 ghost use Rattle.rules.specs.Descriptions.{rows, everyColour, boundsFit};
-ghost use Rattle.rules.specs.Judge.{describe, first, domainFault, headFault, orderFault, endFault};
+ghost use Rattle.rules.specs.Reading.Judge.{describe, first, domainFault, headFault, orderFault, endFault};
 ghost use Rattle.rules.specs.Reading.{finish};
 ghost use Rattle.rules.specs.declared.Form.the-variants.{Keyed, Data};
 ghost use Rattle.text.specs.Answers.{faultOf};

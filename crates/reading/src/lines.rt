@@ -12,7 +12,7 @@ use text::form_of;
 ghost use mathlib.Core.Path.{_≡_};
 ghost use Prim.Native.Nat.{_+_, _≤_};
 ghost use lib.ListN.{length};
-ghost use Rattle.rules.specs.Judge.{judge};
+ghost use Rattle.rules.specs.Reading.Judge.{judge};
 ghost use Rattle.reading.specs.View.{view, Fit};
 ghost use Rattle.reading.specs.Verdicts.{judgedOf, FitJudged, stopped};
 

@@ -9,8 +9,8 @@ ghost use mathlib.Core.Path.{_≡_};
 ghost use mathlib.Core.List.{_++_};
 ghost use Prim.Native.Nat.{_+_, _≤_};
 ghost use lib.ListN.{length, drop};
-ghost use Rattle.rules.specs.Lines.{linesOf};
-ghost use Rattle.rules.specs.Content.{contentOf};
+ghost use Rattle.rules.specs.Reading.Lines.{linesOf};
+ghost use Rattle.rules.specs.Reading.Contents.{contentOf};
 ghost use Rattle.rules.specs.Reading.{samplesIn, samplesOf};
 ghost use Rattle.reading.specs.Tables.{LineKeeps, Accepts, written};
 

@@ -13,7 +13,7 @@ ghost use mathlib.Core.Path.{_≡_};
 ghost use mathlib.Core.Bool.{true};
 ghost use Rattle.rules.specs.Units.{inRange};
 ghost use Rattle.rules.specs.Descriptions.{alike};
-ghost use Rattle.rules.specs.Judge.{start, add, describe, repeats};
+ghost use Rattle.rules.specs.Reading.Judge.{start, add, describe, repeats};
 ghost use Rattle.rules.specs.declared.Item.the-variants.{OfTitle, OfLower, OfUpper, OfSize, OfRow};
 ghost use Rattle.reading.specs.View.{view, BoundsWithin, Fit, RowWelcome, Welcome};
 

@@ -5,7 +5,7 @@ use mathlib.Core.Bool.{true, false}
 use mathlib.Core.List.{List, [], _∷_, _++_}
 use native.Mathlib.Omega.{arith}
 use lib.ListN.{take, drop}
-use Rattle.rules.specs.Lines.{bytes}
+use Rattle.rules.specs.Reading.Lines.{bytes}
 use Rattle.rules.specs.Reporting.{lineOf, titleLine}
 use Rattle.rules.specs.declared.Title.{Title}
 

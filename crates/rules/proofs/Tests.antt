@@ -4,7 +4,7 @@ use mathlib.Core.Path.{_≡_, refl}
 use mathlib.Core.Bool.{Bool, true, false, _&&_, _||_, true≢false, false≢true}
 use mathlib.Core.Option.{Option, none, some}
 use native.Mathlib.Omega.{arith}
-use Rattle.rules.specs.Judge.{Fault, need, first}
+use Rattle.rules.specs.Reading.Judge.{Fault, need, first}
 use Rattle.rules.specs.declared.Refusal.{Refusal}
 
 pub no-some : {A : Type 0} (a : A) → _≡_ {A = Option A} (some a) none → ⊥

@@ -10,13 +10,13 @@ use lib.Signed.{_<ℤ_, _≤ℤ_}
 use Rattle.whole.specs.Nearest.{Nearest, weights}
 use Rattle.rules.specs.Units.{depthOf, samplePlaces, sampleLimit, colourPlace, codeIn}
 use Rattle.rules.specs.Descriptions.{rows}
-use Rattle.rules.specs.Lines.{linesOf, wordsOf}
-use Rattle.rules.specs.Numerals.{Exact}
-use Rattle.rules.specs.Grammar.{Keeps, TitleLine}
-use Rattle.rules.specs.Content.{formOf}
-use Rattle.rules.specs.Interpolation.{Order, denOf, positionOf, pairBy, pathBy, denominator, weighed, total, rowCode}
+use Rattle.rules.specs.Reading.Lines.{linesOf, wordsOf}
+use Rattle.rules.specs.Reading.Numerals.{Exact}
+use Rattle.rules.specs.Reading.Grammar.{Keeps, TitleLine}
+use Rattle.rules.specs.Reading.Contents.{formOf}
+use Rattle.rules.specs.Looking.Interpolation.{Order, denOf, positionOf, pairBy, pathBy, denominator, weighed, total, rowCode}
 use Rattle.rules.specs.Picturing.{pixelOf}
-use Rattle.rules.specs.Readings.{Reading, Descends}
+use Rattle.rules.specs.Looking.Readings.{Reading, Descends}
 use Rattle.rules.specs.declared.Form.{Form}
 use Rattle.rules.specs.declared.Form.the-variants.{Idle, Keyed, Data, Neither}
 use Rattle.rules.specs.declared.Codes.{Codes}

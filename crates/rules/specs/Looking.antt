@@ -7,7 +7,7 @@ use lib.IntN.{ℤ}
 use lib.ListN.{getD}
 use Rattle.rules.specs.Units.{depthOf}
 use Rattle.rules.specs.Descriptions.{couldBeRead}
-use Rattle.rules.specs.Interpolation.{share, denOf, pair, path, sharesFor, codeBy}
+use Rattle.rules.specs.Looking.Interpolation.{share, denOf, pair, path, sharesFor, codeBy}
 use Rattle.rules.specs.declared.Codes.{Codes}
 use Rattle.rules.specs.declared.Colour.{Colour}
 use Rattle.rules.specs.declared.Colour.the-variants.{Red, Green, Blue}
@@ -21,6 +21,9 @@ use Rattle.rules.specs.declared.Look.the-variants.{Accepted, Refused}
 use Rattle.rules.specs.declared.Refusal.the-variants.{DepthUnknown, CodeTooGreat, CouldNotBeRead}
 use Rattle.rules.specs.declared.Share.{Share}
 use Rattle.rules.specs.declared.Shares.{Shares}
+-- positions, paths, weights and codes; the other readings of a position
+pub mod Interpolation
+pub mod Readings
 
 -- no code above M
 unfoldable pub within : ℕ → Codes → Bool

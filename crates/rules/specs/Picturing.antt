@@ -7,7 +7,7 @@ use lib.IntN.{ℤ}
 use lib.ListN.{length, drop}
 use Rattle.rules.specs.Units.{depthOf}
 use Rattle.rules.specs.Descriptions.{couldBeRead}
-use Rattle.rules.specs.Lines.{every}
+use Rattle.rules.specs.Reading.Lines.{every}
 use Rattle.rules.specs.Looking.{look}
 use Rattle.rules.specs.Answers.{lookCodes}
 use Rattle.rules.specs.declared.Codes.{Codes}

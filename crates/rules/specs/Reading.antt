@@ -5,15 +5,25 @@ use mathlib.Core.Option.{none, some}
 use lib.ListN.{length, drop}
 use lib.IntN.{ℤ}
 use Rattle.rules.specs.Descriptions.{rows}
-use Rattle.rules.specs.Lines.{linesOf}
-use Rattle.rules.specs.Items.{numbersOf}
-use Rattle.rules.specs.Content.{contentOf}
-use Rattle.rules.specs.Judge.{State, start, describe, Fault, Judged, go, refuse, judge, endFault}
+use Rattle.rules.specs.Reading.Lines.{linesOf}
+use Rattle.rules.specs.Reading.Items.{numbersOf}
+use Rattle.rules.specs.Reading.Contents.{contentOf}
+use Rattle.rules.specs.Reading.Judge.{State, start, describe, Fault, Judged, go, refuse, judge, endFault}
 use Rattle.rules.specs.declared.Content.{Content}
 use Rattle.rules.specs.declared.Content.the-variants.{Says, Wrong}
 use Rattle.rules.specs.declared.Item.the-variants.{Nothing, OfTitle, OfLower, OfUpper, OfSize, OfRow}
 use Rattle.rules.specs.declared.Read.{Read}
 use Rattle.rules.specs.declared.Read.the-variants.{Accepted, Refused}
+-- bytes, lines and words
+pub mod Lines
+-- a file that keeps the specification, as a property
+pub mod Numerals
+pub mod Items
+pub mod Grammar
+-- what words and lines say, and the judge of a line
+pub mod Numbers
+pub mod Contents
+pub mod Judge
 
 -- the end of the file, on line n
 abbrev pub finish : ℕ → State → Fault → Read

@@ -7,7 +7,7 @@ use lib.Dec.{ltb, leb}
 use lib.IntN.{ℤ, pos, negsuc}
 use lib.ListN.{length, take, drop}
 use Rattle.rules.specs.Units.{rowsOf}
-use Rattle.rules.specs.Lines.{bytes}
+use Rattle.rules.specs.Reading.Lines.{bytes}
 use Rattle.rules.specs.Reading.{read}
 use Rattle.rules.specs.Answers.{readNumber, readLine}
 use Rattle.rules.specs.declared.Colour.{Colour}

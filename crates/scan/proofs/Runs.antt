@@ -8,8 +8,8 @@ use native.Mathlib.Omega.{arith}
 use lib.Dec.{eqb, eqb·suc-suc, eqb·zero-suc}
 use lib.ListN.{length, getD, take, drop, drop-of-length-le, length-drop}
 use lib.Seq.{drop-cons, take-all, take-at, drop-at}
-use Rattle.rules.specs.Lines.{after, every, run, starts}
-use Rattle.rules.proofs.Runs.{run-after}
+use Rattle.rules.specs.Reading.Lines.{after, every, run, starts}
+use Rattle.rules.proofs.Reading.Runs.{run-after}
 
 -- the run's length, where the first i bytes are of the kind
 abbrev pub runFrom : (ℕ → Bool) → List ℕ → ℕ → ℕ

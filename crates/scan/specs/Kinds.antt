@@ -1,7 +1,7 @@
 -- Each kind of byte is one of the rules'.
 use Prim.Native.Nat.{ℕ}
 use mathlib.Core.Bool.{Bool, not}
-use Rattle.rules.specs.Lines.{newline, permitted, blank, inWord, digit, inTitle}
+use Rattle.rules.specs.Reading.Lines.{newline, permitted, blank, inWord, digit, inTitle}
 use Rattle.scan.specs.declared.ByteKind.{ByteKind}
 use Rattle.scan.specs.declared.ByteKind.the-variants.{InLine, Permitted, Blank, InWord, Digit, InTitle}
 

@@ -2,7 +2,7 @@
 ghost use mathlib.Core.Path.{_≡_};
 ghost use Prim.Native.Nat.{_≤_};
 ghost use lib.ListN.{length};
-ghost use Rattle.rules.specs.Lines.{permitted, blank, digit, inTitle, numberByte, run};
+ghost use Rattle.rules.specs.Reading.Lines.{permitted, blank, digit, inTitle, numberByte, run};
 ghost use Rattle.scan.specs.Kinds.{kindOf};
 
 // The kinds of bytes that runs are made of.

@@ -5,8 +5,8 @@ use mathlib.Core.Bool.{true, cond, _&&_}
 use mathlib.Core.List.{List, [], _∷_}
 use native.Mathlib.Omega.{arith}
 use lib.ListN.{length, drop, getD}
-use Rattle.rules.specs.Lines.{after, blank, every, hash, inTitle, quote, run, wordsOf}
-use Rattle.rules.specs.Content.{closes, formOf, quoted, wordForm}
+use Rattle.rules.specs.Reading.Lines.{after, blank, every, hash, inTitle, quote, run, wordsOf}
+use Rattle.rules.specs.Reading.Contents.{closes, formOf, quoted, wordForm}
 use Rattle.rules.specs.declared.Content.the-variants.{Says, Wrong}
 use Rattle.rules.specs.declared.Form.the-variants.{Idle}
 use Rattle.rules.specs.declared.Item.the-variants.{OfTitle}

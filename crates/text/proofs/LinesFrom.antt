@@ -8,7 +8,7 @@ use borrow.Author.Tests.{le-ltb, lt-ltb, ltb-false, ltb-true}
 use lib.Dec.{eqb, leb·suc-suc, ltb}
 use lib.ListN.{length, drop, take, length-drop}
 use lib.Seq.{drop-drop, length-take-le}
-use Rattle.rules.specs.Lines.{linesOf, onFirst, run}
+use Rattle.rules.specs.Reading.Lines.{linesOf, onFirst, run}
 use Rattle.scan.specs.Kinds.{inLine}
 use Rattle.text.specs.LinesFrom.{endOf, linesFrom}
 use Rattle.text.proofs.RunLaws.{end-within}

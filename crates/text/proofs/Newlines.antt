@@ -9,7 +9,7 @@ use borrow.Author.Tests.{le-ltb, lt-ltb, ltb-false, ltb-true}
 use lib.Dec.{eqb, leb·suc-suc, ltb}
 use lib.ListN.{length, drop, take, length-drop, length-take}
 use lib.Seq.{take-add}
-use Rattle.rules.specs.Lines.{newlines, run}
+use Rattle.rules.specs.Reading.Lines.{newlines, run}
 use Rattle.scan.specs.Kinds.{inLine}
 use Rattle.text.specs.LinesFrom.{endOf}
 

@@ -5,7 +5,7 @@ use mathlib.Core.Bool.{Bool}
 use mathlib.Core.List.{List}
 use native.Mathlib.Omega.{arith}
 use lib.ListN.{length, drop, take, length-drop}
-use Rattle.rules.specs.Lines.{after, run}
+use Rattle.rules.specs.Reading.Lines.{after, run}
 use Rattle.scan.proofs.Runs.{run-le, part-to-end, drop-run}
 use Rattle.text.specs.RunEnds.{runEnd}
 

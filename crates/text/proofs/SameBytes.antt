@@ -4,8 +4,8 @@ use mathlib.Core.Path.{_≡_, refl, sym}
 use mathlib.Core.Bool.{Bool, true, false}
 use mathlib.Core.List.{List, [], _∷_}
 use borrow.Author.Tests.{eq-eqb}
-use Rattle.rules.specs.Lines.{same}
-use Rattle.rules.proofs.Wordings.{same-eq}
+use Rattle.rules.specs.Reading.Lines.{same}
+use Rattle.rules.proofs.Reading.Wordings.{same-eq}
 
 same-self : (a : List ℕ) → same a a ≡ true
 unfolding same

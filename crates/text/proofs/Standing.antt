@@ -8,7 +8,7 @@ use borrow.Author.Tests.{le-ltb, lt-ltb, ltb-false, ltb-true}
 use lib.Dec.{ltb}
 use lib.ListN.{length, drop, take}
 use lib.Seq.{take-all}
-use Rattle.rules.specs.Lines.{linesOf, newlines}
+use Rattle.rules.specs.Reading.Lines.{linesOf, newlines}
 use Rattle.scan.specs.Kinds.{inLine}
 use Rattle.text.specs.LinesFrom.{endOf, linesFrom, stepAt}
 use Rattle.text.specs.declared.cursor.Cursor.{Cursor}

@@ -8,10 +8,10 @@ use borrow.Author.Tests.{eqb-false, eqb-true}
 use lib.Dec.{eqb}
 use lib.ListN.{length, drop, take, drop-of-length-le, length-drop}
 use lib.Seq.{drop-drop}
-use Rattle.rules.specs.Lines.{after, blank, inWord, run, starts, wordsOf}
+use Rattle.rules.specs.Reading.Lines.{after, blank, inWord, run, starts, wordsOf}
 use Rattle.rules.proofs.Tests.{no-true}
-use Rattle.rules.proofs.Runs.{after-stops, run-after, run-every, run-starts}
-use Rattle.rules.proofs.Wordings.{words-first}
+use Rattle.rules.proofs.Reading.Runs.{after-stops, run-after, run-every, run-starts}
+use Rattle.rules.proofs.Reading.Wordings.{words-first}
 use Rattle.text.specs.WordsFrom.{wordAt, wordEnd, wordStart}
 use Rattle.text.specs.declared.words.Word.the-variants.{At, Nothing}
 use Rattle.text.proofs.RunLaws.{end-within}

@@ -1,6 +1,6 @@
 -- What the answers say in the rules' terms.
 use mathlib.Core.Option.{Option, none, some}
-use Rattle.rules.specs.Judge.{Fault}
+use Rattle.rules.specs.Reading.Judge.{Fault}
 use Rattle.rules.specs.declared.Keyword.{Keyword}
 use Rattle.text.specs.declared.keywords.KeywordFound.{KeywordFound}
 use Rattle.text.specs.declared.keywords.KeywordFound.the-variants.{Known, Unknown}

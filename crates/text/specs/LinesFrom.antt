@@ -4,7 +4,7 @@ use mathlib.Core.Bool.{cond}
 use mathlib.Core.List.{List, []}
 use lib.Dec.{ltb}
 use lib.ListN.{length, drop}
-use Rattle.rules.specs.Lines.{linesOf}
+use Rattle.rules.specs.Reading.Lines.{linesOf}
 use Rattle.scan.specs.Kinds.{inLine}
 use Rattle.text.specs.RunEnds.{runEnd}
 use Rattle.text.specs.declared.cursor.Step.{Step}

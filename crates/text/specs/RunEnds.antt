@@ -3,7 +3,7 @@ use Prim.Native.Nat.{ℕ, _+_}
 use mathlib.Core.Bool.{Bool}
 use mathlib.Core.List.{List}
 use lib.ListN.{length, drop}
-use Rattle.rules.specs.Lines.{run}
+use Rattle.rules.specs.Reading.Lines.{run}
 
 -- where the run from place p on ends
 abbrev pub runEnd : (ℕ → Bool) → List ℕ → ℕ → ℕ

@@ -2,8 +2,8 @@
 use rules::Keyword;
 use rules::Kind;
 ghost use mathlib.Core.Path.{_≡_};
-ghost use Rattle.rules.specs.Lines.{same};
-ghost use Rattle.rules.specs.Content.{keywordOf};
+ghost use Rattle.rules.specs.Reading.Lines.{same};
+ghost use Rattle.rules.specs.Reading.Contents.{keywordOf};
 ghost use Rattle.text.specs.Answers.{foundOf};
 
 const TITLE: [u8; 5] = *b"TITLE";

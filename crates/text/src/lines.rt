@@ -9,9 +9,9 @@ use rules::Refusal;
 use scan::ByteKind;
 ghost use mathlib.Core.Path.{_≡_};
 ghost use mathlib.Core.List.{[], _∷_};
-ghost use Rattle.rules.specs.Lines.{numberByte, starts};
-ghost use Rattle.rules.specs.Content.{formOf, wordForm};
-ghost use Rattle.rules.specs.Judge.{byteFault};
+ghost use Rattle.rules.specs.Reading.Lines.{numberByte, starts};
+ghost use Rattle.rules.specs.Reading.Contents.{formOf, wordForm};
+ghost use Rattle.rules.specs.Reading.Judge.{byteFault};
 ghost use Rattle.text.specs.Answers.{faultOf};
 
 // A line has at most so many bytes.

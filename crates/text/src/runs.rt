@@ -4,7 +4,7 @@ use scan::run_length;
 ghost use mathlib.Core.Path.{_≡_};
 ghost use Prim.Native.Nat.{_≤_};
 ghost use lib.ListN.{length};
-ghost use Rattle.rules.specs.Lines.{after, every};
+ghost use Rattle.rules.specs.Reading.Lines.{after, every};
 ghost use Rattle.scan.specs.Kinds.{kindOf};
 ghost use Rattle.text.specs.RunEnds.{runEnd};
 

@@ -10,7 +10,7 @@ use scan::run_length;
 ghost use mathlib.Core.Path.{_≡_};
 ghost use Prim.Native.Nat.{_+_, _≤_};
 ghost use lib.ListN.{length};
-ghost use Rattle.rules.specs.Content.{closes, quoted, titleOf};
+ghost use Rattle.rules.specs.Reading.Contents.{closes, quoted, titleOf};
 
 // The title of a line that begins at a place of the file.
 pub fn title_of(l: &[u8], place: usize) -> Content

@@ -13,8 +13,8 @@ use Rattle.rules.specs.declared.Depth.{Depth}
 use Rattle.rules.specs.declared.DepthFound.the-variants.{Known}
 use Rattle.rules.specs.declared.Look.the-variants.{Accepted}
 use Rattle.rules.proofs.Depths.{depth-bounds}
-use Rattle.rules.proofs.Unique.{is-looks}
-use Rattle.rules.proofs.Checks.{look-24, look-20, look-23, look-0}
+use Rattle.rules.proofs.Answers.{is-looks}
+use Rattle.rules.proofs.Looking.Checks.{look-24, look-20, look-23, look-0}
 use Rattle.colour.proofs.Weighing.{ToWeigh, shown-weighed, shown-corrects}
 use Rattle.colour.proofs.look.Statement.{statement}
 use Rattle.colour.proofs.look.Tie as tie

@@ -5,8 +5,8 @@ use mathlib.Core.Path.{sym, ap, _∙_}
 use native.Mathlib.Omega.{arith}
 use borrow.Author.Needs.{needs}
 use lib.ListN.{length, drop-of-length-le}
-use Rattle.rules.specs.Lines.{wordsOf}
-use Rattle.rules.specs.Content.{parameters}
+use Rattle.rules.specs.Reading.Lines.{wordsOf}
+use Rattle.rules.specs.Reading.Contents.{parameters}
 use Rattle.text.proofs.WordsFrom.{WordFound, words-next, words-none}
 use Rattle.content.proofs.after_first_word.Statement.{statement}
 use Rattle.content.proofs.after_first_word.Tie as tie

@@ -3,8 +3,8 @@ use denote.Ref.{now}
 use mathlib.Core.Path.{_≡_, ap, _∙_}
 use borrow.Author.Needs.{needs}
 use lib.ListN.{drop}
-use Rattle.rules.specs.Lines.{wordsOf}
-use Rattle.rules.specs.Content.{boundsAt, boundsOf, values}
+use Rattle.rules.specs.Reading.Lines.{wordsOf}
+use Rattle.rules.specs.Reading.Contents.{boundsAt, boundsOf, values}
 use Rattle.rules.specs.declared.Bounds.{Bounds}
 use Rattle.rules.specs.declared.Content.the-variants.{Says}
 use Rattle.rules.specs.declared.Item.{Item}

@@ -1,7 +1,7 @@
 -- The form's variant picks the definition's clause.
 use mathlib.Core.Path.{_∙_}
 use borrow.Author.Needs.{needs}
-use Rattle.rules.specs.Content.{contentBy}
+use Rattle.rules.specs.Reading.Contents.{contentBy}
 use Rattle.content.proofs.content_by.Statement.{statement}
 use Rattle.content.proofs.content_by.Tie as tie
 

@@ -1,7 +1,7 @@
 -- The line's words past the first are the keyword's parameters; a title is found in the line itself.
 use mathlib.Core.Path.{ap, _∙_}
 use borrow.Author.Needs.{needs}
-use Rattle.rules.specs.Content.{boundsOf, contentBy, sizeOf}
+use Rattle.rules.specs.Reading.Contents.{boundsOf, contentBy, sizeOf}
 use Rattle.rules.specs.declared.Item.the-variants.{OfLower, OfUpper}
 use Rattle.content.proofs.keyed_content.Statement.{statement}
 use Rattle.content.proofs.keyed_content.Tie as tie

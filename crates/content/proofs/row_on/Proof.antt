@@ -2,8 +2,8 @@
 use denote.Ref.{now}
 use mathlib.Core.Path.{_≡_, ap, _∙_}
 use borrow.Author.Needs.{needs}
-use Rattle.rules.specs.Lines.{wordsOf}
-use Rattle.rules.specs.Content.{rowOf, samplesOn, values}
+use Rattle.rules.specs.Reading.Lines.{wordsOf}
+use Rattle.rules.specs.Reading.Contents.{rowOf, samplesOn, values}
 use Rattle.rules.specs.declared.Content.the-variants.{Says}
 use Rattle.rules.specs.declared.Item.the-variants.{OfRow}
 use Rattle.rules.specs.declared.Refusal.the-variants.{NotThreeNumbers, SampleBeyond, SampleTooFine}

@@ -5,7 +5,7 @@ use mathlib.Core.List.{List}
 use mathlib.Core.Path.{sym, _∙_}
 use native.Mathlib.Omega.{arith}
 use borrow.Author.Needs.{needs}
-use Rattle.rules.specs.Content.{sizeOf}
+use Rattle.rules.specs.Reading.Contents.{sizeOf}
 use Rattle.text.proofs.WordsFrom.{WordFound, words-next, words-none}
 use Rattle.content.proofs.size_on.Statement.{statement}
 use Rattle.content.proofs.size_on.Tie as tie

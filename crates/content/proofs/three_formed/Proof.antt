@@ -3,7 +3,7 @@ use mathlib.Core.Path.{_≡_, sym, _∙_}
 use mathlib.Core.Bool.{true}
 use borrow.Author.Needs.{needs}
 use borrow.Author.Tests.{not-true, not-false}
-use Rattle.rules.specs.Content.{formed}
+use Rattle.rules.specs.Reading.Contents.{formed}
 use Rattle.content.proofs.three_formed.Statement.{statement}
 use Rattle.content.proofs.three_formed.Tie as tie
 

@@ -1,7 +1,7 @@
 -- The tests in the order of the definition; a value that an i64 holds is the value handed on.
 use mathlib.Core.Path.{sym, ap, _∙_}
 use borrow.Author.Needs.{needs}
-use Rattle.rules.specs.Content.{values}
+use Rattle.rules.specs.Reading.Contents.{values}
 use Rattle.rules.specs.declared.Content.the-variants.{Wrong}
 use Rattle.content.specs.Found.{foundThree}
 use Rattle.content.proofs.InOrder.{all-valued, first-refused, held, second-refused, third-refused}

@@ -6,7 +6,7 @@ use Prim.Native.Nat.{_<_}
 use lib.ListN.{length}
 use denote.Ref.{now}
 use Rattle.rules.specs.Boundary.{elevenOf}
-use Rattle.rules.proofs.Fits.{Crossable, description-fits}
+use Rattle.rules.proofs.Boundary.Fits.{Crossable, description-fits}
 use Rattle.erythmoda.proofs.erythmoda_read.Statement.{statement}
 use Rattle.erythmoda.proofs.erythmoda_read.Tie as tie
 

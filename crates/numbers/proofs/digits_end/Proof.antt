@@ -3,7 +3,7 @@ use denote.Ref.{now}
 use mathlib.Core.Path.{ap, _∙_}
 use borrow.Author.Needs.{needs}
 use lib.ListN.{length}
-use Rattle.rules.specs.Lines.{digit, run}
+use Rattle.rules.specs.Reading.Lines.{digit, run}
 use Rattle.numbers.proofs.Grammar.{digits-to}
 use Rattle.scan.proofs.Runs.{part-to-end}
 use Rattle.numbers.proofs.digits_end.Statement.{statement}

@@ -6,8 +6,8 @@ use borrow.Author.Needs.{needs}
 use borrow.Author.Tests.{lt-ltb, le-ltb}
 use lib.Dec.{eqb}
 use lib.ListN.{length}
-use Rattle.rules.specs.Lines.{digit, run}
-use Rattle.rules.specs.Numerals.{digits}
+use Rattle.rules.specs.Reading.Lines.{digit, run}
+use Rattle.rules.specs.Reading.Numerals.{digits}
 use Rattle.numbers.proofs.Words.{run-there}
 use Rattle.scan.proofs.Runs.{every-run}
 use Rattle.numbers.proofs.is_digits.Statement.{statement}

@@ -7,8 +7,8 @@ use mathlib.Core.Option.{some}
 use native.Mathlib.Omega.{arith}
 use borrow.Author.Needs.{needs}
 use lib.ListN.{length, drop, length-drop, length-take}
-use Rattle.rules.specs.Numerals.{Numeral}
-use Rattle.rules.specs.Numbers.{numberOf, numeralOf, valueOf}
+use Rattle.rules.specs.Reading.Numerals.{Numeral}
+use Rattle.rules.specs.Reading.Numbers.{numberOf, numeralOf, valueOf}
 use Rattle.numbers.specs.Parts.{Placed, numeral, part}
 use Rattle.numbers.specs.declared.Parts.{Parts}
 use Rattle.numbers.proofs.Grammar.{numeral-digits}

@@ -13,9 +13,9 @@ use lib.Dec.{ltb}
 use lib.ListN.{length, drop, length-drop}
 use lib.Seq.{drop-drop}
 use mir.Val.{boolByte}
-use Rattle.rules.specs.Lines.{pointByte, starts}
-use Rattle.rules.specs.Numerals.{Exponent, Numeral}
-use Rattle.rules.specs.Numbers.{assemble, exponentOf, numeralOf}
+use Rattle.rules.specs.Reading.Lines.{pointByte, starts}
+use Rattle.rules.specs.Reading.Numerals.{Exponent, Numeral}
+use Rattle.rules.specs.Reading.Numbers.{assemble, exponentOf, numeralOf}
 use Rattle.numbers.specs.Parts.{PowerInside, exponentAt, part}
 use Rattle.numbers.specs.declared.PowerFound.{PowerFound}
 use Rattle.numbers.proofs.Grammar.{numeral-by}

@@ -9,9 +9,9 @@ use native.Mathlib.Omega.{arith}
 use borrow.Author.Needs.{needs}
 use borrow.Author.Tests.{not-true, not-false}
 use lib.ListN.{length, drop}
-use Rattle.rules.specs.Lines.{minusByte, starts}
-use Rattle.rules.specs.Numerals.{digits}
-use Rattle.rules.specs.Numbers.{exponentOf}
+use Rattle.rules.specs.Reading.Lines.{minusByte, starts}
+use Rattle.rules.specs.Reading.Numerals.{digits}
+use Rattle.rules.specs.Reading.Numbers.{exponentOf}
 use Rattle.numbers.specs.Parts.{part}
 use Rattle.numbers.proofs.Grammar.{exponent-absent, exponent-by, exponent-there}
 use Rattle.scan.proofs.Runs.{part-to-end}

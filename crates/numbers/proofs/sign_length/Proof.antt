@@ -2,7 +2,7 @@
 use denote.Ref.{now}
 use mathlib.Core.Path.{refl, sym, _∙_}
 use borrow.Author.Needs.{needs}
-use Rattle.rules.specs.Lines.{minusByte, starts}
+use Rattle.rules.specs.Reading.Lines.{minusByte, starts}
 use Rattle.numbers.proofs.Words.{sign-skipped}
 use Rattle.numbers.proofs.sign_length.Statement.{statement}
 use Rattle.numbers.proofs.sign_length.Tie as tie

@@ -5,7 +5,7 @@ use mathlib.Core.Path.{_≡_, refl, sym, ap, _∙_}
 use native.Mathlib.Omega.{arith}
 use borrow.Author.Needs.{needs}
 use lib.ListN.{length, drop}
-use Rattle.rules.specs.Numerals.{spell}
+use Rattle.rules.specs.Reading.Numerals.{spell}
 use Rattle.numbers.specs.Cuts.{kept}
 use Rattle.numbers.proofs.Digits.{spell-end, spell-step}
 use Rattle.numbers.proofs.Kept.{kept-spell}

@@ -2,7 +2,7 @@
 use denote.Ref.{now}
 use mathlib.Core.Path.{sym, ap, _∙_}
 use borrow.Author.Needs.{needs}
-use Rattle.rules.specs.Numerals.{spell}
+use Rattle.rules.specs.Reading.Numerals.{spell}
 use Rattle.numbers.specs.Cuts.{kept}
 use Rattle.numbers.proofs.Digits.{spell-append}
 use Rattle.numbers.proofs.Kept.{kept-spell}

@@ -7,7 +7,7 @@ use native.Mathlib.Omega.{arith}
 use borrow.Author.Needs.{needs}
 use lib.ListN.{length}
 use lib.Seq.{length-take-le}
-use Rattle.rules.specs.Numerals.{spell}
+use Rattle.rules.specs.Reading.Numerals.{spell}
 use Rattle.numbers.specs.Cuts.{answer, cutOf, kept}
 use Rattle.numbers.proofs.Exact.{exact}
 use Rattle.scan.proofs.Runs.{part-to-end}

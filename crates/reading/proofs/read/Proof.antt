@@ -6,9 +6,9 @@ use borrow.Author.Needs.{needs}
 use denote.Ref.{now}
 use lib.ListN.{length, drop}
 use lib.IntN.{ℤ}
-use Rattle.rules.specs.Lines.{linesOf}
+use Rattle.rules.specs.Reading.Lines.{linesOf}
 use Rattle.rules.specs.Reading.{samplesOf, tableAfter}
-use Rattle.rules.proofs.Unique.{is-reads}
+use Rattle.rules.proofs.Answers.{is-reads}
 use Rattle.reading.specs.Tables.{Accepts}
 use Rattle.reading.proofs.SecondPass.{accepted-length}
 use Rattle.reading.proofs.read.Statement.{statement}

@@ -1,6 +1,6 @@
 -- Each arm puts the name that the definition gives its colour.
 use borrow.Author.Needs.{needs}
-use Rattle.rules.specs.Lines.{bytes}
+use Rattle.rules.specs.Reading.Lines.{bytes}
 use Rattle.reporting.proofs.put_colour.Statement.{statement}
 use Rattle.reporting.proofs.put_colour.Tie as tie
 

@@ -2,7 +2,7 @@
 use Prim.Native.Nat.{ℕ}
 use mathlib.Core.List.{List, [], _∷_}
 use borrow.Author.Needs.{needs}
-use Rattle.rules.specs.Lines.{bytes}
+use Rattle.rules.specs.Reading.Lines.{bytes}
 use Rattle.rules.specs.Reporting.{decimal, lineOf, kindName, cubeLine}
 use Rattle.lettering.specs.Putting.{Room}
 use Rattle.lettering.proofs.Texts.{first-room, next-room, puts-both}

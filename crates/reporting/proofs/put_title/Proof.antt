@@ -8,7 +8,7 @@ use native.Mathlib.Omega.{arith}
 use borrow.Author.Needs.{needs}
 use borrow.Author.Tests.{not-true, not-false}
 use lib.ListN.{length}
-use Rattle.rules.specs.Lines.{bytes}
+use Rattle.rules.specs.Reading.Lines.{bytes}
 use Rattle.rules.specs.Reporting.{titleLine}
 use Rattle.lettering.specs.Putting.{Room}
 use Rattle.lettering.proofs.Texts.{first-room, next-room, puts-both}

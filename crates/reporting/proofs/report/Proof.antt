@@ -7,7 +7,7 @@ use Rattle.rules.specs.Reading.{read}
 use Rattle.rules.specs.Reporting.{reportPlaces, refusedLine, answerText, reportText}
 use Rattle.rules.specs.declared.Read.the-variants.{Accepted}
 use Rattle.rules.specs.declared.Refusal.the-variants.{InputTooLong}
-use Rattle.rules.proofs.Unique.{reads-is}
+use Rattle.rules.proofs.Answers.{reads-is}
 use Rattle.reporting.proofs.Answered.{too-long, answered, tellable, room, reports}
 use Rattle.reporting.proofs.report.Statement.{statement}
 use Rattle.reporting.proofs.report.Tie as tie

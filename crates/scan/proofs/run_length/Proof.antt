@@ -4,7 +4,7 @@ use Prim.Native.Nat.{_≤_, _-_}
 use mathlib.Core.Path.{_≡_, sym, _∙_}
 use lib.ListN.{length}
 use borrow.Author.Tests.{not-true, not-false}
-use Rattle.rules.specs.Lines.{run}
+use Rattle.rules.specs.Reading.Lines.{run}
 use Rattle.scan.specs.Kinds.{kindOf}
 use Rattle.scan.proofs.Runs.{runFrom, run-more, run-stop, run-end}
 use borrow.Author.Needs.{needs}

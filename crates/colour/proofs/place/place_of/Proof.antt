@@ -3,7 +3,7 @@ use Prim.Native.Nat.{ℕ, _-_, _*_, _/_, _≤_, _<_, min}
 use native.Mathlib.Nat as NatL
 use native.Mathlib.Omega.{arith}
 use borrow.Author.Needs.{needs}
-use Rattle.rules.specs.Interpolation.{offset, position, index, fraction}
+use Rattle.rules.specs.Looking.Interpolation.{offset, position, index, fraction}
 use Rattle.rules.proofs.Judged.{wide-enough}
 use Rattle.colour.specs.Limits.{denLimit}
 use Rattle.colour.specs.Places.{placeOf}

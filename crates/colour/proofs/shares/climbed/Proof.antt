@@ -1,6 +1,6 @@
 -- Four shares, each with what is left of its fraction after the next step's, and two of zeros.
 use borrow.Author.Needs.{needs}
-use Rattle.rules.specs.Interpolation.{climb}
+use Rattle.rules.specs.Looking.Interpolation.{climb}
 use Rattle.colour.proofs.shares.climbed.Statement.{statement}
 use Rattle.colour.proofs.shares.climbed.Tie as tie
 

@@ -3,7 +3,7 @@ use native.Mathlib.Omega.{arith}
 use borrow.Author.Needs.{needs}
 use Rattle.rules.specs.Units.{codeIn}
 use Rattle.rules.specs.Descriptions.{domain}
-use Rattle.rules.specs.Interpolation.{denOf, indexOf, fractionOf, path}
+use Rattle.rules.specs.Looking.Interpolation.{denOf, indexOf, fractionOf, path}
 use Rattle.rules.specs.Looking.{shown}
 use Rattle.rules.specs.declared.Colour.{Colour}
 use Rattle.rules.specs.declared.Colour.the-variants.{Red, Green, Blue}

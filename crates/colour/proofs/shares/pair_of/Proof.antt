@@ -2,7 +2,7 @@
 use Prim.Native.Nat.{_≤_}
 use native.Mathlib.Omega.{arith}
 use borrow.Author.Needs.{needs}
-use Rattle.rules.specs.Interpolation.{pair, pairBy}
+use Rattle.rules.specs.Looking.Interpolation.{pair, pairBy}
 use Rattle.colour.specs.Limits.{denLimit}
 use Rattle.colour.specs.Places.{placeOf}
 use Rattle.colour.specs.declared.place.Place.{Place}

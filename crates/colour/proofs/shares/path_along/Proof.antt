@@ -4,7 +4,7 @@ use mathlib.Core.Logic.{inl, inr, ⊎-elim}
 use Prim.Native.Nat.{ℕ, _+_, _≤_}
 use native.Mathlib.Omega.{arith}
 use borrow.Author.Tests.{leb-true, leb-false, ltb-true, ltb-false}
-use Rattle.rules.specs.Interpolation.{Order, 1st, 2nd, 3rd, rgb, rbg, brg, grb, gbr, bgr, order}
+use Rattle.rules.specs.Looking.Interpolation.{Order, 1st, 2nd, 3rd, rgb, rbg, brg, grb, gbr, bgr, order}
 use Rattle.rules.specs.declared.Colour.{Colour}
 use Rattle.rules.specs.declared.Colour.the-variants.{Red, Green, Blue}
 use Rattle.colour.specs.Limits.{rowLimit, denLimit}

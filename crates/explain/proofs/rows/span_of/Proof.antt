@@ -1,7 +1,7 @@
 -- From the last row to the first, as the definition adds them.
 use mathlib.Core.Path.{ap, _∙_}
 use denote.Ref.{now}
-use Rattle.rules.specs.Interpolation.{rowCode}
+use Rattle.rules.specs.Looking.Interpolation.{rowCode}
 use Rattle.explain.specs.Spans.{widened, spanOf}
 use borrow.Author.Needs.{needs}
 use Rattle.explain.proofs.rows.span_of.Statement.{statement}

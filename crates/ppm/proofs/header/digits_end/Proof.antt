@@ -3,7 +3,7 @@ use denote.Ref.{now}
 use Prim.Native.Nat.{_+_}
 use mathlib.Core.Path.{ap, _∙_}
 use lib.ListN.{length}
-use Rattle.rules.specs.Lines.{digit, run}
+use Rattle.rules.specs.Reading.Lines.{digit, run}
 use Rattle.scan.proofs.Runs.{part-to-end}
 use borrow.Author.Needs.{needs}
 use Rattle.ppm.proofs.header.digits_end.Statement.{statement}

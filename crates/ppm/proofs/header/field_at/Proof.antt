@@ -4,7 +4,7 @@ use Prim.Native.Nat.{ℕ, _+_, _-_, _<_, _≤_}
 use mathlib.Core.Path.{_≡_, ap}
 use mathlib.Core.List.{List}
 use lib.ListN.{take, drop}
-use Rattle.rules.specs.Numerals.{spell}
+use Rattle.rules.specs.Reading.Numerals.{spell}
 use Rattle.ppm.specs.declared.header.Field.the-variants.{Says}
 use borrow.Author.Tests.{eq-eqb, ne-eqb, lt-leb, le-leb, not-true, not-false}
 use Rattle.ppm.specs.Header.{counted, fieldAt, fieldBetween}

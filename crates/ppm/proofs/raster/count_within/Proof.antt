@@ -6,7 +6,7 @@ use mathlib.Core.Bool.{Bool}
 use borrow.Author.Tests.{lt-leb, le-leb}
 use lib.Dec.{leb}
 use lib.ListN.{length}
-use Rattle.rules.specs.Lines.{run}
+use Rattle.rules.specs.Reading.Lines.{run}
 use Rattle.scan.proofs.Runs.{runFrom, run-more, run-stop, run-end}
 use borrow.Author.Needs.{needs}
 use native.Mathlib.Omega.{arith}

@@ -4,7 +4,7 @@ use mathlib.Core.Option.{none}
 use borrow.Author.Needs.{needs}
 use borrow.Author.Tests.{lt-ltb, le-ltb}
 use Rattle.rules.specs.Descriptions.{rows}
-use Rattle.rules.specs.Judge.{describe, first, headFault}
+use Rattle.rules.specs.Reading.Judge.{describe, first, headFault}
 use Rattle.text.specs.Answers.{faultOf}
 use Rattle.reading.specs.View.{view}
 use Rattle.reading.proofs.Sized.{head-in-range, rows-described}

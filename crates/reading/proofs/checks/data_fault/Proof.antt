@@ -3,7 +3,7 @@ use mathlib.Core.Path.{_≡_, refl, ap, _∙_}
 use mathlib.Core.Bool.{Bool, true, false, cond}
 use mathlib.Core.Option.{none, some}
 use borrow.Author.Needs.{needs}
-use Rattle.rules.specs.Judge.{Fault, first, headFault, need, orderFault}
+use Rattle.rules.specs.Reading.Judge.{Fault, first, headFault, need, orderFault}
 use Rattle.rules.specs.declared.Refusal.the-variants.{TooManyRows}
 use Rattle.reading.specs.View.{view}
 use Rattle.reading.proofs.checks.data_fault.Statement.{statement}

@@ -6,7 +6,7 @@ use native.Mathlib.Omega.{arith}
 use borrow.Author.Tests.{le-leb, lt-leb, not-true, not-false}
 use borrow.Author.Needs.{needs}
 use Rattle.rules.specs.Descriptions.{everyColour, ordered, narrow, agree, roomy}
-use Rattle.rules.specs.Judge.{domainFault, need}
+use Rattle.rules.specs.Reading.Judge.{domainFault, need}
 use Rattle.rules.specs.declared.Description.{Description}
 use Rattle.judge.proofs.Rows.{rows-most}
 use Rattle.reading.proofs.checks.domain_fault.Statement.{statement}

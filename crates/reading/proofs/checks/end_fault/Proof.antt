@@ -6,7 +6,7 @@ use mathlib.Core.Option.{none, some}
 use borrow.Author.Needs.{needs}
 use borrow.Author.Tests.{ltb-true, ltb-false, le-leb, lt-leb}
 use lib.Dec.{ltb, leb}
-use Rattle.rules.specs.Judge.{Fault, endFault, first, headFault, need}
+use Rattle.rules.specs.Reading.Judge.{Fault, endFault, first, headFault, need}
 use Rattle.rules.specs.declared.Refusal.the-variants.{TooFewRows}
 use Rattle.reading.specs.View.{view}
 use Rattle.reading.proofs.checks.end_fault.Statement.{statement}

@@ -5,7 +5,7 @@ use borrow.Author.Tests.{eq-eqb, ne-eqb, not-true, not-false}
 use borrow.Author.Needs.{needs}
 use Rattle.rules.specs.Units.{inRange}
 use Rattle.rules.specs.Descriptions.{everyColour, boundsFit}
-use Rattle.rules.specs.Judge.{headFault, domainFault, need}
+use Rattle.rules.specs.Reading.Judge.{headFault, domainFault, need}
 use Rattle.rules.specs.declared.Description.{Description}
 use Rattle.reading.proofs.Fits.{describe-is, describe-fits, given-marked}
 use Rattle.reading.proofs.checks.head_fault.Statement.{statement}

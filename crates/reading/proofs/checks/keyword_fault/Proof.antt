@@ -4,7 +4,7 @@ use mathlib.Core.Bool.{true, false}
 use borrow.Author.Needs.{needs}
 use borrow.Author.Tests.{not-true, not-false}
 use lib.Dec.{eqb}
-use Rattle.rules.specs.Judge.{orderFault, need}
+use Rattle.rules.specs.Reading.Judge.{orderFault, need}
 use Rattle.reading.proofs.checks.keyword_fault.Statement.{statement}
 use Rattle.reading.proofs.checks.keyword_fault.Tie as tie
 

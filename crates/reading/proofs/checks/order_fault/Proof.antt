@@ -1,7 +1,7 @@
 -- By the form; a line that is empty, a comment, or none of these has no place of its own.
 use mathlib.Core.Path.{sym, ap, _∙_}
 use borrow.Author.Needs.{needs}
-use Rattle.rules.specs.Judge.{orderFault}
+use Rattle.rules.specs.Reading.Judge.{orderFault}
 use Rattle.reading.specs.View.{view}
 use Rattle.reading.proofs.checks.order_fault.Statement.{statement}
 use Rattle.reading.proofs.checks.order_fault.Tie as tie

@@ -5,8 +5,8 @@ use mathlib.Core.List.{List}
 use mathlib.Core.Option.{none}
 use borrow.Author.Needs.{needs}
 use denote.Ref.{now}
-use Rattle.rules.specs.Content.{contentBy, contentOf, formOf}
-use Rattle.rules.specs.Judge.{byteFault, go, judge, orderFault, take-in, unless}
+use Rattle.rules.specs.Reading.Contents.{contentBy, contentOf, formOf}
+use Rattle.rules.specs.Reading.Judge.{byteFault, go, judge, orderFault, take-in, unless}
 use Rattle.rules.specs.declared.Form.{Form}
 use Rattle.text.specs.Answers.{faultOf}
 use Rattle.reading.specs.View.{view}

@@ -8,8 +8,8 @@ use denote.Ref.{now}
 use mir.Syntax.{w64}
 use mir.ValLaws.{toZ-ofZ}
 use lib.ListN.{length, length-set}
-use Rattle.rules.specs.Content.{contentOf, formOf}
-use Rattle.rules.specs.Items.{numbersOf}
+use Rattle.rules.specs.Reading.Contents.{contentOf, formOf}
+use Rattle.rules.specs.Reading.Items.{numbersOf}
 use Rattle.rules.specs.Reading.{samplesIn}
 use Rattle.rules.specs.declared.Form.the-variants.{Data}
 use Rattle.reading.proofs.LineSamples.{NoData, no-samples, row-samples, wrong-samples, none-written, three-written}

@@ -7,9 +7,9 @@ use mathlib.Core.Path.{_≡_, sym, _∙_}
 use borrow.Author.Needs.{needs}
 use Rattle.rules.specs.declared.Kind.the-variants.{OneD}
 use Rattle.rules.specs.declared.Keyword.the-variants.{ATitle, ALower, AnUpper, ASize}
-use Rattle.rules.specs.Content.{keywordOf}
-use Rattle.rules.specs.Items.{named}
-use Rattle.rules.specs.Lines.{bytes, same}
+use Rattle.rules.specs.Reading.Contents.{keywordOf}
+use Rattle.rules.specs.Reading.Items.{named}
+use Rattle.rules.specs.Reading.Lines.{bytes, same}
 use Rattle.text.proofs.keywords.keyword_of.Statement.{statement}
 use Rattle.text.proofs.keywords.keyword_of.Tie as tie
 

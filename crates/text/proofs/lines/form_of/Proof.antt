@@ -4,7 +4,7 @@ use mathlib.Core.Path.{sym, _∙_}
 use native.Mathlib.Omega.{arith}
 use borrow.Author.Tests.{eq-eqb, ne-eqb}
 use borrow.Author.Needs.{needs}
-use Rattle.rules.specs.Content.{formOf, wordForm}
+use Rattle.rules.specs.Reading.Contents.{formOf, wordForm}
 use Rattle.text.proofs.WordsFrom.{WordFound, words-next, words-none}
 use Rattle.text.proofs.FirstBytes.{empty-list, form-first}
 use Rattle.text.proofs.lines.form_of.Statement.{statement}

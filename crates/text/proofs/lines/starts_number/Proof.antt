@@ -2,7 +2,7 @@
 use denote.Ref.{now}
 use mathlib.Core.Path.{_∙_, sym}
 use borrow.Author.Needs.{needs}
-use Rattle.rules.specs.Lines.{numberByte, starts}
+use Rattle.rules.specs.Reading.Lines.{numberByte, starts}
 use Rattle.text.proofs.FirstBytes.{empty-list}
 use Rattle.scan.proofs.Runs.{starts-first}
 use Rattle.text.proofs.lines.starts_number.Statement.{statement}

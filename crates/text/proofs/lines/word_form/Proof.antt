@@ -1,7 +1,7 @@
 -- A number's first byte, or else the keyword.
 use mathlib.Core.Path.{ap, sym, _∙_}
 use borrow.Author.Needs.{needs}
-use Rattle.rules.specs.Content.{wordForm}
+use Rattle.rules.specs.Reading.Contents.{wordForm}
 use Rattle.text.specs.Answers.{foundOf}
 use Rattle.text.proofs.lines.word_form.Statement.{statement}
 use Rattle.text.proofs.lines.word_form.Tie as tie

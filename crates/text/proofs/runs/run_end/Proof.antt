@@ -5,7 +5,7 @@ use mathlib.Core.List.{List}
 use mathlib.Core.Path.{ap, _∙_}
 use borrow.Author.Needs.{needs}
 use lib.ListN.{length}
-use Rattle.rules.specs.Lines.{run}
+use Rattle.rules.specs.Reading.Lines.{run}
 use Rattle.scan.specs.Kinds.{kindOf}
 use Rattle.scan.proofs.Runs.{part-to-end}
 use Rattle.text.proofs.runs.run_end.Statement.{statement}

@@ -3,8 +3,8 @@ use denote.Ref.{now}
 use mathlib.Core.Path.{ap, _∙_}
 use borrow.Author.Tests.{eq-eqb, ne-eqb}
 use borrow.Author.Needs.{needs}
-use Rattle.rules.specs.Content.{closes}
-use Rattle.rules.specs.Lines.{blank, every}
+use Rattle.rules.specs.Reading.Contents.{closes}
+use Rattle.rules.specs.Reading.Lines.{blank, every}
 use Rattle.text.proofs.FirstBytes.{closes-first, empty-list}
 use Rattle.scan.proofs.Runs.{part-to-end}
 use Rattle.text.proofs.title.closes.Statement.{statement}

@@ -6,8 +6,8 @@ use mathlib.Core.Path.{_≡_, ap, sym, _∙_}
 use borrow.Author.Tests.{eq-eqb, ne-eqb, not-false, not-true}
 use borrow.Author.Needs.{needs}
 use lib.ListN.{drop}
-use Rattle.rules.specs.Content.{closes, quoted}
-use Rattle.rules.specs.Lines.{after, inTitle}
+use Rattle.rules.specs.Reading.Contents.{closes, quoted}
+use Rattle.rules.specs.Reading.Lines.{after, inTitle}
 use Rattle.text.proofs.FirstBytes.{empty-list, quoted-first}
 use Rattle.text.proofs.RunLaws.{part-after}
 use Rattle.scan.proofs.Runs.{part-to-end}

@@ -1,8 +1,8 @@
 -- Past the word and the blanks around it stands the quote.
 use mathlib.Core.Path.{ap, _∙_}
 use borrow.Author.Needs.{needs}
-use Rattle.rules.specs.Content.{quoted, titleOf}
-use Rattle.rules.specs.Lines.{after, blank, inWord}
+use Rattle.rules.specs.Reading.Contents.{quoted, titleOf}
+use Rattle.rules.specs.Reading.Lines.{after, blank, inWord}
 use Rattle.text.proofs.title.title_of.Statement.{statement}
 use Rattle.text.proofs.title.title_of.Tie as tie
 

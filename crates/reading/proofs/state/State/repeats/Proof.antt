@@ -1,7 +1,7 @@
 -- A keyword's mark is whether the view has something from its line.
 use mathlib.Core.Path.{sym}
 use borrow.Author.Needs.{needs}
-use Rattle.rules.specs.Judge.{repeats}
+use Rattle.rules.specs.Reading.Judge.{repeats}
 use Rattle.reading.proofs.Fits.{given-marked}
 use Rattle.reading.proofs.state.State.repeats.Statement.{statement}
 use Rattle.reading.proofs.state.State.repeats.Tie as tie

@@ -1,8 +1,7 @@
 -- By the sort of the item; what it has to keep is what its method asks for.
 use mathlib.Core.Path.{_≡_, sym, ap, subst, _∙_}
 use borrow.Author.Needs.{needs}
-use Rattle.rules.specs.Judge.{add}
-use Rattle.rules.specs.Judge.{State as Given}
+use Rattle.rules.specs.Reading.Judge.{add, State as Given}
 use Rattle.rules.specs.declared.Item.{Item}
 use Rattle.reading.specs.View.{view, Fit, Welcome}
 use Rattle.reading.proofs.state.State.with_item.Statement.{statement}

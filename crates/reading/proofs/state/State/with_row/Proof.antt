@@ -1,7 +1,7 @@
 -- The view with one more thing given is what the rules add.
 use mathlib.Core.Path.{refl}
 use borrow.Author.Needs.{needs}
-use Rattle.rules.specs.Judge.{add}
+use Rattle.rules.specs.Reading.Judge.{add}
 use Rattle.reading.proofs.Fits.{fit-row}
 use Rattle.reading.proofs.state.State.with_row.Statement.{statement}
 use Rattle.reading.proofs.state.State.with_row.Tie as tie

@@ -1,6 +1,6 @@
 -- The view with one more thing given is what the rules add.
 use mathlib.Core.Path.{refl}
-use Rattle.rules.specs.Judge.{add}
+use Rattle.rules.specs.Reading.Judge.{add}
 use Rattle.reading.proofs.Fits.{fit-size}
 use Rattle.reading.proofs.state.State.with_size.Statement.{statement}
 use Rattle.reading.proofs.state.State.with_size.Tie as tie

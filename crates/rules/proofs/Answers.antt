@@ -1,0 +1,184 @@
+-- The paper's numbers and values of an answer, put together again, are that answer: so a promise is met by one answer, and one memory, alone.
+use Prim.Native.Nat.{ℕ, _<_}
+use mathlib.Core.Path.{_≡_, refl, sym, ap, _∙_}
+use mathlib.Core.Bool.{Bool, true, false}
+use mathlib.Core.List.{List, [], _∷_}
+use mathlib.Core.Option.{Option, none, some}
+use borrow.Author.Tests.{leb-true, leb-false}
+use lib.Dec.{leb}
+use lib.IntN.{ℤ, pos}
+use lib.ListN.{length, getD, List·getD-eq-default}
+use Rattle.rules.specs.Reading.{read, tableAfter}
+use Rattle.rules.specs.Looking.{look}
+use Rattle.rules.specs.Picturing.{picture, outputAfter}
+use Rattle.rules.specs.Answers.{refusalNumber, readNumber, readLine, readDescription, lookNumber, lookCodes, lookRows, lookWeights, pictureNumber}
+use Rattle.rules.specs.Promises.{Reads, Looks, Pictures}
+use Rattle.rules.specs.declared.Codes.{Codes}
+use Rattle.rules.specs.declared.Description.{Description}
+use Rattle.rules.specs.declared.Look.{Look}
+use Rattle.rules.specs.declared.Look.the-variants as L
+use Rattle.rules.specs.declared.Picture.{Picture}
+use Rattle.rules.specs.declared.Picture.the-variants as P
+use Rattle.rules.specs.declared.Read.{Read}
+use Rattle.rules.specs.declared.Read.the-variants as R
+use Rattle.rules.specs.declared.Refusal.{Refusal}
+use Rattle.rules.specs.declared.Refusal.the-variants.{LineTooLong, ByteNotPermitted, NeitherDataNorKeyword, KeywordAfterData, KeywordRepeated, ParametersWrong, SizeOutOfRange, DomainNumberWrong, NoSize, LowerNotBelowUpper, DomainTooWide, DomainsDiffer, TableTooShort, TooManyRows, NotThreeNumbers, SampleBeyond, SampleTooFine, TooFewRows, DepthUnknown, PictureNotPixels, OutputTooShort, CodeTooGreat, CouldNotBeRead, InputTooLong}
+use Rattle.rules.specs.declared.Share.{Share}
+use Rattle.rules.specs.declared.Shares.{Shares}
+use Rattle.rules.proofs.Tests.{no-some}
+
+-- ---- a refusal by its number
+
+-- document 01's table, from 0 on
+abbrev numbered : List (Option Refusal)
+numbered =
+    none
+    ∷ some LineTooLong
+    ∷ some ByteNotPermitted
+    ∷ some NeitherDataNorKeyword
+    ∷ some KeywordAfterData
+    ∷ some KeywordRepeated
+    ∷ some ParametersWrong
+    ∷ some SizeOutOfRange
+    ∷ some DomainNumberWrong
+    ∷ some NoSize
+    ∷ some LowerNotBelowUpper
+    ∷ some DomainTooWide
+    ∷ some DomainsDiffer
+    ∷ some TableTooShort
+    ∷ some TooManyRows
+    ∷ some NotThreeNumbers
+    ∷ some SampleBeyond
+    ∷ some SampleTooFine
+    ∷ some TooFewRows
+    ∷ none
+    ∷ some DepthUnknown
+    ∷ some PictureNotPixels
+    ∷ some OutputTooShort
+    ∷ some CodeTooGreat
+    ∷ some CouldNotBeRead
+    ∷ none
+    ∷ none
+    ∷ none
+    ∷ none
+    ∷ none
+    ∷ some InputTooLong
+    ∷ []
+
+abbrev pub refusalOf : ℕ → Option Refusal
+refusalOf n = getD numbered n none
+
+pub refusal-of-number : (r : Refusal) → refusalOf (refusalNumber r) ≡ some r
+unfolding refusalNumber
+refusal-of-number LineTooLong = refl
+refusal-of-number ByteNotPermitted = refl
+refusal-of-number NeitherDataNorKeyword = refl
+refusal-of-number KeywordAfterData = refl
+refusal-of-number KeywordRepeated = refl
+refusal-of-number ParametersWrong = refl
+refusal-of-number SizeOutOfRange = refl
+refusal-of-number DomainNumberWrong = refl
+refusal-of-number NoSize = refl
+refusal-of-number LowerNotBelowUpper = refl
+refusal-of-number DomainTooWide = refl
+refusal-of-number DomainsDiffer = refl
+refusal-of-number TableTooShort = refl
+refusal-of-number TooManyRows = refl
+refusal-of-number NotThreeNumbers = refl
+refusal-of-number SampleBeyond = refl
+refusal-of-number SampleTooFine = refl
+refusal-of-number TooFewRows = refl
+refusal-of-number DepthUnknown = refl
+refusal-of-number PictureNotPixels = refl
+refusal-of-number OutputTooShort = refl
+refusal-of-number CodeTooGreat = refl
+refusal-of-number CouldNotBeRead = refl
+refusal-of-number InputTooLong = refl
+
+-- no refusal has the number of acceptance
+pub refused-not-0 : (r : Refusal) → refusalNumber r ≡ 0 → ⊥
+refused-not-0 r e = no-some r (sym (refusal-of-number r) ∙ ap refusalOf e)
+
+-- the last number is 30
+pub number-below : (r : Refusal) → refusalNumber r < 31
+number-below r = split (leb 31 (refusalNumber r)) refl
+  where
+    split : (t : Bool) → leb 31 (refusalNumber r) ≡ t → refusalNumber r < 31
+    split true e = absurd (no-some r (sym (refusal-of-number r) ∙ List·getD-eq-default numbered none {n = refusalNumber r} (leb-true 31 (refusalNumber r) e)))
+    split false e = leb-false _ _ e
+
+-- ---- look, put together again
+
+abbrev codesFrom : List ℕ → Codes
+codesFrom cs = record { red = getD cs 0 0; green = getD cs 1 0; blue = getD cs 2 0 }
+
+abbrev shareFrom : List ℕ → List ℤ → ℕ → Share
+shareFrom rows weights k = record { row = getD rows k 0; weight = getD weights k (pos 0) }
+
+abbrev sharesFrom : List ℕ → List ℤ → Shares
+sharesFrom rows weights = record {
+  first = shareFrom rows weights 0;
+  second = shareFrom rows weights 1;
+  third = shareFrom rows weights 2;
+  fourth = shareFrom rows weights 3;
+  fifth = shareFrom rows weights 4;
+  sixth = shareFrom rows weights 5;
+}
+
+abbrev lookFrom : Option Refusal → List ℕ → List ℕ → List ℤ → Look
+lookFrom none codes rows weights = L.Accepted (codesFrom codes) (sharesFrom rows weights)
+lookFrom (some r) codes rows weights = L.Refused r
+
+look-again : (r : Look) → lookFrom (refusalOf (lookNumber r)) (lookCodes r) (lookRows r) (lookWeights r) ≡ r
+look-again (L.Accepted codes shares) = refl
+look-again (L.Refused r) = rw (refusal-of-number r)
+
+module _ {d : Description} {table : List ℤ} {bits : ℕ} {pixel : Codes} where
+  pub looks-is : {r : Look} → Looks d table bits pixel r → r ≡ look d table bits pixel
+  looks-is {r} l =
+      let again : lookFrom (refusalOf (lookNumber r)) (lookCodes r) (lookRows r) (lookWeights r) ≡ _ =
+      λ i. lookFrom (refusalOf (l .number i)) (l .codes i) (l .rows i) (l .weights i) in
+      sym (look-again r) ∙ again ∙ look-again (look d table bits pixel)
+
+  pub is-looks : {r : Look} → r ≡ look d table bits pixel → Looks d table bits pixel r
+  is-looks e = record { number = ap lookNumber e; codes = ap lookCodes e; rows = ap lookRows e; weights = ap lookWeights e }
+
+-- ---- picture
+
+abbrev pictureFrom : Option Refusal → Picture
+pictureFrom none = P.Accepted
+pictureFrom (some r) = P.Refused r
+
+picture-again : (r : Picture) → pictureFrom (refusalOf (pictureNumber r)) ≡ r
+picture-again P.Accepted = refl
+picture-again (P.Refused r) = rw (refusal-of-number r)
+
+module _ {d : Description} {table : List ℤ} {bits : ℕ} {src dst : List ℕ} where
+  pub pictures-is : {r : Picture} {dst′ : List ℕ} → Pictures d table bits src dst r dst′
+      → (r ≡ picture d table bits src (length dst)) × (dst′ ≡ outputAfter d table bits src dst (picture d table bits src (length dst)))
+  pictures-is {r} p =
+      (sym (picture-again r) ∙ ap (λ n. pictureFrom (refusalOf n)) (p .number) ∙ picture-again (picture d table bits src (length dst)), p .memory)
+
+  pub is-pictures : {r : Picture} {dst′ : List ℕ} → r ≡ picture d table bits src (length dst)
+      → dst′ ≡ outputAfter d table bits src dst (picture d table bits src (length dst)) → Pictures d table bits src dst r dst′
+  is-pictures e m = record { number = ap pictureNumber e; memory = m }
+
+-- ---- reading
+
+abbrev readFrom : Option Refusal → ℕ → Description → Read
+readFrom none line d = R.Accepted d
+readFrom (some r) line d = R.Refused r line
+
+read-again : (r : Read) → readFrom (refusalOf (readNumber r)) (readLine r) (readDescription r) ≡ r
+read-again (R.Accepted d) = refl
+read-again (R.Refused r line) = rw (refusal-of-number r)
+
+module _ {file : List ℕ} {table : List ℤ} where
+  pub reads-is : {r : Read} {table′ : List ℤ} → Reads file table r table′ → (r ≡ read file (length table)) × (table′ ≡ tableAfter file table (read file (length table)))
+  reads-is {r} p =
+      let again : readFrom (refusalOf (readNumber r)) (readLine r) (readDescription r) ≡ _ =
+      λ i. readFrom (refusalOf (p .number i)) (p .line i) (p .description i) in
+      (sym (read-again r) ∙ again ∙ read-again (read file (length table)), p .memory)
+
+  pub is-reads : {r : Read} {table′ : List ℤ} → r ≡ read file (length table) → table′ ≡ tableAfter file table (read file (length table)) → Reads file table r table′
+  is-reads e m = record { number = ap readNumber e; line = ap readLine e; description = ap readDescription e; memory = m }

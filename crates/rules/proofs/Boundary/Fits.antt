@@ -1,0 +1,125 @@
+-- What crosses the C boundary fits the numbers that it crosses in: N, a title's place and length 63 bits, a row 32.
+use Prim.Native.Nat.{ℕ, _≤_, _<_}
+use mathlib.Core.Path.{_≡_, refl, subst}
+use mathlib.Core.Logic.{_⊎_, inl, inr}
+use mathlib.Core.Bool.{Bool, true, false, cond}
+use mathlib.Core.Option.{Option, none, some}
+use mathlib.Core.List.{List, [], _∷_, map}
+use native.Mathlib.Omega.{arith}
+use lib.IntN.{ℤ}
+use lib.ListN.{length}
+use Rattle.rules.specs.Units.{greatestN, depthOf}
+use Rattle.rules.specs.Descriptions.{noTitle, rows, couldBeRead}
+use Rattle.rules.specs.Reading.{read}
+use Rattle.rules.specs.Looking.{within, shown, correct, lookAt, look}
+use Rattle.rules.specs.Looking.Interpolation.{pair, path, pairBy, pathBy, climb}
+use Rattle.rules.specs.Answers.{readDescription, lookRows, sharesOf}
+use Rattle.rules.specs.Demands.{Titled, used, Each}
+use Rattle.rules.specs.Boundary.{lookBy, lookIn, describedIn}
+use Rattle.rules.specs.declared.Codes.{Codes}
+use Rattle.rules.specs.declared.Colour.{Colour}
+use Rattle.rules.specs.declared.Colour.the-variants.{Red, Green, Blue}
+use Rattle.rules.specs.declared.Description.{Description}
+use Rattle.rules.specs.declared.DepthFound.{DepthFound}
+use Rattle.rules.specs.declared.DepthFound.the-variants.{Known, Unknown}
+use Rattle.rules.specs.declared.Kind.{Kind}
+use Rattle.rules.specs.declared.Kind.the-variants.{OneD, ThreeD}
+use Rattle.rules.specs.declared.Look.the-variants as L
+use Rattle.rules.specs.declared.Read.{Read}
+use Rattle.rules.specs.declared.Read.the-variants as R
+use Rattle.rules.specs.declared.Refusal.the-variants.{CodeTooGreat, CouldNotBeRead}
+use Rattle.rules.specs.declared.Share.{Share}
+use Rattle.rules.specs.declared.Title.{Title}
+use Rattle.rules.proofs.Reading.Acceptance.{accepted-keeps}
+use Rattle.rules.proofs.Reading.Bridge.{bridge}
+use Rattle.rules.proofs.Looking.Demand3.{right}
+use Rattle.rules.proofs.Depths.{depth-bounds}
+use Rattle.rules.proofs.Judged.{rows-most, sound-of}
+use Rattle.rules.proofs.Reading.Titles.{title-or-none, titled-inside}
+
+-- ---- a description
+
+pub record Crossable (d : Description) : Type 0 where
+  pub size : d .n < 9_223_372_036_854_775_808
+  pub place : d .title .place < 9_223_372_036_854_775_808
+  pub span : d .title .length < 9_223_372_036_854_775_808
+
+module _ (file : List ℕ) (table : List ℤ) (held : length file < 9_223_372_036_854_775_808) where
+  title-fits : (t : Title) → (t ≡ noTitle) ⊎ Titled file t → (t .place < 9_223_372_036_854_775_808) × (t .length < 9_223_372_036_854_775_808)
+  title-fits t (inl e) = rw e (omega arith, omega arith)
+  title-fits t (inr h) = let inside = titled-inside file t h in (omega (arith, inside, held), omega (arith, inside, held))
+
+  accepted-fits : (d : Description) → read file (length table) ≡ R.Accepted d → Crossable d
+  accepted-fits d e =
+      let t = title-fits (d .title) (title-or-none file (length table) d _ (accepted-keeps file (length table) d e)) in
+      record { size = small (d .kind) (sound-of d _ (bridge file table d e) .most); place = t .0; span = t .1 }
+    where
+      small : (k : Kind) → d .n ≤ greatestN k → d .n < 9_223_372_036_854_775_808
+      small OneD h = omega arith
+      small ThreeD h = omega arith
+
+  -- whatever reading describes, of a file that a machine can hold
+  pub description-fits : Crossable (readDescription (read file (length table)))
+  description-fits = by (read file (length table)) refl
+    where
+      by : (r : Read) → read file (length table) ≡ r → Crossable (readDescription r)
+      by (R.Accepted d) e = accepted-fits d e
+      by (R.Refused reason n) e = record { size = omega arith; place = omega arith; span = omega arith }
+
+-- ---- rows
+
+unfoldable pub RowsFit : List ℕ → Type 0
+RowsFit [] = Unit
+RowsFit (row ∷ rows) = (row < 4_294_967_296) × RowsFit rows
+
+all-six : {a b c d e f : ℕ} → a < 4_294_967_296 → b < 4_294_967_296 → c < 4_294_967_296 → d < 4_294_967_296 → e < 4_294_967_296 → f < 4_294_967_296
+    → RowsFit (a ∷ b ∷ c ∷ d ∷ e ∷ f ∷ [])
+unfolding RowsFit
+all-six a b c d e f = (a, (b, (c, (d, (e, (f, tt))))))
+
+-- the zeros of a refusal
+zeros-fit : RowsFit (0 ∷ 0 ∷ 0 ∷ 0 ∷ 0 ∷ 0 ∷ [])
+zeros-fit = all-six (omega arith) (omega arith) (omega arith) (omega arith) (omega arith) (omega arith)
+
+module _ (d : Description) (table : List ℤ) (m : ℕ) (pixel : Codes) (could : couldBeRead d table ≡ true) (deep : 0 < m) where
+  few : rows d ≤ 16_777_216
+  few = rows-most (d .kind) (d .n) (sound-of d table could .most)
+
+  inside : (k : Kind) → d .kind ≡ k → (c : Colour) → Each (λ x. x .row < rows d) (used k c (shown d m pixel k))
+  inside k e c = subst (λ (j : Kind). Each (λ x. x .row < rows d) (used j c (shown d m pixel j))) e (right d table m m pixel could deep c .in-table)
+
+  shown-fit : (k : Kind) → d .kind ≡ k → RowsFit (map (λ (s : Share). s .row) (sharesOf (shown d m pixel k)))
+  unfolding shown pair path pairBy pathBy climb
+  shown-fit OneD e =
+      let r = inside OneD e Red in
+      let g = inside OneD e Green in
+      let b = inside OneD e Blue in
+      all-six (omega (arith, few, r .0)) (omega (arith, few, r .1 .0)) (omega (arith, few, g .0)) (omega (arith, few, g .1 .0)) (omega (arith, few, b .0)) (omega (arith, few, b .1 .0))
+  shown-fit ThreeD e =
+      let r = inside ThreeD e Red in
+      all-six (omega (arith, few, r .0)) (omega (arith, few, r .1 .0)) (omega (arith, few, r .1 .1 .0)) (omega (arith, few, r .1 .1 .1 .0)) (omega arith) (omega arith)
+
+-- whatever look shows
+pub rows-fit : (d : Description) (table : List ℤ) (bits : ℕ) (pixel : Codes) → RowsFit (lookRows (look d table bits pixel))
+unfolding look lookAt
+rows-fit d table bits pixel = by (couldBeRead d table) refl
+  where
+    deep-by : couldBeRead d table ≡ true → (f : DepthFound) → depthOf bits ≡ f → RowsFit (lookRows (lookAt d table pixel f))
+    deep-by could Unknown e = zeros-fit
+    deep-by could (Known depth) e = inside-by (within (depth .greatest) pixel)
+      where
+        inside-by : (t : Bool) → RowsFit (lookRows (cond t (L.Accepted (correct d table (depth .greatest) (depth .greatest) pixel) (shown d (depth .greatest) pixel (d .kind))) (L.Refused CodeTooGreat)))
+        inside-by true = shown-fit d table (depth .greatest) pixel could (depth-bounds bits depth e .0) (d .kind) refl
+        inside-by false = zeros-fit
+
+    by : (t : Bool) → couldBeRead d table ≡ t → RowsFit (lookRows (cond t (lookAt d table pixel (depthOf bits)) (L.Refused CouldNotBeRead)))
+    by true could = deep-by could (depthOf bits) refl
+    by false e = zeros-fit
+
+-- of eleven numbers too
+pub rows-fit-in : (eleven table : List ℤ) (bits : ℕ) (pixel : Codes) → RowsFit (lookRows (lookIn eleven table bits pixel))
+rows-fit-in eleven table bits pixel = by (describedIn eleven)
+  where
+    by : (o : Option Description) → RowsFit (lookRows (lookBy table bits pixel o))
+    by none = zeros-fit
+    by (some d) = rows-fit d table bits pixel

@@ -1,0 +1,107 @@
+-- What the paper's rule gives is an admissible reading of each position, and an admissible order; and the other readings are those that the paper names.
+use Prim.Native.Nat.{ℕ, _+_, _-_, _*_, _/_, _≤_, _<_, min}
+use mathlib.Core.Path.{_≡_, refl, sym, ap}
+use mathlib.Core.Bool.{Bool, true, false, cond}
+use mathlib.Core.Logic.{_⊎_, inl, inr}
+use native.Mathlib.Nat as NatL
+use native.Mathlib.Decide.{decLe, decLt}
+use native.Mathlib.Omega.{arith}
+use borrow.Author.Tests.{leb-true, leb-false}
+use lib.Dec.{leb}
+use Rattle.rules.specs.Units.{colourPlace}
+use Rattle.rules.specs.Looking.Interpolation.{den, offset, position, index, fraction, Order, 1st, 2nd, 3rd, order, rgb, rbg, brg, grb, gbr, bgr}
+use Rattle.rules.specs.Looking.Readings.{Reading, Descends}
+use Rattle.rules.specs.declared.Colour.{Colour}
+use Rattle.rules.specs.declared.Colour.the-variants.{Red, Green, Blue}
+use Rattle.rules.specs.declared.Domain.{Domain}
+use Rattle.rules.proofs.Looking.EitherReading.{only-these}
+
+-- ---- the cell and the fraction of the rule
+
+module _ (m : ℕ) (dom : Domain) (n c : ℕ) (d : 0 < den m dom) (h : 2 ≤ n) where
+  abbrev p : ℕ
+  p = position m dom n c
+
+  abbrev i : ℕ
+  i = index m dom n c
+
+  abbrev f : ℕ
+  f = fraction m dom n c
+
+  cell : i + 2 ≤ n
+  unfolding index
+  cell = omega (arith, NatL.min-le-right (p / den m dom) (n - 2))
+
+  below : i * den m dom ≤ p
+  unfolding index
+  below = omega (arith, NatL.mul-le-mul-right (den m dom) (NatL.min-le-left (p / den m dom) (n - 2)), NatL.div-mul-le-self p (den m dom))
+
+  -- p is at most D·(N−1), the end of the last cell
+  at-most : p ≤ den m dom * (n - 1)
+  unfolding position offset
+  at-most = NatL.mul-le-mul-right (n - 1) (NatL.min-le-left (den m dom) _)
+
+  above : p ≤ i * den m dom + den m dom
+  unfolding index
+  above = by (decLe (p / den m dom) (n - 2))
+    where
+      by : Dec (p / den m dom ≤ n - 2) → p ≤ min (p / den m dom) (n - 2) * den m dom + den m dom
+      by (yes k) = rw (NatL.min-eq-left k) (NatL.le-of-lt (NatL.lt-div-mul-add {a = p} {b = den m dom} d))
+      by (no k) =
+          let e : n - 2 ≤ p / den m dom = omega arith in
+          let l : n - 1 ≡ (n - 2) + 1 = omega arith in
+          rw (NatL.min-eq-right e) (omega (arith, rw l at at-most, NatL.mul-comm (den m dom) ((n - 2) + 1), NatL.add-mul (n - 2) 1 (den m dom)))
+
+  pub rule-reads : Reading n (den m dom) p i f
+  unfolding fraction
+  rule-reads = record { cell = cell; part = omega (arith, above, below); place = omega (arith, below) }
+
+  -- the rule's f reaches D in the last cell alone
+  full-last : den m dom ≤ f → n ≤ i + 2
+  unfolding index fraction
+  full-last k = by (decLt (p / den m dom) (n - 2)) k
+    where
+      by : Dec (p / den m dom < n - 2) → den m dom ≤ p - min (p / den m dom) (n - 2) * den m dom → n ≤ min (p / den m dom) (n - 2) + 2
+      by (yes l) k =
+          let e : min (p / den m dom) (n - 2) ≡ p / den m dom = omega arith in
+          absurd (omega (arith, rw e at k, NatL.lt-div-mul-add {a = p} {b = den m dom} d))
+      by (no l) k = omega arith
+
+  -- the readings of the position are the paper's two and no others: the rule's, and where its f is 0 and i is above 0 the cell i − 1 with f = D
+  pub paper-readings : {j g : ℕ} → Reading n (den m dom) p j g → ((j ≡ i) × (g ≡ f)) ⊎ ((f ≡ 0) × ((j + 1 ≡ i) × (g ≡ den m dom)))
+  paper-readings {j} {g} q = by (decLt j i) (decLt i j)
+    where
+      by : Dec (j < i) → Dec (i < j) → ((j ≡ i) × (g ≡ f)) ⊎ ((f ≡ 0) × ((j + 1 ≡ i) × (g ≡ den m dom)))
+      by (yes l) k = let (next, ends) = only-these d q rule-reads l in inr (ends .1, (sym next, ends .0))
+      by (no l) (yes k) =
+          let (next, ends) = only-these d rule-reads q k in
+          absurd (omega (arith, full-last (NatL.le-of-eq (sym (ends .0))), q .cell))
+      by (no l) (no k) =
+          let e : j ≡ i = omega arith in
+          inl (e, omega (arith, ap (λ x. x * den m dom) e, q .place, rule-reads .place))
+
+-- ---- the order of the rule
+
+-- equal fractions stand red, green, blue
+pub record InTurn (f : Colour → ℕ) (o : Order) : Type 0 where
+  pub upper : f (1st o) ≡ f (2nd o) → colourPlace (1st o) < colourPlace (2nd o)
+  pub lower : f (2nd o) ≡ f (3rd o) → colourPlace (2nd o) < colourPlace (3rd o)
+
+module _ (f : Colour → ℕ) where
+  -- for the outcomes x, y, z of the rule's three tests
+  sorted : (x y z : Bool) → leb (f Green) (f Red) ≡ x → leb (f Blue) (f Green) ≡ y → leb (f Blue) (f Red) ≡ z
+      → let o = cond x (cond y rgb (cond z rbg brg)) (cond z grb (cond y gbr bgr)) in Descends f o × InTurn f o
+  sorted true true z gr bg br = omega (arith, leb-true, leb-false)
+  sorted true false true gr bg br = omega (arith, leb-true, leb-false)
+  sorted true false false gr bg br = omega (arith, leb-true, leb-false)
+  sorted false y true gr bg br = omega (arith, leb-true, leb-false)
+  sorted false true false gr bg br = omega (arith, leb-true, leb-false)
+  sorted false false false gr bg br = omega (arith, leb-true, leb-false)
+
+  pub rule-descends : Descends f (order f)
+  unfolding order
+  rule-descends = sorted _ _ _ refl refl refl .0
+
+  pub rule-in-turn : InTurn f (order f)
+  unfolding order
+  rule-in-turn = sorted _ _ _ refl refl refl .1

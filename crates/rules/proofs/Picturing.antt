@@ -1,0 +1,2 @@
+-- Laws of picture.
+pub mod Checks

@@ -1,0 +1,64 @@
+-- A list is its longest first run of a kind and what stands after it, and nothing else is.
+use Prim.Native.Nat.{ℕ}
+use mathlib.Core.Path.{_≡_, refl, sym, ap}
+use mathlib.Core.Bool.{Bool, true, false, cond}
+use mathlib.Core.List.{List, [], _∷_, _++_}
+use Rattle.rules.specs.Reading.Lines.{after, every, run, starts}
+use Rattle.rules.proofs.Tests.{no-true, and-both}
+
+module _ (kind : ℕ → Bool) where
+  pub run-after : (l : List ℕ) → l ≡ run kind l ++ after kind l
+  unfolding run after
+  run-after [] = refl
+  run-after (b ∷ rest) = split (kind b) (run-after rest)
+    where
+      split : (t : Bool) → rest ≡ run kind rest ++ after kind rest → b ∷ rest ≡ cond t (b ∷ run kind rest) [] ++ cond t (after kind rest) (b ∷ rest)
+      split true ih = ap (λ (l : List ℕ). b ∷ l) ih
+      split false ih = refl
+
+  pub run-every : (l : List ℕ) → every kind (run kind l) ≡ true
+  unfolding run every
+  run-every [] = refl
+  run-every (b ∷ rest) = split (kind b) refl (run-every rest)
+    where
+      split : (t : Bool) → kind b ≡ t → every kind (run kind rest) ≡ true → every kind (cond t (b ∷ run kind rest) []) ≡ true
+      split true e ih = rw e ih
+      split false e ih = refl
+
+  pub after-stops : (l : List ℕ) → starts kind (after kind l) ≡ false
+  unfolding after starts
+  after-stops [] = refl
+  after-stops (b ∷ rest) = split (kind b) refl (after-stops rest)
+    where
+      split : (t : Bool) → kind b ≡ t → starts kind (after kind rest) ≡ false → starts kind (cond t (after kind rest) (b ∷ rest)) ≡ false
+      split true e ih = ih
+      split false e ih = e
+
+  pub run-starts : (l : List ℕ) → starts kind (run kind l) ≡ starts kind l
+  unfolding run starts
+  run-starts [] = refl
+  run-starts (b ∷ rest) = split (kind b) refl
+    where
+      split : (t : Bool) → kind b ≡ t → starts kind (cond t (b ∷ run kind rest) []) ≡ kind b
+      split true e = refl
+      split false e = sym e
+
+  pub run-append : (a b : List ℕ) → every kind a ≡ true → starts kind b ≡ false → (run kind (a ++ b) ≡ a) × (after kind (a ++ b) ≡ b)
+  unfolding run after every starts
+  run-append [] [] h s = (refl, refl)
+  run-append [] (c ∷ b) h s = (rw s, rw s)
+  run-append (x ∷ a) b h s =
+      let e = and-both (kind x) (every kind a) h in
+      let ih = run-append a b (e .1) s in
+      (rw (e .0) (ap (λ (l : List ℕ). x ∷ l) (ih .0)), rw (e .0) (ih .1))
+
+  pub starts-append : (a b : List ℕ) → starts kind a ≡ true → starts kind (a ++ b) ≡ true
+  unfolding starts
+  starts-append [] b h = absurd (no-true (sym h))
+  starts-append (x ∷ a) b h = h
+
+-- a first byte of one kind is of no kind that shares no byte with it
+pub starts-other : (kind other : ℕ → Bool) → ((b : ℕ) → kind b ≡ true → other b ≡ false) → (l : List ℕ) → starts kind l ≡ true → starts other l ≡ false
+unfolding starts
+starts-other kind other f [] h = refl
+starts-other kind other f (b ∷ rest) h = f b h

@@ -1,0 +1,3 @@
+-- Laws of the report's text.
+pub mod Decimals
+pub mod Lengths

@@ -1,0 +1,7 @@
+-- Theorems of the C boundary.
+
+-- what crosses it; the demands, of the C calls themselves
+pub mod Crossing
+pub mod Calls
+-- wrong calls that the promises rule out
+pub mod WrongCalls

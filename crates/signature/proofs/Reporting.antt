@@ -1,0 +1,2 @@
+-- Theorems of the report's text.
+pub mod Reported

@@ -1,0 +1,110 @@
+-- The title's fields change no answer of look and picture: neither looks further than kind, N and the three domains.
+use Prim.Native.Nat.{ℕ}
+use mathlib.Core.Path.{_≡_, refl, ap, ap₂, fun-ext}
+use mathlib.Core.Bool.{cond}
+use mathlib.Core.List.{List, [], _∷_, _++_}
+use lib.IntN.{ℤ}
+use lib.ListN.{length, drop}
+use Rattle.rules.specs.Units.{depthOf, codeIn}
+use Rattle.rules.specs.Descriptions.{domain, agree, roomy, couldBeRead}
+use Rattle.rules.specs.Looking.Interpolation.{den, index, fraction, order, pairBy, pathBy, pair, path, sharesFor, codeBy}
+use Rattle.rules.specs.Looking.{within, shown, six, codeOf, correct, lookAt, look}
+use Rattle.rules.specs.Answers.{lookCodes}
+use Rattle.rules.specs.Picturing.{pixelOf, corrected, picture, outputAfter}
+use Rattle.rules.specs.declared.Codes.{Codes}
+use Rattle.rules.specs.declared.Colour.{Colour}
+use Rattle.rules.specs.declared.Colour.the-variants.{Red, Green, Blue}
+use Rattle.rules.specs.declared.DepthFound.{DepthFound}
+use Rattle.rules.specs.declared.DepthFound.the-variants.{Known, Unknown}
+use Rattle.rules.specs.declared.Description.{Description}
+use Rattle.rules.specs.declared.Domain.{Domain}
+use Rattle.rules.specs.declared.Kind.{Kind}
+use Rattle.rules.specs.declared.Kind.the-variants.{OneD, ThreeD}
+use Rattle.rules.specs.declared.Look.the-variants.{Accepted, Refused}
+use Rattle.rules.specs.declared.Picture.{Picture}
+use Rattle.rules.specs.declared.Picture.the-variants as P
+use Rattle.rules.specs.declared.Refusal.the-variants.{CodeTooGreat, CouldNotBeRead}
+use Rattle.rules.specs.declared.Title.{Title}
+
+-- the same description with another title
+abbrev pub retitled : Description → Title → Description
+retitled d t = record { kind = d .kind; n = d .n; red = d .red; green = d .green; blue = d .blue; title = t }
+
+module _ (d : Description) (t : Title) where
+  abbrev e : Description
+  e = retitled d t
+
+  same-domain : (c : Colour) → domain e c ≡ domain d c
+  same-domain Red = refl
+  same-domain Green = refl
+  same-domain Blue = refl
+
+  -- ---- 24
+
+  same-agree : (k : Kind) → agree k e ≡ agree k d
+  unfolding agree
+  same-agree OneD = refl
+  same-agree ThreeD = refl
+
+  pub same-24 : (table : List ℤ) → couldBeRead e table ≡ couldBeRead d table
+  unfolding couldBeRead roomy
+  same-24 table = rw (same-agree (d .kind))
+
+  -- ---- look
+
+  module _ (table : List ℤ) (pixel : Codes) where
+    module _ (m : ℕ) where
+      same-path : path e m pixel ≡ path d m pixel
+      unfolding path
+      same-path =
+          ap (λ (dom : Colour → Domain). pathBy (d .n) (den m (dom Red)) (λ c. index m (dom c) (d .n) (codeIn pixel c)) (λ c. fraction m (dom c) (d .n) (codeIn pixel c)) (order (λ c. fraction m (dom c) (d .n) (codeIn pixel c))))
+          (fun-ext same-domain)
+
+      same-pair : (c : Colour) → pair e m pixel c ≡ pair d m pixel c
+      unfolding pair
+      same-pair c = ap (λ (dom : Domain). pairBy (den m dom) (index m dom (d .n) (codeIn pixel c)) (fraction m dom (d .n) (codeIn pixel c))) (same-domain c)
+
+      same-shares : (k : Kind) (c : Colour) → sharesFor e m pixel k c ≡ sharesFor d m pixel k c
+      same-shares OneD c = same-pair c
+      same-shares ThreeD c = same-path
+
+      same-shown : (k : Kind) → shown e m pixel k ≡ shown d m pixel k
+      unfolding shown
+      same-shown OneD = rw (same-pair Red, same-pair Green, same-pair Blue)
+      same-shown ThreeD = ap six same-path
+
+      same-code : (corrected : ℕ) (c : Colour) → codeOf e table m corrected pixel c ≡ codeOf d table m corrected pixel c
+      same-code corrected c = ap₂ (λ ss (dom : Domain). codeBy corrected (den m dom) table c ss) (same-shares (d .kind) c) (same-domain c)
+
+      same-correct : (corrected : ℕ) → correct e table m corrected pixel ≡ correct d table m corrected pixel
+      same-correct corrected i = record { red = same-code corrected Red i; green = same-code corrected Green i; blue = same-code corrected Blue i }
+
+    same-at : (x : DepthFound) → lookAt e table pixel x ≡ lookAt d table pixel x
+    unfolding lookAt
+    same-at Unknown = refl
+    same-at (Known m) =
+        let m = m .greatest in
+        ap₂ (λ codes shares. cond (within m pixel) (Accepted codes shares) (Refused CodeTooGreat)) (same-correct m m) (same-shown m (d .kind))
+
+    pub untitled-look : (bits : ℕ) → look e table bits pixel ≡ look d table bits pixel
+    unfolding look
+    untitled-look bits = ap₂ (λ could x. cond could x (Refused CouldNotBeRead)) (same-24 table) (same-at (depthOf bits))
+
+  -- ---- picture
+
+  pub untitled-picture : (table : List ℤ) (bits : ℕ) (src : List ℕ) (places : ℕ) → picture e table bits src places ≡ picture d table bits src places
+  unfolding picture
+  untitled-picture table bits src places = rw (same-24 table)
+
+  same-corrected : (table : List ℤ) (bits : ℕ) (src : List ℕ) → corrected e table bits src ≡ corrected d table bits src
+  unfolding corrected
+  same-corrected table bits [] = refl
+  same-corrected table bits (r ∷ []) = refl
+  same-corrected table bits (r ∷ g ∷ []) = refl
+  same-corrected table bits (r ∷ g ∷ b ∷ rest) =
+      ap₂ (λ x y. lookCodes x ++ y) (untitled-look table (pixelOf r g b) bits) (same-corrected table bits rest)
+
+  pub untitled-output : (table : List ℤ) (bits : ℕ) (src dst : List ℕ) (r : Picture) → outputAfter e table bits src dst r ≡ outputAfter d table bits src dst r
+  unfolding outputAfter
+  untitled-output table bits src dst P.Accepted = ap (λ x. x ++ drop (length src) dst) (same-corrected table bits src)
+  untitled-output table bits src dst (P.Refused r) = refl
