@@ -4,7 +4,7 @@ use mathlib.Core.Path.{_≡_}
 use native.Mathlib.Nat as NatL
 use native.Mathlib.Omega.{arith}
 use Rattle.rules.specs.Units.{greatestN, codeIn}
-use Rattle.rules.specs.Descriptions.{domain}
+use Rattle.rules.specs.Descriptions.{domain, Sound}
 use Rattle.rules.specs.Looking.Interpolation.{denOf, positionOf, indexOf, fractionOf}
 use Rattle.rules.specs.Looking.Readings.{Reading}
 use Rattle.rules.specs.declared.Codes.{Codes}
@@ -13,7 +13,7 @@ use Rattle.rules.specs.declared.Colour.the-variants.{Red}
 use Rattle.rules.specs.declared.Description.{Description}
 use Rattle.rules.specs.declared.Kind.{Kind}
 use Rattle.rules.specs.declared.Kind.the-variants.{OneD, ThreeD}
-use Rattle.rules.proofs.Judged.{Sound, sound-of}
+use Rattle.rules.proofs.Sound.{sound-of}
 use Rattle.rules.proofs.Looking.Demand3 as D3
 use Rattle.colour.specs.Limits.{denLimit}
 use Rattle.colour.specs.Places.{Readable, placeOf, Cell}

@@ -9,7 +9,7 @@ use lib.Signed.{_≤ℤ_}
 use Rattle.whole.specs.Nearest.{code, weights}
 use Rattle.whole.proofs.Halves as H
 use Rattle.rules.specs.Units.{sampleOne, colourPlace, codeIn}
-use Rattle.rules.specs.Descriptions.{rows, domain, width, couldBeRead}
+use Rattle.rules.specs.Descriptions.{rows, domain, width, couldBeRead, Sound}
 use Rattle.rules.specs.Looking.Interpolation.{denOf, weighed, total, sharesFor, codeBy}
 use Rattle.rules.specs.Looking.{shown, correct}
 use Rattle.rules.specs.Demands.{Each, used}
@@ -21,7 +21,7 @@ use Rattle.rules.specs.declared.Kind.{Kind}
 use Rattle.rules.specs.declared.Share.{Share}
 use Rattle.rules.specs.declared.Shares.{Shares}
 use Rattle.rules.proofs.Colours.{place-below}
-use Rattle.rules.proofs.Judged.{Sound, sound-of}
+use Rattle.rules.proofs.Sound.{sound-of}
 use Rattle.rules.proofs.Looking.Demand3.{short-division, right, used-shown}
 use Rattle.colour.specs.Limits.{sumLimit}
 use Rattle.colour.specs.Adding.{RowAt, sumIn, carried, SharesFit, Totalled, Weighable}

@@ -1,10 +1,6 @@
 -- The largest numbers that a description and a table lead to, if they could have been read.
 use Prim.Native.Nat.{ℕ}
 
--- the most rows: 256·256·256
-abbrev pub rowLimit : ℕ
-rowLimit = 16_777_216
-
 -- the largest D: 65,535·10,000
 abbrev pub denLimit : ℕ
 denLimit = 655_350_000

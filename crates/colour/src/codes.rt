@@ -11,8 +11,7 @@ ghost use Prim.Native.Nat.{_*_, _≤_};
 ghost use lib.IntN.{natAbs};
 ghost use Rattle.whole.specs.Nearest.{code};
 ghost use Rattle.rules.specs.Units.{sampleOne, codeIn};
-ghost use Rattle.rules.specs.Descriptions.{domain, width};
-ghost use Rattle.rules.proofs.Judged.{DomainFits};
+ghost use Rattle.rules.specs.Descriptions.{domain, width, DomainFits};
 ghost use Rattle.colour.specs.Limits.{sumLimit};
 ghost use Rattle.colour.specs.Adding.{sumIn};
 

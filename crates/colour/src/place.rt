@@ -10,8 +10,7 @@ ghost use Prim.Native.Nat.{_*_, _≤_, _<_, min};
 ghost use lib.IntN.{pos, natAbs, _-ℤ_, _*ℤ_};
 ghost use Rattle.whole.specs.Integers.{up};
 ghost use Rattle.rules.specs.Units.{boundOne, boundLimit, codeIn};
-ghost use Rattle.rules.specs.Descriptions.{domain, width};
-ghost use Rattle.rules.proofs.Judged.{DomainFits};
+ghost use Rattle.rules.specs.Descriptions.{domain, width, DomainFits};
 ghost use Rattle.colour.specs.Places.{Readable, placeOf};
 
 // 1 as a bound, in thousandths.

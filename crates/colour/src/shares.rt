@@ -9,10 +9,10 @@ use rules::Share;
 use rules::Shares;
 ghost use mathlib.Core.Path.{_≡_};
 ghost use Prim.Native.Nat.{_+_, _*_, _≤_, _<_};
-ghost use Rattle.rules.specs.Units.{rowAt};
+ghost use Rattle.rules.specs.Units.{rowAt, rowLimit};
 ghost use Rattle.rules.specs.Looking.Interpolation.{share, pair, climb};
 ghost use Rattle.rules.specs.Looking.{six, shown};
-ghost use Rattle.colour.specs.Limits.{rowLimit, denLimit};
+ghost use Rattle.colour.specs.Limits.{denLimit};
 ghost use Rattle.colour.specs.Places.{Readable, Cell, ofPair, three, along};
 
 fn share_of(row: usize, weight: u64) -> Share

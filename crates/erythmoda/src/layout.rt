@@ -12,8 +12,7 @@ ghost use mathlib.Core.Path.{_≡_};
 ghost use mathlib.Core.List.{map};
 ghost use Prim.Native.Nat.{_<_};
 ghost use Rattle.rules.specs.Answers.{codesOf, sharesOf};
-ghost use Rattle.rules.proofs.Boundary.Fits.{Crossable, RowsFit};
-ghost use Rattle.rules.specs.Boundary.{elevenOf, descriptionIn, describedIn, domainIn, pixelIn, kindNumber, markNumber};
+ghost use Rattle.rules.specs.Boundary.{Crossable, RowsFit, elevenOf, descriptionIn, describedIn, domainIn, pixelIn, kindNumber, markNumber};
 ghost use Rattle.erythmoda.specs.Layout.{crossed};
 
 // ---- a description as eleven numbers

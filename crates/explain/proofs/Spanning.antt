@@ -8,7 +8,7 @@ use native.Mathlib.Omega.{arith}
 use borrow.Author.Tests.{le-leb}
 use lib.IntN.{ℤ}
 use Rattle.rules.specs.Units.{rowsOf, inRange}
-use Rattle.rules.specs.Descriptions.{rows}
+use Rattle.rules.specs.Descriptions.{rows, Sound}
 use Rattle.rules.specs.Looking.Interpolation.{denOf, rowCode}
 use Rattle.rules.specs.Demands.{used, Each}
 use Rattle.rules.specs.declared.Colour.{Colour}
@@ -19,7 +19,7 @@ use Rattle.rules.specs.declared.Kind.the-variants.{OneD, ThreeD}
 use Rattle.rules.specs.declared.Share.{Share}
 use Rattle.rules.specs.declared.Shares.{Shares}
 use Rattle.rules.proofs.Tests.{both-and}
-use Rattle.rules.proofs.Judged.{Sound, sound-of, wide-enough}
+use Rattle.rules.proofs.Sound.{sound-of, wide-enough}
 use Rattle.colour.specs.Adding.{RowAt}
 use Rattle.colour.proofs.Weighing.{row-stands}
 use Rattle.explain.specs.declared.rows.Four.{Four}

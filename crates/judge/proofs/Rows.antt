@@ -7,7 +7,7 @@ use borrow.Author.Tests.{leb-true}
 use lib.Dec.{leb}
 use Rattle.rules.specs.Units.{greatestN, inRange, rowsOf}
 use Rattle.rules.specs.declared.Kind.{Kind}
-use Rattle.rules.proofs.Judged.{rows-most as most-rows}
+use Rattle.rules.proofs.Sound.{rows-most as most-rows}
 use Rattle.rules.proofs.Tests.{and-both}
 
 pub at-most : (k : Kind) (n : ℕ) → inRange k n ≡ true → n ≤ greatestN k

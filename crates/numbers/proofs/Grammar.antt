@@ -13,7 +13,7 @@ use lib.Seq.{drop-drop}
 use mir.Val.{boolByte}
 use Rattle.rules.specs.Reading.Lines.{after, digit, eByte, every, minusByte, pointByte, run, starts}
 use Rattle.rules.specs.Reading.Numerals.{Exponent, Mantissa, Numeral, digits, plain, pointed}
-use Rattle.rules.specs.Reading.Numbers.{assemble, exponentOf, fractionOf, numeralOf, unsigned}
+use Rattle.rules.specs.Reading.Numbers.{assemble, exponentOf, numeralWith, numeralOf, unsigned}
 use Rattle.rules.proofs.Reading.Numbers.{digits-parts, spells-of}
 use Rattle.rules.proofs.Reading.Runs.{after-stops, run-starts}
 use Rattle.scan.proofs.Runs.{run-le, drop-run, take-run}
@@ -65,8 +65,8 @@ assemble-first false negative whole fraction (some x) = refl
 -- after the whole digits: a point or none, digits, and an exponent
 fraction-by : (negative : Bool) (whole l : List ℕ) → starts digit l ≡ false
     → let r = drop (boolByte (starts pointByte l)) l in
-    fractionOf negative whole l ≡ cond (cond (starts pointByte l) (starts digit r) (starts digit whole)) (assemble true negative whole (run digit r) (exponentOf (after digit r))) none
-unfolding fractionOf starts run after
+    numeralWith negative whole l ≡ cond (cond (starts pointByte l) (starts digit r) (starts digit whole)) (assemble true negative whole (run digit r) (exponentOf (after digit r))) none
+unfolding numeralWith starts run after
 fraction-by negative whole [] h = assemble-first (starts digit whole) negative whole [] (exponentOf [])
 fraction-by negative whole (b ∷ rest) h = by (pointByte b)
   where

@@ -5,8 +5,7 @@ use mathlib.Core.Bool.{Bool, true, cond}
 use mathlib.Core.List.{List}
 use lib.Dec.{eqb, ltb}
 use lib.ListN.{length}
-use Rattle.rules.specs.Reading.Grammar.{lineLimit}
-use Rattle.rules.specs.Reading.Lines.{digit, every}
+use Rattle.rules.specs.Reading.Lines.{lineLimit, digit, every}
 use Rattle.rules.specs.Reading.Numerals.{signed}
 use Rattle.rules.specs.declared.Number.{Number}
 use Rattle.rules.specs.declared.Number.the-variants.{Value, Beyond, Finer}

@@ -10,7 +10,7 @@ use Rattle.rules.specs.declared.Bounds.{Bounds}
 use Rattle.rules.specs.declared.Size.{Size}
 use Rattle.rules.specs.declared.Title.{Title}
 use Rattle.rules.proofs.Tests.{both-and}
-use Rattle.rules.proofs.Judged.{within-bounds}
+use Rattle.rules.proofs.Sound.{within-bounds}
 use Rattle.reading.specs.View.{view, marked, BoundsWithin, Fit, RowWelcome}
 use Rattle.reading.specs.declared.state.State.{State}
 

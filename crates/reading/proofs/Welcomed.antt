@@ -8,7 +8,8 @@ use native.Mathlib.Omega.{arith}
 use borrow.Author.Tests.{leb-true, ltb-true}
 use lib.ListN.{length}
 use Rattle.rules.specs.Descriptions.{rows}
-use Rattle.rules.specs.Reading.Grammar.{lineLimit, BoundsLine, Line}
+use Rattle.rules.specs.Reading.Lines.{lineLimit}
+use Rattle.rules.specs.Reading.Grammar.{BoundsLine, Line}
 use Rattle.rules.specs.Reading.Contents.{formOf, contentOf}
 use Rattle.rules.specs.Reading.Judge.{byteFault, describe, orderFault}
 use Rattle.rules.specs.declared.Bounds.{Bounds}

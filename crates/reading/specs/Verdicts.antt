@@ -1,6 +1,6 @@
 -- A line's verdict as the rules' verdict, and the answer where reading stops on that line.
 use Prim.Native.Nat.{ℕ}
-use Rattle.rules.specs.Reading.Judge.{endFault, go, refuse, Judged as Verdict}
+use Rattle.rules.specs.Reading.Judge.{endFault, go, refuse, Verdict}
 use Rattle.rules.specs.Reading.{finish, onward}
 use Rattle.rules.specs.declared.Read.{Read}
 use Rattle.reading.specs.View.{view, Fit}

@@ -4,7 +4,7 @@
 pub mod Tests
 pub mod Colours
 pub mod Depths
-pub mod Judged
+pub mod Sound
 -- a word, a line and the lines in their order; acceptance is the grammar; the first refused line decides; what is accepted is not 24
 pub mod Reading
 -- either reading of a position, the rule's own, weights and rows, and that an accepted look is right

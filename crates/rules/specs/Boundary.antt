@@ -1,5 +1,5 @@
 -- The C boundary: a description as eleven numbers, and the promises of the three calls by the same definitions.
-use Prim.Native.Nat.{ℕ, _+_}
+use Prim.Native.Nat.{ℕ, _+_, _<_}
 use mathlib.Core.Path.{_≡_}
 use mathlib.Core.Bool.{Bool, cond}
 use mathlib.Core.List.{List, [], _∷_}
@@ -86,6 +86,17 @@ describedIn eleven = describedBy eleven (kindIn eleven)
 -- the pixel of three codes, as they are lent
 abbrev pub pixelIn : List ℕ → Codes
 pixelIn codes = pixelOf (getD codes 0 0) (getD codes 1 0) (getD codes 2 0)
+
+-- ---- what the numbers that are written can hold: 63 bits for N and a title's place and length, 32 for a row
+
+pub record Crossable (d : Description) : Type 0 where
+  pub size : d .n < 9_223_372_036_854_775_808
+  pub place : d .title .place < 9_223_372_036_854_775_808
+  pub span : d .title .length < 9_223_372_036_854_775_808
+
+unfoldable pub RowsFit : List ℕ → Type 0
+RowsFit [] = Unit
+RowsFit (row ∷ rows) = (row < 4_294_967_296) × RowsFit rows
 
 -- ---- the calls, of eleven numbers: those that give no description are 24
 

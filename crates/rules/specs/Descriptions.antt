@@ -1,13 +1,14 @@
 -- Document 01, "Units and places" and "Answers by number": the description, the rules on its domains, and what 24 means.
-use Prim.Native.Nat.{ℕ, _*_}
+use Prim.Native.Nat.{ℕ, _*_, _≤_, _<_}
+use mathlib.Core.Path.{_≡_}
 use mathlib.Core.Bool.{Bool, true, false, _&&_}
 use mathlib.Core.List.{List, [], _∷_}
 use lib.Dec.{leb}
 use lib.IntN.{ℤ, pos, natAbs, _-ℤ_}
-use lib.ListN.{length, take}
-use lib.Signed.{ltZ, leZ}
+use lib.ListN.{length, take, getD}
+use lib.Signed.{_<ℤ_, ltZ, leZ}
 use Rattle.whole.specs.Integers.{up}
-use Rattle.rules.specs.Units.{sampleLimit, boundOne, boundLimit, widthLimit, inRange, rowsOf}
+use Rattle.rules.specs.Units.{sampleLimit, boundOne, boundLimit, widthLimit, greatestN, inRange, rowsOf}
 use Rattle.rules.specs.declared.Bounds.{Bounds}
 use Rattle.rules.specs.declared.Colour.{Colour}
 use Rattle.rules.specs.declared.Colour.the-variants.{Red, Green, Blue}
@@ -110,3 +111,19 @@ couldBeRead d table =
     && (agree (d .kind) d
     && (roomy (length table) d
     && samplesFit (take (3 * rows d) table))))))
+
+-- ---- 24, as a property: what a description and a table have that could have been read
+
+pub record DomainFits (dom : Domain) : Type 0 where
+  pub low : natAbs (dom .lower .0) ≤ boundLimit
+  pub high : natAbs (dom .upper .0) ≤ boundLimit
+  pub order : dom .lower .0 <ℤ dom .upper .0
+  pub narrow : width dom ≤ widthLimit
+
+pub record Sound (d : Description) (table : List ℤ) : Type 0 where
+  pub least : 2 ≤ d .n
+  pub most : d .n ≤ greatestN (d .kind)
+  pub domains : (c : Colour) → DomainFits (domain d c)
+  pub one-domain : d .kind ≡ ThreeD → (c : Colour) → domain d c ≡ d .red
+  pub long : 3 * rows d ≤ length table
+  pub samples : (k : ℕ) → k < 3 * rows d → natAbs (getD table k (pos 0)) ≤ sampleLimit

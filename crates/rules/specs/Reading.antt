@@ -8,7 +8,7 @@ use Rattle.rules.specs.Descriptions.{rows}
 use Rattle.rules.specs.Reading.Lines.{linesOf}
 use Rattle.rules.specs.Reading.Items.{numbersOf}
 use Rattle.rules.specs.Reading.Contents.{contentOf}
-use Rattle.rules.specs.Reading.Judge.{State, start, describe, Fault, Judged, go, refuse, judge, endFault}
+use Rattle.rules.specs.Reading.Judge.{State, start, describe, Fault, Verdict, go, refuse, judge, endFault}
 use Rattle.rules.specs.declared.Content.{Content}
 use Rattle.rules.specs.declared.Content.the-variants.{Says, Wrong}
 use Rattle.rules.specs.declared.Item.the-variants.{Nothing, OfTitle, OfLower, OfUpper, OfSize, OfRow}
@@ -31,7 +31,7 @@ finish n st none = Accepted (describe st)
 finish n st (some r) = Refused r n
 
 -- after a line's verdict: the rest, or its refusal with its number
-abbrev pub onward : (State → Read) → ℕ → Judged → Read
+abbrev pub onward : (State → Read) → ℕ → Verdict → Read
 onward rest n (go st) = rest st
 onward rest n (refuse r) = Refused r n
 

@@ -72,6 +72,10 @@ abbrev pub rowsOf : Kind → ℕ → ℕ
 rowsOf OneD n = n
 rowsOf ThreeD n = n * n * n
 
+-- so at most 256·256·256
+abbrev pub rowLimit : ℕ
+rowLimit = 16_777_216
+
 -- red index r, green g, blue b is row r + N·g + N·N·b
 abbrev pub rowAt : ℕ → (Colour → ℕ) → ℕ
 rowAt n i = i Red + n * i Green + n * n * i Blue

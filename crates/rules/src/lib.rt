@@ -8,8 +8,35 @@ ghost use Rattle.rules.specs.Units.{depthOf};
 // A domain bound, in thousandths.
 pub struct Thousandths(pub i64);
 
+impl Thousandths {
+    pub const PLACES: usize = 3;
+
+    // 1 as a bound.
+    pub const ONE: u64 = 1000;
+
+    // Bounds lie from -10 to 10.
+    pub const LEAST: i64 = -10_000;
+
+    pub const GREATEST: i64 = 10_000;
+
+    // A domain is at most 10 wide.
+    pub const WIDEST: i64 = 10_000;
+}
+
 // A sample, in ten-millionths.
 pub struct TenMillionths(pub i64);
+
+impl TenMillionths {
+    pub const PLACES: usize = 7;
+
+    // 1 as a sample.
+    pub const ONE: u64 = 10_000_000;
+
+    // Samples lie from -1000 to 1000.
+    pub const LEAST: i64 = -10_000_000_000;
+
+    pub const GREATEST: i64 = 10_000_000_000;
+}
 
 // A depth, held as its greatest code M.
 pub struct Depth {
@@ -63,6 +90,13 @@ pub enum Colour {
 pub enum Kind {
     OneD,
     ThreeD,
+}
+
+impl Kind {
+    // The greatest N of each kind.
+    pub const MOST_1D: usize = 65_536;
+
+    pub const MOST_3D: usize = 256;
 }
 
 // What a size line gives.

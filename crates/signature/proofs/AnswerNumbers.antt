@@ -11,11 +11,10 @@ use lib.IntN.{ℤ}
 use lib.ListN.{length}
 use Rattle.rules.specs.Units.{boundLimit, boundPlaces, depthOf, inRange, sampleLimit, samplePlaces}
 use Rattle.rules.specs.Descriptions.{agree, couldBeRead, everyColour, narrow, ordered, roomy, rows}
-use Rattle.rules.specs.Reading.Lines.{after, blank, every, inTitle, inWord, linesOf, permitted, quote, wordsOf}
+use Rattle.rules.specs.Reading.Lines.{lineLimit, after, blank, every, inTitle, inWord, linesOf, permitted, quote, wordsOf}
 use Rattle.rules.specs.Reading.Numerals.{digits, spell}
-use Rattle.rules.specs.Reading.Grammar.{lineLimit}
 use Rattle.rules.specs.Reading.Contents.{boundsOf, closes, contentBy, contentOf, formOf, parameters, quoted, samplesOn, sizeOf, threeOf, titleOf, valued, values}
-use Rattle.rules.specs.Reading.Judge.{Fault, Judged, State, byteFault, describe, domainFault, endFault, first, given, go, headFault, judge, need, orderFault, refuse, repeats, start, take-in, unless}
+use Rattle.rules.specs.Reading.Judge.{Fault, Verdict, State, byteFault, describe, domainFault, endFault, first, given, go, headFault, judge, need, orderFault, refuse, repeats, start, take-in, unless}
 use Rattle.rules.specs.Reading.{finish, onward, read, readLines}
 use Rattle.rules.specs.Looking.{look, lookAt, within}
 use Rattle.rules.specs.Picturing.{picture, pictureAt, pictureWith}
@@ -63,9 +62,9 @@ abbrev LowContent : Content → Type 0
 LowContent (Says i) = Unit
 LowContent (Wrong r) = Low r
 
-abbrev LowJudged : Judged → Type 0
-LowJudged (go st) = Unit
-LowJudged (refuse r) = Low r
+abbrev LowVerdict : Verdict → Type 0
+LowVerdict (go st) = Unit
+LowVerdict (refuse r) = Low r
 
 need-low : (t : Bool) (r : Refusal) (f : Fault) → Low r → LowFault f → LowFault (need t r f)
 unfolding need
@@ -155,17 +154,17 @@ content-low (Keyed (ASize k)) p l = size-low k (parameters (wordsOf l))
 content-low Data p l = samples-low (wordsOf l)
 content-low Neither p l = omega arith
 
-unless-low : (f : Fault) (j : Judged) → LowFault f → LowJudged j → LowJudged (unless f j)
+unless-low : (f : Fault) (j : Verdict) → LowFault f → LowVerdict j → LowVerdict (unless f j)
 unfolding unless
 unless-low none j a b = b
 unless-low (some r) j a b = a
 
-taken-low : (st : State) (c : Content) → LowContent c → LowJudged (take-in st c)
+taken-low : (st : State) (c : Content) → LowContent c → LowVerdict (take-in st c)
 unfolding take-in
 taken-low st (Says i) h = tt
 taken-low st (Wrong r) h = h
 
-judged-low : (places : ℕ) (st : State) (p : ℕ) (l : List ℕ) → LowJudged (judge places st p l)
+judged-low : (places : ℕ) (st : State) (p : ℕ) (l : List ℕ) → LowVerdict (judge places st p l)
 unfolding judge
 judged-low places st p l =
     unless-low (byteFault l) _ (byte-low l)
@@ -180,7 +179,7 @@ lines-low places p n st [] = split (endFault places st) (end-low places st)
     split (some r) h = h
 lines-low places p n st (l ∷ ls) = split (judge places st p l) (judged-low places st p l) (λ st′. lines-low places (p + length l + 1) (suc n) st′ ls)
   where
-    split : (j : Judged) → LowJudged j → ((st′ : State) → readNumber (readLines places (p + length l + 1) (suc n) st′ ls) ≤ 18)
+    split : (j : Verdict) → LowVerdict j → ((st′ : State) → readNumber (readLines places (p + length l + 1) (suc n) st′ ls) ≤ 18)
         → readNumber (onward (λ st′. readLines places (p + length l + 1) (suc n) st′ ls) (suc n) j) ≤ 18
     split (go st′) h next = next st′
     split (refuse r) h next = h

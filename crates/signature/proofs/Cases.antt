@@ -15,7 +15,7 @@ use Rattle.whole.proofs.Held.{passed}
 use Rattle.rules.specs.Descriptions.{boundsFit, ordered, narrow, sameDomain, agree, roomy, samplesFit, couldBeRead}
 use Rattle.rules.specs.Reading.Lines.{bytes, every, run, after, starts, same, onFirst, linesOf, wordsOf}
 use Rattle.rules.specs.Reading.Numerals.{digits, spell}
-use Rattle.rules.specs.Reading.Numbers.{unsigned, exponentOf, fractionOf, numeralOf, settle, numberOf}
+use Rattle.rules.specs.Reading.Numbers.{unsigned, exponentOf, numeralWith, numeralOf, settle, numberOf}
 use Rattle.rules.specs.Reading.Contents.{keywordOf, wordForm, formOf, closes, quoted, titleOf, threeOf, boundsOf, samplesOn, sizeOf, parameters, contentBy}
 use Rattle.rules.specs.Reading.Judge.{add, describe, repeats, need, first, domainFault, headFault, byteFault, orderFault, take-in, unless, judge, endFault}
 use Rattle.rules.specs.Reading.{readLines, read, samplesIn, samplesOf, tableAfter}
@@ -265,7 +265,7 @@ tested (c ∷ cs) e =
 
 -- every definition, opened for computation: to unfold this is to unfold what its line names
 unfoldable pub opened : ℕ
-unfolding bytes every run after starts same onFirst linesOf wordsOf unsigned digits exponentOf fractionOf numeralOf spell settle numberOf keywordOf wordForm formOf closes quoted titleOf threeOf parameters boundsOf samplesOn sizeOf contentBy need first take-in unless add describe repeats domainFault headFault byteFault orderFault judge endFault readLines read samplesIn samplesOf tableAfter boundsFit ordered narrow sameDomain agree roomy samplesFit couldBeRead offset position index fraction pairBy order climb pathBy pair path codeBy code within shown lookAt look corrected pictureWith picture outputAfter refusalNumber
+unfolding bytes every run after starts same onFirst linesOf wordsOf unsigned digits exponentOf numeralWith numeralOf spell settle numberOf keywordOf wordForm formOf closes quoted titleOf threeOf parameters boundsOf samplesOn sizeOf contentBy need first take-in unless add describe repeats domainFault headFault byteFault orderFault judge endFault readLines read samplesIn samplesOf tableAfter boundsFit ordered narrow sameDomain agree roomy samplesFit couldBeRead offset position index fraction pairBy order climb pathBy pair path codeBy code within shown lookAt look corrected pictureWith picture outputAfter refusalNumber
 opened = 0
 
 marked-pass : test marked ≡ true

@@ -142,14 +142,6 @@ add-mul a b z =
     by-half : (h : ℕ) → up (a +ℤ b) * h + (dn a * h + dn b * h) ≡ dn (a +ℤ b) * h + (up a * h + up b * h)
     by-half h = simp NatL.add-mul at (ap (λ x. x * h) (sum a b))
 
-pub mul-add-left : (u w : ℕ) (z : ℤ) → pos (u + w) *ℤ z ≡ pos u *ℤ z +ℤ pos w *ℤ z
-mul-add-left u w z = add-mul (pos u) (pos w) z
-
-pub mul-add-right : (w : ℕ) (a b : ℤ) → pos w *ℤ (a +ℤ b) ≡ pos w *ℤ a +ℤ pos w *ℤ b
-mul-add-right w a b =
-    eq-by (pos w *ℤ (a +ℤ b)) (pos w *ℤ a +ℤ pos w *ℤ b)
-    (omega (arith, times w (a +ℤ b), times w a, times w b, sum (pos w *ℤ a) (pos w *ℤ b), simp NatL.mul-add at (ap (λ x. w * x) (sum a b))))
-
 pub mul-assoc : (a b : ℕ) (z : ℤ) → pos (a * b) *ℤ z ≡ pos a *ℤ (pos b *ℤ z)
 mul-assoc a b z =
     let u = times a (pos b *ℤ z) .ups ∙ ap (λ x. a * x) (times b z .ups) in

@@ -8,7 +8,7 @@ use native.Mathlib.Omega.{arith}
 use borrow.Author.Tests.{ltb-true, ltb-false, le-leb, lt-leb}
 use lib.Dec.{T, T-not, leb, leb·zero, lit<}
 use lib.IntN.{ℤ, pos, negsuc, negℤ, natAbs, _+ℤ_, _-ℤ_, _*ℤ_}
-use lib.Signed.{ltZ, leZ, nonNeg, ltZ-yes, ltZ-no, leZ-yes, clashℤ}
+use lib.Signed.{ltZ, leZ, nonNeg, ltZ-yes, ltZ-no}
 use mir.Syntax.{w64}
 use mir.Val.{Fits, SFits, toZ, ofZ}
 use mir.ValLaws.{toZ-ofZ, toZ-pos}
@@ -93,19 +93,7 @@ module _ (a b : ℤ) (f : SFits w64 a) (g : SFits w64 b) where
   pub lt-no : ltZ (toZ w64 (ofZ w64 a)) (toZ w64 (ofZ w64 b)) ≡ false → up b + dn a ≤ up a + dn b
   lt-no e = H.le {a = b} {b = a} (ltZ-no (failed (ltZ a b) (rw (toZ-ofZ w64 a f, toZ-ofZ w64 b g) at e)))
 
-  pub le-yes : leZ (toZ w64 (ofZ w64 a)) (toZ w64 (ofZ w64 b)) ≡ true → up a + dn b ≤ up b + dn a
-  le-yes e = H.le {a = a} {b = b} (leZ-yes (passed (leZ a b) (rw (toZ-ofZ w64 a f, toZ-ofZ w64 b g) at e)))
-
-  pub le-no : leZ (toZ w64 (ofZ w64 a)) (toZ w64 (ofZ w64 b)) ≡ false → up b + dn a < up a + dn b
-  le-no e = le-fails a b (failed (leZ a b) (rw (toZ-ofZ w64 a f, toZ-ofZ w64 b g) at e))
-
--- ---- the tests themselves, from facts of the halves
-pub lt-true : (a b : ℤ) → up a + dn b < up b + dn a → ltZ a b ≡ true
-lt-true a b h = true-by (ltZ a b) (H.lt-by a b h .lt)
-
-pub lt-false : (a b : ℤ) → up b + dn a ≤ up a + dn b → ltZ a b ≡ false
-lt-false a b h = false-by (ltZ a b) (λ t. clashℤ {a = a} {b = b} (ltZ-yes t) (H.le-by b a h))
-
+-- ---- the test itself, from a fact of the halves
 pub le-up : (z : ℤ) (n : ℕ) → leZ z (pos n) ≡ leb (up z) n
 le-up (pos a) n = refl
 le-up (negsuc a) n = sym (leb·zero n)

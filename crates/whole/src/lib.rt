@@ -1,9 +1,15 @@
-// Whole numbers held in 64 bits: sums of weight times value, and the nearest code, exact over ℤ.
+// Whole numbers held in 64 bits: sums of weight times value, and the nearest code, exact over ℤ; the lesser and the greater of two numbers.
+pub use order::greater_code;
+pub use order::lesser;
+pub use order::lesser_code;
+pub use order::lesser_count;
 ghost use mathlib.Core.Path.{_≡_};
 ghost use Prim.Native.Nat.{_+_, _*_, _≤_, _<_};
 ghost use lib.IntN.{pos, natAbs, _+ℤ_, _*ℤ_};
 ghost use Rattle.whole.specs.Integers.{up};
 ghost use Rattle.whole.specs.Nearest.{code};
+
+mod order;
 
 pub struct Whole(pub i64);
 

@@ -3,7 +3,7 @@ use denote.Ref.{now}
 use native.Mathlib.Omega.{arith}
 use borrow.Author.Needs.{needs}
 use Rattle.rules.specs.declared.Kind.the-variants.{OneD, ThreeD}
-use Rattle.rules.proofs.Judged.{sound-of}
+use Rattle.rules.proofs.Sound.{sound-of}
 use Rattle.colour.proofs.Weighing.{ToWeigh, shares-fit, sums-most, short-right}
 use Rattle.colour.proofs.codes_of.Statement.{statement}
 use Rattle.colour.proofs.codes_of.Tie as tie

@@ -7,7 +7,7 @@ use Rattle.rules.specs.Looking.{shown}
 use Rattle.rules.specs.declared.Kind.{Kind}
 use Rattle.rules.specs.declared.Kind.the-variants.{OneD, ThreeD}
 use Rattle.rules.specs.declared.Shares.{Shares}
-use Rattle.rules.proofs.Judged.{sound-of}
+use Rattle.rules.proofs.Sound.{sound-of}
 use Rattle.colour.proofs.Weighing.{ToWeigh, shares-fit, sums-most, short-right, shown-weighed, shown-corrects}
 use Rattle.colour.proofs.correct.Statement.{statement}
 use Rattle.colour.proofs.correct.Tie as tie

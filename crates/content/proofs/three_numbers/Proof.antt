@@ -6,7 +6,7 @@ use mathlib.Core.Path.{sym, _∙_}
 use native.Mathlib.Omega.{arith}
 use borrow.Author.Needs.{needs}
 use lib.ListN.{length, drop, take, length-drop, length-take}
-use Rattle.rules.specs.Reading.Grammar.{lineLimit}
+use Rattle.rules.specs.Reading.Lines.{lineLimit}
 use Rattle.text.proofs.WordsFrom.{WordFound, words-next, words-none}
 use Rattle.content.proofs.ThreeWords.{more-words, no-word, one-word, three-words, two-words}
 use Rattle.content.proofs.three_numbers.Statement.{statement}

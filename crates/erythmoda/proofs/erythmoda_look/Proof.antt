@@ -3,7 +3,8 @@ use mathlib.Core.Path.{sym, ap, subst, _∙_}
 use mathlib.Core.List.{map}
 use borrow.Author.Needs.{needs}
 use Rattle.rules.specs.declared.Share.{Share}
-use Rattle.rules.proofs.Boundary.Fits.{RowsFit, rows-fit-in}
+use Rattle.rules.specs.Boundary.{RowsFit}
+use Rattle.rules.proofs.Boundary.Fits.{rows-fit-in}
 use Rattle.erythmoda.proofs.Found.{look-laid}
 use Rattle.erythmoda.proofs.erythmoda_look.Statement.{statement}
 use Rattle.erythmoda.proofs.erythmoda_look.Tie as tie

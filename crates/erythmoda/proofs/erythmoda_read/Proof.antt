@@ -5,8 +5,8 @@ use mathlib.Core.Path.{sym, ap, subst, _∙_}
 use Prim.Native.Nat.{_<_}
 use lib.ListN.{length}
 use denote.Ref.{now}
-use Rattle.rules.specs.Boundary.{elevenOf}
-use Rattle.rules.proofs.Boundary.Fits.{Crossable, description-fits}
+use Rattle.rules.specs.Boundary.{elevenOf, Crossable}
+use Rattle.rules.proofs.Boundary.Fits.{description-fits}
 use Rattle.erythmoda.proofs.erythmoda_read.Statement.{statement}
 use Rattle.erythmoda.proofs.erythmoda_read.Tie as tie
 

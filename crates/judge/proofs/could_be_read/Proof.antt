@@ -11,7 +11,7 @@ use lib.Seq.{length-take-le}
 use Rattle.rules.specs.Units.{inRange}
 use Rattle.rules.specs.Descriptions.{rows, everyColour, boundsFit, ordered, narrow, agree, roomy, samplesFit, couldBeRead}
 use Rattle.rules.specs.declared.Description.{Description}
-use Rattle.rules.proofs.Judged.{too-short}
+use Rattle.rules.proofs.Sound.{too-short}
 use Rattle.judge.proofs.Rows.{rows-most}
 use Rattle.judge.proofs.could_be_read.Statement.{statement}
 use Rattle.judge.proofs.could_be_read.Tie as tie

@@ -5,7 +5,7 @@ use Rattle.rules.specs.Descriptions.{domain, everyColour, boundsFit}
 use Rattle.rules.specs.declared.Colour.{Colour}
 use Rattle.rules.specs.declared.Colour.the-variants.{Red, Green, Blue}
 use Rattle.rules.specs.declared.Description.{Description}
-use Rattle.rules.proofs.Judged.{every-each}
+use Rattle.rules.proofs.Sound.{every-each}
 use Rattle.judge.specs.Rules.{Asked}
 use Rattle.judge.specs.declared.Rule.{Rule}
 use Rattle.judge.specs.declared.Rule.the-variants.{Within, Ordered, Narrow}

@@ -4,7 +4,7 @@ use mir.Syntax.{w64}
 use mir.Val.{ofZ}
 use Rattle.whole.proofs.Held.{Held, of, sub, sub-ok}
 use Rattle.rules.specs.Descriptions.{narrow}
-use Rattle.rules.proofs.Judged.{bounds-within}
+use Rattle.rules.proofs.Sound.{bounds-within}
 use Rattle.judge.proofs.narrow.Statement.{statement}
 use Rattle.judge.proofs.narrow.Tie as tie
 

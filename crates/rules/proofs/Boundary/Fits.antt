@@ -8,14 +8,14 @@ use mathlib.Core.List.{List, [], _∷_, map}
 use native.Mathlib.Omega.{arith}
 use lib.IntN.{ℤ}
 use lib.ListN.{length}
-use Rattle.rules.specs.Units.{greatestN, depthOf}
+use Rattle.rules.specs.Units.{greatestN, depthOf, rowLimit}
 use Rattle.rules.specs.Descriptions.{noTitle, rows, couldBeRead}
 use Rattle.rules.specs.Reading.{read}
 use Rattle.rules.specs.Looking.{within, shown, correct, lookAt, look}
 use Rattle.rules.specs.Looking.Interpolation.{pair, path, pairBy, pathBy, climb}
 use Rattle.rules.specs.Answers.{readDescription, lookRows, sharesOf}
 use Rattle.rules.specs.Demands.{Titled, used, Each}
-use Rattle.rules.specs.Boundary.{lookBy, lookIn, describedIn}
+use Rattle.rules.specs.Boundary.{Crossable, RowsFit, lookBy, lookIn, describedIn}
 use Rattle.rules.specs.declared.Codes.{Codes}
 use Rattle.rules.specs.declared.Colour.{Colour}
 use Rattle.rules.specs.declared.Colour.the-variants.{Red, Green, Blue}
@@ -34,15 +34,10 @@ use Rattle.rules.proofs.Reading.Acceptance.{accepted-keeps}
 use Rattle.rules.proofs.Reading.Bridge.{bridge}
 use Rattle.rules.proofs.Looking.Demand3.{right}
 use Rattle.rules.proofs.Depths.{depth-bounds}
-use Rattle.rules.proofs.Judged.{rows-most, sound-of}
+use Rattle.rules.proofs.Sound.{rows-most, sound-of}
 use Rattle.rules.proofs.Reading.Titles.{title-or-none, titled-inside}
 
 -- ---- a description
-
-pub record Crossable (d : Description) : Type 0 where
-  pub size : d .n < 9_223_372_036_854_775_808
-  pub place : d .title .place < 9_223_372_036_854_775_808
-  pub span : d .title .length < 9_223_372_036_854_775_808
 
 module _ (file : List ℕ) (table : List ℤ) (held : length file < 9_223_372_036_854_775_808) where
   title-fits : (t : Title) → (t ≡ noTitle) ⊎ Titled file t → (t .place < 9_223_372_036_854_775_808) × (t .length < 9_223_372_036_854_775_808)
@@ -68,10 +63,6 @@ module _ (file : List ℕ) (table : List ℤ) (held : length file < 9_223_372_03
 
 -- ---- rows
 
-unfoldable pub RowsFit : List ℕ → Type 0
-RowsFit [] = Unit
-RowsFit (row ∷ rows) = (row < 4_294_967_296) × RowsFit rows
-
 all-six : {a b c d e f : ℕ} → a < 4_294_967_296 → b < 4_294_967_296 → c < 4_294_967_296 → d < 4_294_967_296 → e < 4_294_967_296 → f < 4_294_967_296
     → RowsFit (a ∷ b ∷ c ∷ d ∷ e ∷ f ∷ [])
 unfolding RowsFit
@@ -82,7 +73,7 @@ zeros-fit : RowsFit (0 ∷ 0 ∷ 0 ∷ 0 ∷ 0 ∷ 0 ∷ [])
 zeros-fit = all-six (omega arith) (omega arith) (omega arith) (omega arith) (omega arith) (omega arith)
 
 module _ (d : Description) (table : List ℤ) (m : ℕ) (pixel : Codes) (could : couldBeRead d table ≡ true) (deep : 0 < m) where
-  few : rows d ≤ 16_777_216
+  few : rows d ≤ rowLimit
   few = rows-most (d .kind) (d .n) (sound-of d table could .most)
 
   inside : (k : Kind) → d .kind ≡ k → (c : Colour) → Each (λ x. x .row < rows d) (used k c (shown d m pixel k))

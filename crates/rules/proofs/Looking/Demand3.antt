@@ -14,7 +14,7 @@ use Rattle.whole.proofs.Halves as H
 use Rattle.whole.proofs.NearestLaws.{code-nearest, code-scale}
 use Rattle.whole.proofs.Between.{codes-below, codes-above}
 use Rattle.rules.specs.Units.{sampleOne, rowsOf, rowAt, sampleAt, codeIn}
-use Rattle.rules.specs.Descriptions.{domain, width, couldBeRead}
+use Rattle.rules.specs.Descriptions.{domain, width, couldBeRead, Sound}
 use Rattle.rules.specs.Looking.Interpolation.{denOf, positionOf, indexOf, fractionOf, order, pairBy, pathBy, climb, pair, path, sharesFor, weighed, total, denominator, codeBy, rowCode}
 use Rattle.rules.specs.Looking.{shown, codeOf, correct}
 use Rattle.rules.specs.Answers.{lookNumber}
@@ -30,7 +30,7 @@ use Rattle.rules.specs.declared.Kind.{Kind}
 use Rattle.rules.specs.declared.Kind.the-variants.{OneD, ThreeD}
 use Rattle.rules.specs.declared.Look.{Look}
 use Rattle.rules.specs.declared.Share.{Share}
-use Rattle.rules.proofs.Judged.{Sound, sound-of, wide-enough}
+use Rattle.rules.proofs.Sound.{sound-of, wide-enough}
 use Rattle.rules.proofs.Depths.{depth-bounds}
 use Rattle.rules.proofs.Looking.Layers.{level, level-own, Stairs, layered, layered-own, stairs-total}
 use Rattle.rules.proofs.Looking.EitherReading.{rowIn, line-stairs, cube-stairs}

@@ -65,10 +65,10 @@ lines-samples p (l ∷ ls) (i ∷ is) h =
 
 -- ---- 10 to 13 pass where the rules on the domains are kept and the table is long enough
 
-abbrev Sound : ℕ → Description → Type 0
-Sound places d = ((everyColour ordered d ≡ true) × (everyColour narrow d ≡ true)) × ((agree (d .kind) d ≡ true) × (3 * rows d ≤ places))
+abbrev HeadPasses : ℕ → Description → Type 0
+HeadPasses places d = ((everyColour ordered d ≡ true) × (everyColour narrow d ≡ true)) × ((agree (d .kind) d ≡ true) × (3 * rows d ≤ places))
 
-no-fault : (places : ℕ) (d : Description) → domainFault places d ≡ none → Sound places d
+no-fault : (places : ℕ) (d : Description) → domainFault places d ≡ none → HeadPasses places d
 unfolding domainFault roomy
 no-fault places d h =
     let a = need-none _ _ _ h in
@@ -76,7 +76,7 @@ no-fault places d h =
     let c = need-none _ _ _ (b .1) in
     ((a .0, b .0), (c .0, leb-true _ _ (need-none _ _ _ (c .1) .0)))
 
-without-fault : (places : ℕ) (d : Description) → Sound places d → domainFault places d ≡ none
+without-fault : (places : ℕ) (d : Description) → HeadPasses places d → domainFault places d ≡ none
 unfolding domainFault roomy
 without-fault places d s =
     none-need _ _ _ (s .0 .0) (none-need _ _ _ (s .0 .1) (none-need _ _ _ (s .1 .0) (none-need _ _ _ (le-leb _ _ (s .1 .1)) refl)))

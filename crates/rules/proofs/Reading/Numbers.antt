@@ -13,7 +13,7 @@ use Rattle.whole.specs.Integers.{up, dn}
 use Rattle.whole.proofs.Halves as H
 use Rattle.rules.specs.Reading.Lines.{after, digit, eByte, every, minusByte, plusByte, pointByte, run, starts}
 use Rattle.rules.specs.Reading.Numerals.{Exact, Exponent, Mantissa, Numeral, Power, Sign, Spells, absent, digits, minus, over, plain, plus, pointed, signed, under, unwritten, written}
-use Rattle.rules.specs.Reading.Numbers.{assemble, exponentOf, fractionOf, numberOf, numeralOf, settle, unsigned, valueOf}
+use Rattle.rules.specs.Reading.Numbers.{assemble, exponentOf, numeralWith, numberOf, numeralOf, settle, unsigned, valueOf}
 use Rattle.rules.specs.declared.Number.the-variants.{Value, Beyond, Finer}
 use Rattle.rules.proofs.Tests.{no-some, and-both, both-and, or-none, none-or}
 use Rattle.rules.proofs.Reading.Runs.{run-after, run-every, run-starts, run-append, starts-append, starts-other}
@@ -141,8 +141,8 @@ pub record Body (negative : Bool) (l : List ℕ) (n : Numeral) : Type 0 where
   pub mantissa-so : Mantissa mantissa (n .whole) (n .fraction)
   pub power-so : Power power (n .exponent)
 
-body-of : (negative : Bool) (whole tail : List ℕ) (n : Numeral) → every digit whole ≡ true → fractionOf negative whole tail ≡ some n → Body negative (whole ++ tail) n
-unfolding fractionOf
+body-of : (negative : Bool) (whole tail : List ℕ) (n : Numeral) → every digit whole ≡ true → numeralWith negative whole tail ≡ some n → Body negative (whole ++ tail) n
+unfolding numeralWith
 body-of negative whole [] n d h =
     let a = assembled _ _ _ _ _ n h in
     record {
@@ -202,10 +202,10 @@ spells-of w n h =
 
 record Parsed (l : List ℕ) (n : Numeral) : Type 0 where
   no-sign : starts signByte l ≡ false
-  reads : fractionOf (n .negative) (run digit l) (after digit l) ≡ some n
+  reads : numeralWith (n .negative) (run digit l) (after digit l) ≡ some n
 
 parsed : (m p : List ℕ) (n : Numeral) → Mantissa m (n .whole) (n .fraction) → Power p (n .exponent) → Parsed (m ++ p) n
-unfolding fractionOf starts every
+unfolding numeralWith starts every
 parsed m p n (plain e f d) g =
     let x : Exponential p (n .exponent) = of-power p (n .exponent) g in
     let k = digits-parts (n .whole) d in
@@ -216,7 +216,7 @@ parsed m p n (plain e f d) g =
     }
   where
     plainly : (p : List ℕ) → exponentOf p ≡ some (n .exponent) → starts pointByte p ≡ false → starts digit (n .whole) ≡ true → n .fraction ≡ []
-        → fractionOf (n .negative) (n .whole) p ≡ some n
+        → numeralWith (n .negative) (n .whole) p ≡ some n
     plainly [] x q s f = rw (x, s, ← f)
     plainly (b ∷ rest) x q s f = rw (q, x, s, ← f)
 parsed m p n (pointed e w d) g =

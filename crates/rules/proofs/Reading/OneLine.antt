@@ -10,10 +10,10 @@ use lib.Dec.{eqb}
 use lib.ListN.{length, length-append}
 use lib.IntN.{ℤ}
 use Rattle.rules.specs.Units.{boundLimit, boundPlaces, sampleLimit, samplePlaces}
-use Rattle.rules.specs.Reading.Lines.{hash, numberByte, after, blank, bytes, digit, every, inTitle, inWord, permitted, quote, run, starts, wordsOf}
+use Rattle.rules.specs.Reading.Lines.{lineLimit, hash, numberByte, after, blank, bytes, digit, every, inTitle, inWord, permitted, quote, run, starts, wordsOf}
 use Rattle.rules.specs.Reading.Numerals.{Mantissa, Numeral, Sign, Spells, minus, plain, plus, pointed, unwritten}
 use Rattle.rules.specs.Reading.Items.{named}
-use Rattle.rules.specs.Reading.Grammar.{lineLimit, BoundsLine, IdleLine, Line, Gives, ThreeNumbers, TitleLine, comment, empty}
+use Rattle.rules.specs.Reading.Grammar.{BoundsLine, IdleLine, Line, Gives, ThreeNumbers, TitleLine, comment, empty}
 use Rattle.rules.specs.Reading.Contents.{boundsAt, boundsOf, closes, contentBy, contentOf, formOf, parameters, quoted, rowOf, samplesOn, titleOf, wordForm}
 use Rattle.rules.specs.Reading.Judge.{byteFault}
 use Rattle.rules.specs.declared.Content.the-variants.{Says, Wrong}

@@ -9,7 +9,7 @@ use lib.Dec.{eqb}
 use lib.ListN.{length}
 use Rattle.rules.specs.Reading.Lines.{linesOf, newlines, onFirst}
 use Rattle.rules.specs.Reading.Grammar.{Line, Lines}
-use Rattle.rules.specs.Reading.Judge.{Fault, Judged, State, add, endFault, go, judge, refuse, start}
+use Rattle.rules.specs.Reading.Judge.{Fault, Verdict, State, add, endFault, go, judge, refuse, start}
 use Rattle.rules.specs.Reading.{finish, onward, read, readLines}
 use Rattle.rules.specs.declared.Item.{Item}
 use Rattle.rules.specs.declared.Refusal.{Refusal}
@@ -38,7 +38,7 @@ stopped places p n st [] r m h = split (endFault places st) refl h
     split (some x) e g = let a : x ≡ r = cc in let b : n ≡ m = cc in at-end [] (omega arith) tt tt (e ∙ ap {B = Option Refusal} some a)
 stopped places p n st (l ∷ ls) r m h = split (judge places st p l) refl h (λ st′. stopped places (p + length l + 1) (suc n) st′ ls r m)
   where
-    split : (j : Judged) → judge places st p l ≡ j → onward (λ st′. readLines places (p + length l + 1) (suc n) st′ ls) (suc n) j ≡ Refused r m
+    split : (j : Verdict) → judge places st p l ≡ j → onward (λ st′. readLines places (p + length l + 1) (suc n) st′ ls) (suc n) j ≡ Refused r m
         → ((st′ : State) → readLines places (p + length l + 1) (suc n) st′ ls ≡ Refused r m → Stopped places (p + length l + 1) (suc n) st′ ls r m)
         → Stopped places p n st (l ∷ ls) r m
     split (refuse x) e g ih =
@@ -96,11 +96,6 @@ unfolding read
 first-refused file places r m (at-line before l rest is e n k a u) =
     ap (readLines places 0 0 start) e ∙ line-stops places r 0 0 start before l rest is k a u ∙ ap (Refused r) (sym n)
 first-refused file places r m (at-end is n k a u) = end-stops places r 0 0 start (linesOf file) is k a u ∙ ap (Refused r) (sym n)
-
--- so no file is refused in two ways
-pub refused-one : (file : List ℕ) (places : ℕ) (r q : Refusal) (m n : ℕ)
-    → Stopped places 0 0 start (linesOf file) r m → Stopped places 0 0 start (linesOf file) q n → (r ≡ q) × (m ≡ n)
-refused-one file places r q m n h k = let e : Refused r m ≡ Refused q n = sym (first-refused file places r m h) ∙ first-refused file places q n k in (cc, cc)
 
 -- the end of the file is on line 1 plus all newlines
 pub lines-count : (s : List ℕ) → length (linesOf s) ≡ 1 + newlines s

@@ -7,7 +7,7 @@ use native.Mathlib.Omega.{arith}
 use lib.ListN.{length}
 use Rattle.rules.specs.Reading.Grammar.{Line, Lines}
 use Rattle.rules.specs.Reading.Contents.{contentBy, contentOf, formOf}
-use Rattle.rules.specs.Reading.Judge.{Fault, Judged, State, add, byteFault, describe, endFault, go, judge, orderFault, refuse, take-in, unless}
+use Rattle.rules.specs.Reading.Judge.{Fault, Verdict, State, add, byteFault, describe, endFault, go, judge, orderFault, refuse, take-in, unless}
 use Rattle.rules.specs.Reading.{finish, onward, readLines}
 use Rattle.rules.specs.declared.Content.{Content}
 use Rattle.rules.specs.declared.Content.the-variants.{Says, Wrong}
@@ -37,7 +37,7 @@ pub record Passed (places : ℕ) (st : State) (p : ℕ) (l : List ℕ) (st′ : 
   pub content : contentOf p l ≡ Says item
   pub state : st′ ≡ add st item
 
-unless-go : (f : Fault) (j : Judged) (st : State) → unless f j ≡ go st → (f ≡ none) × (j ≡ go st)
+unless-go : (f : Fault) (j : Verdict) (st : State) → unless f j ≡ go st → (f ≡ none) × (j ≡ go st)
 unfolding unless
 unless-go none j st h = (refl, h)
 unless-go (some r) j st h = absurd (no-refuse r st h)
@@ -80,7 +80,7 @@ module _ (find : (p : ℕ) (l : List ℕ) (i : Item) → byteFault l ≡ none �
       split (some r) e g = absurd (no-refused r n d g)
   walked places p n st (l ∷ ls) d h = split (judge places st p l) refl h (λ st′. walked places (p + length l + 1) (suc n) st′ ls d)
     where
-      split : (j : Judged) → judge places st p l ≡ j → onward (λ st′. readLines places (p + length l + 1) (suc n) st′ ls) (suc n) j ≡ Accepted d
+      split : (j : Verdict) → judge places st p l ≡ j → onward (λ st′. readLines places (p + length l + 1) (suc n) st′ ls) (suc n) j ≡ Accepted d
           → ((st′ : State) → readLines places (p + length l + 1) (suc n) st′ ls ≡ Accepted d → Walked places (p + length l + 1) st′ ls d)
           → Walked places p st (l ∷ ls) d
       split (go st′) e g ih =

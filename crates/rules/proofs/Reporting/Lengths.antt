@@ -10,9 +10,9 @@ use lib.Dec.{leb, eqb}
 use lib.ListN.{length, take, drop, length-append, length-take}
 use Rattle.rules.specs.Units.{greatestN, rowsOf}
 use Rattle.rules.specs.Descriptions.{rows, domain, noTitle, boundsFit}
-use Rattle.rules.specs.Reading.Lines.{bytes, linesOf, newlines}
+use Rattle.rules.specs.Reading.Lines.{lineLimit, bytes, linesOf, newlines}
 use Rattle.rules.specs.Reading.Items.{titleIn}
-use Rattle.rules.specs.Reading.Grammar.{lineLimit, Line, gather, Keeps}
+use Rattle.rules.specs.Reading.Grammar.{Line, gather, Keeps}
 use Rattle.rules.specs.Reading.Judge.{start}
 use Rattle.rules.specs.Reading.{read, samplesOf}
 use Rattle.rules.specs.Answers.{refusalNumber}
@@ -34,7 +34,7 @@ use Rattle.rules.proofs.Reading.Sorts.{title-item}
 use Rattle.rules.proofs.Reading.Acceptance.{accepted-keeps}
 use Rattle.rules.proofs.Reading.Refusals.{Stopped, at-line, at-end, refused-first, lines-count}
 use Rattle.rules.proofs.Reading.Titles.{title-stands, titled-inside}
-use Rattle.rules.proofs.Judged.{bounds-within, every-each}
+use Rattle.rules.proofs.Sound.{bounds-within, every-each}
 use Rattle.rules.proofs.Reading.Bridge.{gathered, only-one, in-range, bounds-fit}
 use Rattle.rules.proofs.Answers.{number-below}
 use Rattle.rules.proofs.Reporting.Decimals.{decimal-within, signed-within}

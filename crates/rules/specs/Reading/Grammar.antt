@@ -8,7 +8,7 @@ use lib.ListN.{length}
 use lib.IntN.{ℤ}
 use Rattle.rules.specs.Units.{samplePlaces, sampleLimit, boundPlaces, boundLimit, inRange}
 use Rattle.rules.specs.Descriptions.{lowest, highest, noTitle, rows, everyColour, ordered, narrow, agree}
-use Rattle.rules.specs.Reading.Lines.{permitted, blank, inTitle, every, linesOf, wordsOf}
+use Rattle.rules.specs.Reading.Lines.{lineLimit, permitted, blank, inTitle, every, linesOf, wordsOf}
 use Rattle.rules.specs.Reading.Numerals.{digits, spell, Exact}
 use Rattle.rules.specs.Reading.Items.{named, titleIn, lowerIn, upperIn, sizeIn, rowIn, numbersOf}
 use Rattle.rules.specs.declared.Item.{Item}
@@ -22,10 +22,6 @@ use Rattle.rules.specs.declared.Size.{Size}
 use Rattle.rules.specs.declared.Title.{Title}
 
 -- ---- a line
-
--- the greatest length of a line
-abbrev pub lineLimit : ℕ
-lineLimit = 250
 
 -- empty, or a comment
 pub data IdleLine (l : List ℕ) : Type 0 where

@@ -6,9 +6,8 @@ use mathlib.Core.Option.{Option, none, some}
 use lib.ListN.{length}
 use lib.Dec.{eqb, ltb, leb}
 use Rattle.rules.specs.Descriptions.{lowest, highest, noTitle, description, rows, everyColour, ordered, narrow, agree, roomy}
-use Rattle.rules.specs.Reading.Lines.{permitted, every}
+use Rattle.rules.specs.Reading.Lines.{lineLimit, permitted, every}
 use Rattle.rules.specs.Reading.Items.{titleIn, lowerIn, upperIn, sizeIn, rowIn}
-use Rattle.rules.specs.Reading.Grammar.{lineLimit}
 use Rattle.rules.specs.Reading.Contents.{formOf, contentOf}
 use Rattle.rules.specs.declared.Content.{Content}
 use Rattle.rules.specs.declared.Content.the-variants.{Says, Wrong}
@@ -121,19 +120,19 @@ orderFault places st Data = first (headFault places st) (need (ltb (st .rows) (r
 orderFault places st Neither = none
 
 -- the state after a line, or a refusal
-pub data Judged : Type 0 where
-  go : State → Judged
-  refuse : Refusal → Judged
+pub data Verdict : Type 0 where
+  go : State → Verdict
+  refuse : Refusal → Verdict
 
-unfoldable pub take-in : State → Content → Judged
+unfoldable pub take-in : State → Content → Verdict
 take-in st (Says i) = go (add st i)
 take-in st (Wrong r) = refuse r
 
-unfoldable pub unless : Fault → Judged → Judged
+unfoldable pub unless : Fault → Verdict → Verdict
 unless none j = j
 unless (some r) j = refuse r
 
-unfoldable pub judge : ℕ → State → ℕ → List ℕ → Judged
+unfoldable pub judge : ℕ → State → ℕ → List ℕ → Verdict
 judge places st p l = unless (byteFault l) (unless (orderFault places st (formOf l)) (take-in st (contentOf p l)))
 
 -- ---- the end: 9 to 13 where there was no data line, then 18

@@ -91,6 +91,10 @@ same (x ∷ xs) (y ∷ ys) = eqb x y && same xs ys
 
 -- ---- lines and words
 
+-- a line has at most 250 bytes
+abbrev pub lineLimit : ℕ
+lineLimit = 250
+
 -- a byte put in front of the first line or word
 unfoldable pub onFirst : ℕ → List (List ℕ) → List (List ℕ)
 onFirst b [] = (b ∷ []) ∷ []

@@ -27,16 +27,16 @@ assemble there negative whole fraction (some e) =
     cond there (some (record { negative = negative; whole = whole; fraction = fraction; exponent = e })) none
 
 -- after the whole digits: a point and digits, at least one, and an exponent; or the exponent at once, after at least one whole digit
-unfoldable pub fractionOf : Bool → List ℕ → List ℕ → Option Numeral
-fractionOf negative whole [] = assemble (starts digit whole) negative whole [] (exponentOf [])
-fractionOf negative whole (b ∷ rest) =
+unfoldable pub numeralWith : Bool → List ℕ → List ℕ → Option Numeral
+numeralWith negative whole [] = assemble (starts digit whole) negative whole [] (exponentOf [])
+numeralWith negative whole (b ∷ rest) =
     cond (pointByte b)
     (assemble (starts digit rest) negative whole (run digit rest) (exponentOf (after digit rest)))
     (assemble (starts digit whole) negative whole [] (exponentOf (b ∷ rest)))
 
 -- an optional sign, whole digits, and what follows them
 unfoldable pub numeralOf : List ℕ → Option Numeral
-numeralOf w = fractionOf (starts minusByte w) (run digit (unsigned w)) (after digit (unsigned w))
+numeralOf w = numeralWith (starts minusByte w) (run digit (unsigned w)) (after digit (unsigned w))
 
 -- p/q with a sign: beyond the limit, or that whole number, or no whole number
 unfoldable pub settle : ℕ → Bool → ℕ → ℕ → Number

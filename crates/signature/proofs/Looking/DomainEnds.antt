@@ -17,7 +17,7 @@ use Rattle.rules.specs.declared.Description.{Description}
 use Rattle.rules.specs.declared.Domain.{Domain}
 use Rattle.rules.specs.declared.Kind.{Kind}
 use Rattle.rules.specs.declared.Kind.the-variants.{OneD, ThreeD}
-use Rattle.rules.proofs.Judged.{sound-of}
+use Rattle.rules.proofs.Sound.{sound-of}
 use Rattle.rules.proofs.Looking.Demand3.{own-line, own-point, rowOwn}
 
 -- ---- a code at an end; its value is c / M, and a bound is in thousandths

@@ -13,7 +13,7 @@ use lib.Dec.{lit≤}
 use Rattle.rules.specs.Units.{sampleLimit, samplePlaces}
 use Rattle.rules.specs.Reading.Lines.{after, bytes, every, run, starts}
 use Rattle.rules.specs.Reading.Numerals.{Numeral, digits, spell}
-use Rattle.rules.specs.Reading.Numbers.{exponentOf, fractionOf, numberOf, numeralOf, settle, unsigned}
+use Rattle.rules.specs.Reading.Numbers.{exponentOf, numeralWith, numberOf, numeralOf, settle, unsigned}
 use Rattle.rules.specs.declared.Number.the-variants.{Beyond, Finer}
 
 huge : (x : ℕ) → 4 ≤ x → settle sampleLimit false (1 * 10 ^ (7 + x)) (10 ^ (0 + 0)) ≡ Beyond
@@ -45,11 +45,11 @@ abbrev spelt : Bool → Numeral
 spelt down = record { negative = false; whole = 49 ∷ []; fraction = []; exponent = record { down = down; power = bytes nines } }
 
 up-spelt : numeralOf (49 ∷ 101 ∷ bytes nines) ≡ some (spelt false)
-unfolding bytes every run after starts unsigned digits exponentOf fractionOf numeralOf
+unfolding bytes every run after starts unsigned digits exponentOf numeralWith numeralOf
 up-spelt = refl
 
 down-spelt : numeralOf (49 ∷ 101 ∷ 45 ∷ bytes nines) ≡ some (spelt true)
-unfolding bytes every run after starts unsigned digits exponentOf fractionOf numeralOf
+unfolding bytes every run after starts unsigned digits exponentOf numeralWith numeralOf
 down-spelt = refl
 
 -- 1e and thirty nines; 1e- and thirty nines

@@ -6,7 +6,7 @@ use borrow.Author.Needs.{needs}
 use Rattle.whole.specs.Nearest.{code}
 use Rattle.whole.proofs.NearestLaws.{code-top}
 use Rattle.rules.specs.Units.{sampleOne}
-use Rattle.rules.proofs.Judged.{wide-enough}
+use Rattle.rules.proofs.Sound.{wide-enough}
 use Rattle.colour.proofs.codes.code_of.Statement.{statement}
 use Rattle.colour.proofs.codes.code_of.Tie as tie
 

@@ -1,7 +1,7 @@
 -- What a description that could have been read has of each colour.
 use mathlib.Core.Path.{sym, subst}
 use borrow.Author.Needs.{needs}
-use Rattle.rules.proofs.Judged.{DomainFits}
+use Rattle.rules.specs.Descriptions.{DomainFits}
 use Rattle.colour.proofs.Readables.{sound, n-most}
 use Rattle.colour.proofs.place.place_in.Statement.{statement}
 use Rattle.colour.proofs.place.place_in.Tie as tie

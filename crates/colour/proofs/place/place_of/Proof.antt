@@ -4,7 +4,7 @@ use native.Mathlib.Nat as NatL
 use native.Mathlib.Omega.{arith}
 use borrow.Author.Needs.{needs}
 use Rattle.rules.specs.Looking.Interpolation.{offset, position, index, fraction}
-use Rattle.rules.proofs.Judged.{wide-enough}
+use Rattle.rules.proofs.Sound.{wide-enough}
 use Rattle.colour.specs.Limits.{denLimit}
 use Rattle.colour.specs.Places.{placeOf}
 use Rattle.colour.proofs.place.place_of.Statement.{statement}

@@ -8,7 +8,7 @@ use Rattle.whole.specs.Integers.{dn}
 use Rattle.whole.proofs.Halves as H
 use Rattle.whole.proofs.Held.{Held, of, sub, sub-ok, as-u64, as-u64-ok}
 use Rattle.rules.specs.declared.Domain.{Domain}
-use Rattle.rules.proofs.Judged.{DomainFits}
+use Rattle.rules.specs.Descriptions.{DomainFits}
 use Rattle.colour.proofs.place.width_of.Statement.{statement}
 use Rattle.colour.proofs.place.width_of.Tie as tie
 

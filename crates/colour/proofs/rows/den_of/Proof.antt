@@ -3,7 +3,7 @@ use Prim.Native.Nat.{_*_}
 use mathlib.Core.Path.{_≡_, sym, subst}
 use native.Mathlib.Omega.{arith}
 use Rattle.rules.specs.Looking.Interpolation.{denOf}
-use Rattle.rules.proofs.Judged.{DomainFits}
+use Rattle.rules.specs.Descriptions.{DomainFits}
 use Rattle.colour.proofs.Readables.{sound, den-most}
 use borrow.Author.Needs.{needs}
 use Rattle.colour.proofs.rows.den_of.Statement.{statement}

@@ -7,7 +7,8 @@ use borrow.Author.Tests.{leb-true, leb-false, ltb-true, ltb-false}
 use Rattle.rules.specs.Looking.Interpolation.{Order, 1st, 2nd, 3rd, rgb, rbg, brg, grb, gbr, bgr, order}
 use Rattle.rules.specs.declared.Colour.{Colour}
 use Rattle.rules.specs.declared.Colour.the-variants.{Red, Green, Blue}
-use Rattle.colour.specs.Limits.{rowLimit, denLimit}
+use Rattle.rules.specs.Units.{rowLimit}
+use Rattle.colour.specs.Limits.{denLimit}
 use Rattle.colour.specs.Places.{three}
 use Rattle.colour.proofs.Orders.{is-rgb, is-rbg, is-brg, is-grb, is-gbr, is-bgr, none-of-five, descends, in-order}
 use Rattle.colour.proofs.shares.path_along.Statement.{statement}

@@ -2,12 +2,11 @@
 use Prim.Native.Nat.{ℕ, _+_, _*_, _≤_}
 use native.Mathlib.Nat.{mul-le-mul}
 use native.Mathlib.Omega.{arith}
-use Rattle.rules.specs.Units.{rowAt}
+use Rattle.rules.specs.Units.{rowAt, rowLimit}
 use Rattle.rules.specs.Looking.Interpolation.{rgb, pathBy, climb}
 use Rattle.rules.specs.declared.Colour.{Colour}
 use Rattle.rules.specs.declared.Colour.the-variants.{Red, Green, Blue}
 use Rattle.rules.proofs.Looking.RowsAndWeights.{path-rows}
-use Rattle.colour.specs.Limits.{rowLimit}
 use Rattle.colour.specs.Places.{three}
 use Rattle.colour.proofs.shares.path_by.Statement.{statement}
 use Rattle.colour.proofs.shares.path_by.Tie as tie

@@ -1,7 +1,7 @@
 -- Each row fits 32 bits.
 use native.Mathlib.Omega.{arith}
 use borrow.Author.Needs.{needs}
-use Rattle.rules.proofs.Boundary.Fits.{RowsFit}
+use Rattle.rules.specs.Boundary.{RowsFit}
 use Rattle.erythmoda.proofs.layout.rows_laid.Statement.{statement}
 use Rattle.erythmoda.proofs.layout.rows_laid.Tie as tie
 

@@ -2,7 +2,7 @@
 use mathlib.Core.Path.{sym, _∙_}
 use borrow.Author.Tests.{le-leb, lt-leb, not-false, not-true}
 use borrow.Author.Needs.{needs}
-use Rattle.rules.specs.Reading.Grammar.{lineLimit}
+use Rattle.rules.specs.Reading.Lines.{lineLimit}
 use Rattle.rules.specs.Reading.Judge.{byteFault, need}
 use Rattle.text.proofs.lines.byte_fault.Statement.{statement}
 use Rattle.text.proofs.lines.byte_fault.Tie as tie

@@ -13,8 +13,8 @@ use lib.Seq.{getD-take, length-take-le}
 use lib.Signed.{_<ℤ_, ltZ, leZ, ≤ℤ-refl, ltZ-yes, leZ-yes}
 use Rattle.whole.proofs.Halves as H
 use Rattle.whole.proofs.Held.{passed, true-by, false-by, le-up}
-use Rattle.rules.specs.Units.{sampleLimit, boundLimit, widthLimit, greatestN, rowsOf}
-use Rattle.rules.specs.Descriptions.{rows, domain, width, everyColour, boundsFit, ordered, narrow, sameDomain, agree, roomy, samplesFit, couldBeRead}
+use Rattle.rules.specs.Units.{sampleLimit, boundLimit, widthLimit, greatestN, rowsOf, rowLimit}
+use Rattle.rules.specs.Descriptions.{DomainFits, Sound, rows, domain, width, everyColour, boundsFit, ordered, narrow, sameDomain, agree, roomy, samplesFit, couldBeRead}
 use Rattle.rules.specs.declared.Colour.{Colour}
 use Rattle.rules.specs.declared.Colour.the-variants.{Red, Green, Blue}
 use Rattle.rules.specs.declared.Description.{Description}
@@ -23,26 +23,10 @@ use Rattle.rules.specs.declared.Kind.{Kind}
 use Rattle.rules.specs.declared.Kind.the-variants.{OneD, ThreeD}
 use Rattle.rules.proofs.Tests.{and-both, both-and}
 
--- ---- what a description and a table that could have been read have
-
-pub record DomainFits (dom : Domain) : Type 0 where
-  pub low : natAbs (dom .lower .0) ≤ boundLimit
-  pub high : natAbs (dom .upper .0) ≤ boundLimit
-  pub order : dom .lower .0 <ℤ dom .upper .0
-  pub narrow : width dom ≤ widthLimit
-
-pub record Sound (d : Description) (table : List ℤ) : Type 0 where
-  pub least : 2 ≤ d .n
-  pub most : d .n ≤ greatestN (d .kind)
-  pub domains : (c : Colour) → DomainFits (domain d c)
-  pub one-domain : d .kind ≡ ThreeD → (c : Colour) → domain d c ≡ d .red
-  pub long : 3 * rows d ≤ length table
-  pub samples : (k : ℕ) → k < 3 * rows d → natAbs (getD table k (pos 0)) ≤ sampleLimit
-
 -- ---- rows
 
 -- a table has at most 256·256·256 rows
-pub rows-most : (k : Kind) (n : ℕ) → n ≤ greatestN k → rowsOf k n ≤ 16_777_216
+pub rows-most : (k : Kind) (n : ℕ) → n ≤ greatestN k → rowsOf k n ≤ rowLimit
 rows-most OneD n h = omega arith
 rows-most ThreeD n h = mul-le-mul (mul-le-mul h h) h
 
@@ -204,10 +188,4 @@ module _ (d : Description) (table : List ℤ) where
   too-short h = unsound (λ s. clash (s .long))
     where
       clash : 3 * rows d ≤ length table → ⊥
-      clash l = omega arith
-
-  pub one-beyond : (k : ℕ) → k < 3 * rows d → sampleLimit < natAbs (getD table k (pos 0)) → couldBeRead d table ≡ false
-  one-beyond k h b = unsound (λ s. clash (s .samples k h))
-    where
-      clash : natAbs (getD table k (pos 0)) ≤ sampleLimit → ⊥
       clash l = omega arith
