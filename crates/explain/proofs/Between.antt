@@ -23,7 +23,7 @@ use Rattle.rules.specs.declared.Share.{Share}
 use Rattle.rules.specs.declared.Shares.{Shares}
 use Rattle.rules.proofs.Looking.Checks.{look-passed}
 use Rattle.rules.proofs.Looking.Demand3.{looks-right}
-use Rattle.rules.proofs.Depths.{depth-bounds}
+use Rattle.rules.proofs.KnownDepths.{depth-bounds}
 use Rattle.explain.specs.Spans.{carries, widened, spanOf, shownSpan, Seen}
 use Rattle.explain.specs.declared.rows.Span.{Span}
 

@@ -13,6 +13,7 @@ use Rattle.rules.specs.Looking.{look}
 use Rattle.rules.specs.Picturing.{picture, outputAfter}
 use Rattle.rules.specs.Answers.{refusalNumber, readNumber, readLine, readDescription, lookNumber, lookCodes, lookRows, lookWeights, pictureNumber}
 use Rattle.rules.specs.Promises.{Reads, Looks, Pictures}
+use Rattle.rules.specs.declared.Bits.{Bits}
 use Rattle.rules.specs.declared.Codes.{Codes}
 use Rattle.rules.specs.declared.Description.{Description}
 use Rattle.rules.specs.declared.Look.{Look}
@@ -133,7 +134,7 @@ look-again : (r : Look) → lookFrom (refusalOf (lookNumber r)) (lookCodes r) (l
 look-again (L.Accepted codes shares) = refl
 look-again (L.Refused r) = rw (refusal-of-number r)
 
-module _ {d : Description} {table : List ℤ} {bits : ℕ} {pixel : Codes} where
+module _ {d : Description} {table : List ℤ} {bits : Bits} {pixel : Codes} where
   pub looks-is : {r : Look} → Looks d table bits pixel r → r ≡ look d table bits pixel
   looks-is {r} l =
       let again : lookFrom (refusalOf (lookNumber r)) (lookCodes r) (lookRows r) (lookWeights r) ≡ _ =
@@ -153,7 +154,7 @@ picture-again : (r : Picture) → pictureFrom (refusalOf (pictureNumber r)) ≡ 
 picture-again P.Accepted = refl
 picture-again (P.Refused r) = rw (refusal-of-number r)
 
-module _ {d : Description} {table : List ℤ} {bits : ℕ} {src dst : List ℕ} where
+module _ {d : Description} {table : List ℤ} {bits : Bits} {src dst : List ℕ} where
   pub pictures-is : {r : Picture} {dst′ : List ℕ} → Pictures d table bits src dst r dst′
       → (r ≡ picture d table bits src (length dst)) × (dst′ ≡ outputAfter d table bits src dst (picture d table bits src (length dst)))
   pictures-is {r} p =

@@ -1,2 +1,6 @@
 -- Laws of the C boundary.
+
+-- calls of eleven numbers
+pub mod Described
+-- what crosses fits its numbers
 pub mod Fits

@@ -3,7 +3,7 @@
 -- tests and their parts; the three colours; a known depth's M; the test of 24 is the property `Sound`
 pub mod Tests
 pub mod Colours
-pub mod Depths
+pub mod KnownDepths
 pub mod Sound
 -- a word, a line and the lines in their order; acceptance is the grammar; the first refused line decides; what is accepted is not 24
 pub mod Reading

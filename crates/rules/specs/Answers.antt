@@ -69,9 +69,12 @@ codesOf c = c .red ∷ c .green ∷ c .blue ∷ []
 abbrev pub sharesOf : Shares → List Share
 sharesOf s = s .first ∷ s .second ∷ s .third ∷ s .fourth ∷ s .fifth ∷ s .sixth ∷ []
 
+abbrev pub codesIn : Look → Codes
+codesIn (L.Accepted c s) = c
+codesIn (L.Refused r) = record { red = 0; green = 0; blue = 0 }
+
 abbrev pub lookCodes : Look → List ℕ
-lookCodes (L.Accepted c s) = codesOf c
-lookCodes (L.Refused r) = 0 ∷ 0 ∷ 0 ∷ []
+lookCodes a = codesOf (codesIn a)
 
 abbrev pub lookShares : Look → List Share
 lookShares (L.Accepted c s) = sharesOf s

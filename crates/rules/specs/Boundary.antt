@@ -1,18 +1,18 @@
 -- The C boundary: a description as eleven numbers, and the promises of the three calls by the same definitions.
 use Prim.Native.Nat.{ℕ, _+_, _<_}
 use mathlib.Core.Path.{_≡_}
-use mathlib.Core.Bool.{Bool, cond}
+use mathlib.Core.Bool.{Bool, cond, not}
 use mathlib.Core.List.{List, [], _∷_}
 use mathlib.Core.Option.{Option, none, some}
 use lib.Dec.{eqb}
 use lib.ListN.{length, getD}
-use lib.IntN.{ℤ, pos}
+use lib.IntN.{ℤ, pos, natAbs}
 use Rattle.whole.specs.Integers.{up}
-use Rattle.rules.specs.Descriptions.{noTitle}
 use Rattle.rules.specs.Reading.{read, tableAfter}
 use Rattle.rules.specs.Looking.{look}
 use Rattle.rules.specs.Picturing.{pixelOf, picture, outputAfter}
 use Rattle.rules.specs.Answers.{readNumber, readLine, readDescription, lookNumber, lookCodes, lookRows, lookWeights, pictureNumber}
+use Rattle.rules.specs.declared.Bits.{Bits}
 use Rattle.rules.specs.declared.Codes.{Codes}
 use Rattle.rules.specs.declared.Description.{Description}
 use Rattle.rules.specs.declared.Domain.{Domain}
@@ -64,7 +64,11 @@ kindIn eleven =
 abbrev pub domainIn : List ℤ → ℕ → Domain
 domainIn eleven c = record { lower = record { 0 = numberAt eleven (2 + c) }; upper = record { 0 = numberAt eleven (5 + c) } }
 
--- an N below 0 counts as 0, which is out of range too; the title is not looked at
+-- 0 is without a title, and any other number with one
+abbrev pub markIn : List ℤ → Bool
+markIn eleven = not (eqb (natAbs (numberAt eleven 8)) 0)
+
+-- a number below 0 counts as 0: an N of 0 is out of range too
 abbrev pub descriptionIn : List ℤ → Kind → Description
 descriptionIn eleven k = record {
   kind = k;
@@ -72,7 +76,7 @@ descriptionIn eleven k = record {
   red = domainIn eleven 0;
   green = domainIn eleven 1;
   blue = domainIn eleven 2;
-  title = noTitle;
+  title = record { there = markIn eleven; place = up (numberAt eleven 9); length = up (numberAt eleven 10) };
 }
 
 abbrev describedBy : List ℤ → Option Kind → Option Description
@@ -98,29 +102,25 @@ unfoldable pub RowsFit : List ℕ → Type 0
 RowsFit [] = Unit
 RowsFit (row ∷ rows) = (row < 4_294_967_296) × RowsFit rows
 
--- ---- the calls, of eleven numbers: those that give no description are 24
+-- ---- the calls, of eleven numbers: where these give no description the answer is that of 24
 
-abbrev pub lookBy : List ℤ → ℕ → Codes → Option Description → Look
-lookBy table bits pixel none = L.Refused CouldNotBeRead
-lookBy table bits pixel (some d) = look d table bits pixel
+-- a call of a description, and what it answers where there is none
+abbrev pub answered : {A : Type 0} → A → (Description → A) → Option Description → A
+answered refusal call none = refusal
+answered refusal call (some d) = call d
 
-abbrev pub lookIn : List ℤ → List ℤ → ℕ → Codes → Look
-lookIn eleven table bits pixel = lookBy table bits pixel (describedIn eleven)
+abbrev pub called : {A : Type 0} → A → (Description → A) → List ℤ → A
+called refusal call eleven = answered refusal call (describedIn eleven)
 
-abbrev pictureBy : List ℤ → ℕ → List ℕ → ℕ → Option Description → Picture
-pictureBy table bits src places none = P.Refused CouldNotBeRead
-pictureBy table bits src places (some d) = picture d table bits src places
+abbrev pub lookIn : List ℤ → List ℤ → Bits → Codes → Look
+lookIn eleven table bits pixel = called (L.Refused CouldNotBeRead) (λ d. look d table bits pixel) eleven
 
-abbrev pub pictureIn : List ℤ → List ℤ → ℕ → List ℕ → ℕ → Picture
-pictureIn eleven table bits src places = pictureBy table bits src places (describedIn eleven)
-
-abbrev outputBy : List ℤ → ℕ → List ℕ → List ℕ → Option Description → List ℕ
-outputBy table bits src dst none = dst
-outputBy table bits src dst (some d) = outputAfter d table bits src dst (picture d table bits src (length dst))
+abbrev pub pictureIn : List ℤ → List ℤ → Bits → List ℕ → ℕ → Picture
+pictureIn eleven table bits src places = called (P.Refused CouldNotBeRead) (λ d. picture d table bits src places) eleven
 
 -- the output afterwards
-abbrev pub outputIn : List ℤ → List ℤ → ℕ → List ℕ → List ℕ → List ℕ
-outputIn eleven table bits src dst = outputBy table bits src dst (describedIn eleven)
+abbrev pub outputIn : List ℤ → List ℤ → Bits → List ℕ → List ℕ → List ℕ
+outputIn eleven table bits src dst = called dst (λ d. outputAfter d table bits src dst (picture d table bits src (length dst))) eleven
 
 -- ---- the promises: the number that is returned, and everything that is lent, afterwards
 
@@ -130,12 +130,12 @@ pub record ReadsC (file : List ℕ) (table : List ℤ) (number : ℕ) (table′ 
   pub description-so : eleven′ ≡ elevenOf (readDescription (read file (length table)))
   pub memory : table′ ≡ tableAfter file table (read file (length table))
 
-pub record LooksC (eleven table : List ℤ) (bits : ℕ) (pixel : List ℕ) (number : ℕ) (codes′ rows′ : List ℕ) (weights′ : List ℤ) : Type 0 where
+pub record LooksC (eleven table : List ℤ) (bits : Bits) (pixel : List ℕ) (number : ℕ) (codes′ rows′ : List ℕ) (weights′ : List ℤ) : Type 0 where
   pub number-so : number ≡ lookNumber (lookIn eleven table bits (pixelIn pixel))
   pub codes-so : codes′ ≡ lookCodes (lookIn eleven table bits (pixelIn pixel))
   pub rows-so : rows′ ≡ lookRows (lookIn eleven table bits (pixelIn pixel))
   pub weights-so : weights′ ≡ lookWeights (lookIn eleven table bits (pixelIn pixel))
 
-pub record PicturesC (eleven table : List ℤ) (bits : ℕ) (src dst : List ℕ) (number : ℕ) (dst′ : List ℕ) : Type 0 where
+pub record PicturesC (eleven table : List ℤ) (bits : Bits) (src dst : List ℕ) (number : ℕ) (dst′ : List ℕ) : Type 0 where
   pub number-so : number ≡ pictureNumber (pictureIn eleven table bits src (length dst))
   pub memory : dst′ ≡ outputIn eleven table bits src dst

@@ -8,7 +8,7 @@ use lib.ListN.{length, take, drop, getD}
 use lib.IntN.{ℤ, pos, _*ℤ_}
 use lib.Signed.{_<ℤ_, _≤ℤ_}
 use Rattle.whole.specs.Nearest.{Nearest, weights}
-use Rattle.rules.specs.Units.{depthOf, samplePlaces, sampleLimit, colourPlace, codeIn}
+use Rattle.rules.specs.Units.{depthsOf, rawM, correctedM, samplePlaces, sampleLimit, colourPlace, codeIn}
 use Rattle.rules.specs.Descriptions.{rows}
 use Rattle.rules.specs.Reading.Lines.{linesOf, wordsOf}
 use Rattle.rules.specs.Reading.Numerals.{Exact}
@@ -22,7 +22,9 @@ use Rattle.rules.specs.declared.Form.the-variants.{Idle, Keyed, Data, Ne
 use Rattle.rules.specs.declared.Codes.{Codes}
 use Rattle.rules.specs.declared.Colour.{Colour}
 use Rattle.rules.specs.declared.Colour.the-variants.{Red, Green, Blue}
-use Rattle.rules.specs.declared.DepthFound.the-variants.{Known}
+use Rattle.rules.specs.declared.Bits.{Bits}
+use Rattle.rules.specs.declared.Depths.{Depths}
+use Rattle.rules.specs.declared.DepthsFound.the-variants.{Both}
 use Rattle.rules.specs.declared.Description.{Description}
 use Rattle.rules.specs.declared.Kind.{Kind}
 use Rattle.rules.specs.declared.Kind.the-variants.{OneD, ThreeD}
@@ -99,49 +101,55 @@ pub data ByReading (d : Description) (table : List ℤ) (m : ℕ) (pixel : Codes
   cube : (i f : Colour → ℕ) (o : Order) → ((k : Colour) → Reading (d .n) (denOf d m k) (positionOf d m pixel k) (i k) (f k)) → Descends f o
       → ByReading d table m pixel c ThreeD (total table c (pathBy (d .n) (denOf d m c) i f o))
 
--- the codes and shares of an accepted look at a pixel, for one colour; raw and corrected are the two M
-pub record Right (d : Description) (table : List ℤ) (raw corrected : ℕ) (pixel : Codes) (codes : Codes) (shares : Shares) (c : Colour) : Type 0 where
+-- a colour's code, made of these rows with their weights, of a table with so many rows. den is D, what the weights add up to, m the M of the codes,
+-- and `Value` says which sums are S by an admissible reading.
+pub record Right (table : List ℤ) (c : Colour) (count den m : ℕ) (Value : ℤ → Type 0) (ss : List Share) (code : ℕ) : Type 0 where
   -- S / (D·10,000,000) is the exact value, the same by every admissible reading
   pub s : ℤ
-  pub read-so : ByReading d table raw pixel c (d .kind) s
-  pub read-otherwise : (t : ℤ) → ByReading d table raw pixel c (d .kind) t → t ≡ s
+  pub read-so : Value s
+  pub read-otherwise : (t : ℤ) → Value t → t ≡ s
   -- no code is nearer to M times it, and of equally near ones this is the greatest
-  pub nearest : Nearest (pos corrected *ℤ s) (denominator (denOf d raw c)) corrected (codeIn codes c)
-  -- the exact value is made of exactly the rows shown, and their weights add up to D
-  pub shown : total table c (used (d .kind) c shares) ≡ s
-  pub add-up : weights (weighed table c (used (d .kind) c shares)) ≡ pos (denOf d raw c)
-  pub not-negative : Each (λ x. pos 0 ≤ℤ x .weight) (used (d .kind) c shares)
-  pub in-table : Each (λ x. x .row < rows d) (used (d .kind) c shares)
+  pub nearest : Nearest (pos m *ℤ s) (denominator den) m code
+  -- the exact value is made of exactly these rows, and their weights add up to D
+  pub shown : total table c ss ≡ s
+  pub add-up : weights (weighed table c ss) ≡ pos den
+  pub not-negative : Each (λ x. pos 0 ≤ℤ x .weight) ss
+  pub in-table : Each (λ x. x .row < count) ss
   -- the code lies between the least and the greatest code of the rows whose weight is above 0
-  pub below : (a : ℕ) → Carried (λ x. rowCode corrected (denOf d raw c) table c (x .row) ≤ a) (used (d .kind) c shares) → codeIn codes c ≤ a
-  pub above : (a : ℕ) → Carried (λ x. a ≤ rowCode corrected (denOf d raw c) table c (x .row)) (used (d .kind) c shares) → a ≤ codeIn codes c
+  pub below : (a : ℕ) → Carried (λ x. rowCode m den table c (x .row) ≤ a) ss → code ≤ a
+  pub above : (a : ℕ) → Carried (λ x. a ≤ rowCode m den table c (x .row)) ss → a ≤ code
 
--- an accepted look: its depth is known, and each colour is right
-pub record AllRight (d : Description) (table : List ℤ) (bits : ℕ) (pixel : Codes) (r : Look) : Type 0 where
-  pub m : ℕ
-  pub known : depthOf bits ≡ Known (record { greatest = m })
+-- the codes and shares of an accepted look at a pixel, for one colour
+abbrev pub LookRight : Description → List ℤ → Depths → Codes → Codes → Shares → Colour → Type 0
+LookRight d table depths pixel codes shares c =
+    Right table c (rows d) (denOf d (rawM depths) c) (correctedM depths) (ByReading d table (rawM depths) pixel c (d .kind)) (used (d .kind) c shares) (codeIn codes c)
+
+-- an accepted look: its depths are known, and each colour is right
+pub record AllRight (d : Description) (table : List ℤ) (bits : Bits) (pixel : Codes) (r : Look) : Type 0 where
+  pub depths : Depths
+  pub known : depthsOf bits ≡ Both depths
   pub codes : Codes
   pub shares : Shares
   pub accepted : r ≡ Accepted codes shares
-  pub all-right : (c : Colour) → Right d table m m pixel codes shares c
+  pub all-right : (c : Colour) → LookRight d table depths pixel codes shares c
 
 -- pixel k of a run of codes
 abbrev pub pixelAt : List ℕ → ℕ → Codes
 pixelAt src k = pixelOf (getD src (3 * k) 0) (getD src (3 * k + 1) 0) (getD src (3 * k + 2) 0)
 
 -- the codes of pixel k of a picture are those of a look at it that is right
-pub record PixelRight (d : Description) (table : List ℤ) (m : ℕ) (src dst′ : List ℕ) (k : ℕ) : Type 0 where
+pub record PixelRight (d : Description) (table : List ℤ) (depths : Depths) (src dst′ : List ℕ) (k : ℕ) : Type 0 where
   pub codes : Codes
   pub shares : Shares
   pub written : (c : Colour) → getD dst′ (3 * k + colourPlace c) 0 ≡ codeIn codes c
-  pub all-right : (c : Colour) → Right d table m m (pixelAt src k) codes shares c
+  pub all-right : (c : Colour) → LookRight d table depths (pixelAt src k) codes shares c
 
--- an accepted picture, at the depth whose greatest code is m: whole pixels with room for their codes, each corrected, and later places as they were
-pub record RightPicture (d : Description) (table : List ℤ) (bits : ℕ) (src dst dst′ : List ℕ) : Type 0 where
-  pub m : ℕ
-  pub known : depthOf bits ≡ Known (record { greatest = m })
+-- an accepted picture: whole pixels with room for their codes, each corrected, and later places as they were
+pub record RightPicture (d : Description) (table : List ℤ) (bits : Bits) (src dst dst′ : List ℕ) : Type 0 where
+  pub depths : Depths
+  pub known : depthsOf bits ≡ Both depths
   pub whole : length src % 3 ≡ 0
   pub room : length src ≤ length dst
   pub as-long : length dst′ ≡ length dst
   pub later : drop (length src) dst′ ≡ drop (length src) dst
-  pub pixels : (k : ℕ) → 3 * k < length src → PixelRight d table m src dst′ k
+  pub pixels : (k : ℕ) → 3 * k < length src → PixelRight d table depths src dst′ k

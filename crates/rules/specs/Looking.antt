@@ -5,14 +5,16 @@ use mathlib.Core.List.{List, _++_}
 use lib.Dec.{leb}
 use lib.IntN.{ℤ}
 use lib.ListN.{getD}
-use Rattle.rules.specs.Units.{depthOf}
+use Rattle.rules.specs.Units.{depthsOf, rawM, correctedM}
 use Rattle.rules.specs.Descriptions.{couldBeRead}
-use Rattle.rules.specs.Looking.Interpolation.{share, denOf, pair, path, sharesFor, codeBy}
+use Rattle.rules.specs.Looking.Interpolation.{share, denOf, pairAt, pair, path, sharesFor, codeBy}
 use Rattle.rules.specs.declared.Codes.{Codes}
 use Rattle.rules.specs.declared.Colour.{Colour}
 use Rattle.rules.specs.declared.Colour.the-variants.{Red, Green, Blue}
-use Rattle.rules.specs.declared.DepthFound.{DepthFound}
-use Rattle.rules.specs.declared.DepthFound.the-variants.{Known, Unknown}
+use Rattle.rules.specs.declared.Bits.{Bits}
+use Rattle.rules.specs.declared.Depths.{Depths}
+use Rattle.rules.specs.declared.DepthsFound.{DepthsFound}
+use Rattle.rules.specs.declared.DepthsFound.the-variants.{Both, NotBoth}
 use Rattle.rules.specs.declared.Description.{Description}
 use Rattle.rules.specs.declared.Kind.{Kind}
 use Rattle.rules.specs.declared.Kind.the-variants.{OneD, ThreeD}
@@ -53,24 +55,27 @@ shown d m pixel ThreeD = six (path d m pixel)
 -- ---- the answer
 
 -- the raw M places the pixel, the corrected M gives the codes
-abbrev pub codeOf : Description → List ℤ → ℕ → ℕ → Codes → Colour → ℕ
-codeOf d table raw corrected pixel c = codeBy corrected (denOf d raw c) table c (sharesFor d raw pixel (d .kind) c)
+abbrev pub codeOf : Description → List ℤ → Depths → Codes → Colour → ℕ
+codeOf d table depths pixel c = codeBy (correctedM depths) (denOf d (rawM depths) c) table c (sharesFor d (rawM depths) pixel (d .kind) c)
 
-abbrev pub correct : Description → List ℤ → ℕ → ℕ → Codes → Codes
-correct d table raw corrected pixel = record {
-  red = codeOf d table raw corrected pixel Red;
-  green = codeOf d table raw corrected pixel Green;
-  blue = codeOf d table raw corrected pixel Blue;
+-- 1D: one colour's code by itself, of its own raw code
+abbrev pub lineCode : Description → List ℤ → Depths → Colour → ℕ → ℕ
+lineCode d table depths c code = codeBy (correctedM depths) (denOf d (rawM depths) c) table c (pairAt d (rawM depths) c code)
+
+abbrev pub correct : Description → List ℤ → Depths → Codes → Codes
+correct d table depths pixel = record {
+  red = codeOf d table depths pixel Red;
+  green = codeOf d table depths pixel Green;
+  blue = codeOf d table depths pixel Blue;
 }
 
--- the raw and the corrected depth are one
-unfoldable pub lookAt : Description → List ℤ → Codes → DepthFound → Look
-lookAt d table pixel Unknown = Refused DepthUnknown
-lookAt d table pixel (Known m) =
-    cond (within (m .greatest) pixel)
-    (Accepted (correct d table (m .greatest) (m .greatest) pixel) (shown d (m .greatest) pixel (d .kind)))
+unfoldable pub lookAt : Description → List ℤ → Codes → DepthsFound → Look
+lookAt d table pixel NotBoth = Refused DepthUnknown
+lookAt d table pixel (Both depths) =
+    cond (within (rawM depths) pixel)
+    (Accepted (correct d table depths pixel) (shown d (rawM depths) pixel (d .kind)))
     (Refused CodeTooGreat)
 
 -- the checks run 24, 20, 23
-unfoldable pub look : Description → List ℤ → ℕ → Codes → Look
-look d table bits pixel = cond (couldBeRead d table) (lookAt d table pixel (depthOf bits)) (Refused CouldNotBeRead)
+unfoldable pub look : Description → List ℤ → Bits → Codes → Look
+look d table bits pixel = cond (couldBeRead d table) (lookAt d table pixel (depthsOf bits)) (Refused CouldNotBeRead)

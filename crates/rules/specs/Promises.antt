@@ -8,6 +8,7 @@ use Rattle.rules.specs.Reading.{read, tableAfter}
 use Rattle.rules.specs.Looking.{look}
 use Rattle.rules.specs.Picturing.{picture, outputAfter}
 use Rattle.rules.specs.Answers.{readNumber, readLine, readDescription, lookNumber, lookCodes, lookRows, lookWeights, pictureNumber}
+use Rattle.rules.specs.declared.Bits.{Bits}
 use Rattle.rules.specs.declared.Codes.{Codes}
 use Rattle.rules.specs.declared.Description.{Description}
 use Rattle.rules.specs.declared.Look.{Look}
@@ -21,14 +22,14 @@ pub record Reads (file : List ℕ) (table : List ℤ) (r : Read) (table′ : Lis
   pub description : readDescription r ≡ readDescription (read file (length table))
   pub memory : table′ ≡ tableAfter file table (read file (length table))
 
--- looking at one pixel of a depth of so many bits answers r
-pub record Looks (d : Description) (table : List ℤ) (bits : ℕ) (pixel : Codes) (r : Look) : Type 0 where
+-- looking at one pixel, at depths of so many bits, answers r
+pub record Looks (d : Description) (table : List ℤ) (bits : Bits) (pixel : Codes) (r : Look) : Type 0 where
   pub number : lookNumber r ≡ lookNumber (look d table bits pixel)
   pub codes : lookCodes r ≡ lookCodes (look d table bits pixel)
   pub rows : lookRows r ≡ lookRows (look d table bits pixel)
   pub weights : lookWeights r ≡ lookWeights (look d table bits pixel)
 
 -- correcting the picture src into dst answers r, and the output is dst′ afterwards
-pub record Pictures (d : Description) (table : List ℤ) (bits : ℕ) (src dst : List ℕ) (r : Picture) (dst′ : List ℕ) : Type 0 where
+pub record Pictures (d : Description) (table : List ℤ) (bits : Bits) (src dst : List ℕ) (r : Picture) (dst′ : List ℕ) : Type 0 where
   pub number : pictureNumber r ≡ pictureNumber (picture d table bits src (length dst))
   pub memory : dst′ ≡ outputAfter d table bits src dst (picture d table bits src (length dst))

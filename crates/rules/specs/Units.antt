@@ -5,11 +5,15 @@ use mathlib.Core.List.{List}
 use lib.Dec.{eqb, leb}
 use lib.IntN.{ℤ, pos}
 use lib.ListN.{getD}
+use Rattle.rules.specs.declared.Bits.{Bits}
 use Rattle.rules.specs.declared.Codes.{Codes}
 use Rattle.rules.specs.declared.Colour.{Colour}
 use Rattle.rules.specs.declared.Colour.the-variants.{Red, Green, Blue}
 use Rattle.rules.specs.declared.DepthFound.{DepthFound}
 use Rattle.rules.specs.declared.DepthFound.the-variants.{Known, Unknown}
+use Rattle.rules.specs.declared.Depths.{Depths}
+use Rattle.rules.specs.declared.DepthsFound.{DepthsFound}
+use Rattle.rules.specs.declared.DepthsFound.the-variants.{Both, NotBoth}
 use Rattle.rules.specs.declared.Kind.{Kind}
 use Rattle.rules.specs.declared.Kind.the-variants.{OneD, ThreeD}
 
@@ -56,6 +60,26 @@ depthOf bits =
     (cond (eqb bits 12) (known 4095)
     (cond (eqb bits 16) (known 65535)
     Unknown)))
+
+-- two depths, of raw and of corrected codes, where both are known
+abbrev pub together : DepthFound → DepthFound → DepthsFound
+together Unknown corrected = NotBoth
+together (Known raw) Unknown = NotBoth
+together (Known raw) (Known corrected) = Both (record { raw = raw; corrected = corrected })
+
+abbrev pub depthsOf : Bits → DepthsFound
+depthsOf bits = together (depthOf (bits .raw)) (depthOf (bits .corrected))
+
+-- one width for both
+abbrev pub sameBits : ℕ → Bits
+sameBits width = record { raw = width; corrected = width }
+
+-- the M of raw codes, and that of corrected codes
+abbrev pub rawM : Depths → ℕ
+rawM depths = depths .raw .greatest
+
+abbrev pub correctedM : Depths → ℕ
+correctedM depths = depths .corrected .greatest
 
 -- ---- rows
 

@@ -1,7 +1,7 @@
 // The types of document 01. What the calls answer and promise over them is in specs/, the theorems are in proofs/.
 ghost use mathlib.Core.Path.{_≡_};
 ghost use Rattle.rules.specs.Answers.{refusalNumber};
-ghost use Rattle.rules.specs.Units.{depthOf};
+ghost use Rattle.rules.specs.Units.{depthOf, depthsOf, sameBits};
 
 // ---- units and depths
 
@@ -76,6 +76,50 @@ impl Depth {
             }),
             _ => DepthFound::Unknown,
         }
+    }
+}
+
+// The widths in bits that are asked for: of raw and of corrected codes.
+pub struct Bits {
+    pub raw: u32,
+    pub corrected: u32,
+}
+
+impl Bits {
+    // One width for both.
+    pub fn same(width: u32) -> Bits
+        ensures { λ r. ⌜ r ≡ sameBits width ⌝ }
+    {
+        Bits {
+            raw: width,
+            corrected: width,
+        }
+    }
+}
+
+// The depths of raw and of corrected codes.
+pub struct Depths {
+    pub raw: Depth,
+    pub corrected: Depth,
+}
+
+pub enum DepthsFound {
+    Both(Depths),
+    NotBoth,
+}
+
+impl Depths {
+    // The two depths, where both are known.
+    pub fn of(bits: Bits) -> DepthsFound
+        ensures { λ r. ⌜ r ≡ depthsOf bits ⌝ }
+    {
+        let DepthFound::Known(raw) = Depth::of(bits.raw) else {
+            return DepthsFound::NotBoth;
+        };
+        let DepthFound::Known(corrected) = Depth::of(bits.corrected) else {
+            return DepthsFound::NotBoth;
+        };
+        DepthsFound::Both(Depths { raw, corrected })
     }
 }
 

@@ -12,7 +12,7 @@ use Rattle.rules.specs.Looking.{within}
 use Rattle.rules.specs.declared.Depth.{Depth}
 use Rattle.rules.specs.declared.DepthFound.the-variants.{Known}
 use Rattle.rules.specs.declared.Look.the-variants.{Accepted}
-use Rattle.rules.proofs.Depths.{depth-bounds}
+use Rattle.rules.proofs.KnownDepths.{depth-bounds}
 use Rattle.rules.proofs.Answers.{is-looks}
 use Rattle.rules.proofs.Looking.Checks.{look-24, look-20, look-23, look-0}
 use Rattle.colour.proofs.Weighing.{ToWeigh, shown-weighed, shown-corrects}

@@ -18,7 +18,7 @@ use Rattle.rules.specs.declared.Description.{Description}
 use Rattle.rules.specs.declared.Picture.the-variants.{Accepted, Refused}
 use Rattle.rules.specs.declared.Refusal.{Refusal}
 use Rattle.rules.proofs.Picturing.Checks.{picture-24, picture-20, picture-21, picture-22, picture-23, picture-0}
-use Rattle.rules.proofs.Depths.{depth-bounds}
+use Rattle.rules.proofs.KnownDepths.{depth-bounds}
 use Rattle.rules.proofs.Answers.{is-pictures}
 use Rattle.picture.specs.Filling.{Judged, Fills}
 use Rattle.picture.proofs.picture.Statement.{statement}

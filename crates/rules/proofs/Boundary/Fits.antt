@@ -3,25 +3,26 @@ use Prim.Native.Nat.{ℕ, _≤_, _<_}
 use mathlib.Core.Path.{_≡_, refl, subst}
 use mathlib.Core.Logic.{_⊎_, inl, inr}
 use mathlib.Core.Bool.{Bool, true, false, cond}
-use mathlib.Core.Option.{Option, none, some}
 use mathlib.Core.List.{List, [], _∷_, map}
 use native.Mathlib.Omega.{arith}
 use lib.IntN.{ℤ}
 use lib.ListN.{length}
-use Rattle.rules.specs.Units.{greatestN, depthOf, rowLimit}
+use Rattle.rules.specs.Units.{greatestN, rowLimit, depthsOf, rawM}
 use Rattle.rules.specs.Descriptions.{noTitle, rows, couldBeRead}
 use Rattle.rules.specs.Reading.{read}
 use Rattle.rules.specs.Looking.{within, shown, correct, lookAt, look}
 use Rattle.rules.specs.Looking.Interpolation.{pair, path, pairBy, pathBy, climb}
 use Rattle.rules.specs.Answers.{readDescription, lookRows, sharesOf}
 use Rattle.rules.specs.Demands.{Titled, used, Each}
-use Rattle.rules.specs.Boundary.{Crossable, RowsFit, lookBy, lookIn, describedIn}
+use Rattle.rules.specs.Boundary.{Crossable, RowsFit, lookIn}
+use Rattle.rules.specs.declared.Bits.{Bits}
 use Rattle.rules.specs.declared.Codes.{Codes}
 use Rattle.rules.specs.declared.Colour.{Colour}
 use Rattle.rules.specs.declared.Colour.the-variants.{Red, Green, Blue}
 use Rattle.rules.specs.declared.Description.{Description}
-use Rattle.rules.specs.declared.DepthFound.{DepthFound}
-use Rattle.rules.specs.declared.DepthFound.the-variants.{Known, Unknown}
+use Rattle.rules.specs.declared.Depths.{Depths}
+use Rattle.rules.specs.declared.DepthsFound.{DepthsFound}
+use Rattle.rules.specs.declared.DepthsFound.the-variants.{Both, NotBoth}
 use Rattle.rules.specs.declared.Kind.{Kind}
 use Rattle.rules.specs.declared.Kind.the-variants.{OneD, ThreeD}
 use Rattle.rules.specs.declared.Look.the-variants as L
@@ -30,10 +31,11 @@ use Rattle.rules.specs.declared.Read.the-variants as R
 use Rattle.rules.specs.declared.Refusal.the-variants.{CodeTooGreat, CouldNotBeRead}
 use Rattle.rules.specs.declared.Share.{Share}
 use Rattle.rules.specs.declared.Title.{Title}
+use Rattle.rules.proofs.Boundary.Described.{called-each}
 use Rattle.rules.proofs.Reading.Acceptance.{accepted-keeps}
 use Rattle.rules.proofs.Reading.Bridge.{bridge}
 use Rattle.rules.proofs.Looking.Demand3.{right}
-use Rattle.rules.proofs.Depths.{depth-bounds}
+use Rattle.rules.proofs.KnownDepths.{depths-bounds}
 use Rattle.rules.proofs.Sound.{rows-most, sound-of}
 use Rattle.rules.proofs.Reading.Titles.{title-or-none, titled-inside}
 
@@ -72,14 +74,14 @@ all-six a b c d e f = (a, (b, (c, (d, (e, (f, tt))))))
 zeros-fit : RowsFit (0 ∷ 0 ∷ 0 ∷ 0 ∷ 0 ∷ 0 ∷ [])
 zeros-fit = all-six (omega arith) (omega arith) (omega arith) (omega arith) (omega arith) (omega arith)
 
-module _ (d : Description) (table : List ℤ) (m : ℕ) (pixel : Codes) (could : couldBeRead d table ≡ true) (deep : 0 < m) where
+module _ (d : Description) (table : List ℤ) (depths : Depths) (pixel : Codes) (could : couldBeRead d table ≡ true) (deep : 0 < rawM depths) where
   few : rows d ≤ rowLimit
   few = rows-most (d .kind) (d .n) (sound-of d table could .most)
 
-  inside : (k : Kind) → d .kind ≡ k → (c : Colour) → Each (λ x. x .row < rows d) (used k c (shown d m pixel k))
-  inside k e c = subst (λ (j : Kind). Each (λ x. x .row < rows d) (used j c (shown d m pixel j))) e (right d table m m pixel could deep c .in-table)
+  inside : (k : Kind) → d .kind ≡ k → (c : Colour) → Each (λ x. x .row < rows d) (used k c (shown d (rawM depths) pixel k))
+  inside k e c = subst (λ (j : Kind). Each (λ x. x .row < rows d) (used j c (shown d (rawM depths) pixel j))) e (right d table depths pixel could deep c .in-table)
 
-  shown-fit : (k : Kind) → d .kind ≡ k → RowsFit (map (λ (s : Share). s .row) (sharesOf (shown d m pixel k)))
+  shown-fit : (k : Kind) → d .kind ≡ k → RowsFit (map (λ (s : Share). s .row) (sharesOf (shown d (rawM depths) pixel k)))
   unfolding shown pair path pairBy pathBy climb
   shown-fit OneD e =
       let r = inside OneD e Red in
@@ -91,26 +93,22 @@ module _ (d : Description) (table : List ℤ) (m : ℕ) (pixel : Codes) (could :
       all-six (omega (arith, few, r .0)) (omega (arith, few, r .1 .0)) (omega (arith, few, r .1 .1 .0)) (omega (arith, few, r .1 .1 .1 .0)) (omega arith) (omega arith)
 
 -- whatever look shows
-pub rows-fit : (d : Description) (table : List ℤ) (bits : ℕ) (pixel : Codes) → RowsFit (lookRows (look d table bits pixel))
+pub rows-fit : (table : List ℤ) (bits : Bits) (pixel : Codes) (d : Description) → RowsFit (lookRows (look d table bits pixel))
 unfolding look lookAt
-rows-fit d table bits pixel = by (couldBeRead d table) refl
+rows-fit table bits pixel d = by (couldBeRead d table) refl
   where
-    deep-by : couldBeRead d table ≡ true → (f : DepthFound) → depthOf bits ≡ f → RowsFit (lookRows (lookAt d table pixel f))
-    deep-by could Unknown e = zeros-fit
-    deep-by could (Known depth) e = inside-by (within (depth .greatest) pixel)
+    deep-by : couldBeRead d table ≡ true → (f : DepthsFound) → depthsOf bits ≡ f → RowsFit (lookRows (lookAt d table pixel f))
+    deep-by could NotBoth e = zeros-fit
+    deep-by could (Both depths) e = inside-by (within (rawM depths) pixel)
       where
-        inside-by : (t : Bool) → RowsFit (lookRows (cond t (L.Accepted (correct d table (depth .greatest) (depth .greatest) pixel) (shown d (depth .greatest) pixel (d .kind))) (L.Refused CodeTooGreat)))
-        inside-by true = shown-fit d table (depth .greatest) pixel could (depth-bounds bits depth e .0) (d .kind) refl
+        inside-by : (t : Bool) → RowsFit (lookRows (cond t (L.Accepted (correct d table depths pixel) (shown d (rawM depths) pixel (d .kind))) (L.Refused CodeTooGreat)))
+        inside-by true = shown-fit d table depths pixel could (depths-bounds bits depths e .0 .0) (d .kind) refl
         inside-by false = zeros-fit
 
-    by : (t : Bool) → couldBeRead d table ≡ t → RowsFit (lookRows (cond t (lookAt d table pixel (depthOf bits)) (L.Refused CouldNotBeRead)))
-    by true could = deep-by could (depthOf bits) refl
+    by : (t : Bool) → couldBeRead d table ≡ t → RowsFit (lookRows (cond t (lookAt d table pixel (depthsOf bits)) (L.Refused CouldNotBeRead)))
+    by true could = deep-by could (depthsOf bits) refl
     by false e = zeros-fit
 
 -- of eleven numbers too
-pub rows-fit-in : (eleven table : List ℤ) (bits : ℕ) (pixel : Codes) → RowsFit (lookRows (lookIn eleven table bits pixel))
-rows-fit-in eleven table bits pixel = by (describedIn eleven)
-  where
-    by : (o : Option Description) → RowsFit (lookRows (lookBy table bits pixel o))
-    by none = zeros-fit
-    by (some d) = rows-fit d table bits pixel
+pub rows-fit-in : (eleven table : List ℤ) (bits : Bits) (pixel : Codes) → RowsFit (lookRows (lookIn eleven table bits pixel))
+rows-fit-in eleven table bits pixel = called-each (λ a. RowsFit (lookRows a)) zeros-fit (rows-fit table bits pixel) eleven

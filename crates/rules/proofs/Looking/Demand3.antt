@@ -13,17 +13,19 @@ use Rattle.whole.specs.Nearest.{Nearest, code, weights, Unsigned, Carrying}
 use Rattle.whole.proofs.Halves as H
 use Rattle.whole.proofs.NearestLaws.{code-nearest, code-scale}
 use Rattle.whole.proofs.Between.{codes-below, codes-above}
-use Rattle.rules.specs.Units.{sampleOne, rowsOf, rowAt, sampleAt, codeIn}
+use Rattle.rules.specs.Units.{rawM, correctedM, sampleOne, rowsOf, rowAt, sampleAt, codeIn}
 use Rattle.rules.specs.Descriptions.{domain, width, couldBeRead, Sound}
 use Rattle.rules.specs.Looking.Interpolation.{denOf, positionOf, indexOf, fractionOf, order, pairBy, pathBy, climb, pair, path, sharesFor, weighed, total, denominator, codeBy, rowCode}
 use Rattle.rules.specs.Looking.{shown, codeOf, correct}
 use Rattle.rules.specs.Answers.{lookNumber}
 use Rattle.rules.specs.Promises.{Looks}
 use Rattle.rules.specs.Looking.Readings.{Reading}
-use Rattle.rules.specs.Demands.{used, Each, Carried, ByReading, line, cube, Right, AllRight}
+use Rattle.rules.specs.Demands.{used, Each, Carried, ByReading, line, cube, LookRight, AllRight}
+use Rattle.rules.specs.declared.Bits.{Bits}
 use Rattle.rules.specs.declared.Codes.{Codes}
 use Rattle.rules.specs.declared.Colour.{Colour}
 use Rattle.rules.specs.declared.Colour.the-variants.{Red, Green, Blue}
+use Rattle.rules.specs.declared.Depths.{Depths}
 use Rattle.rules.specs.declared.Description.{Description}
 use Rattle.rules.specs.declared.Domain.{Domain}
 use Rattle.rules.specs.declared.Kind.{Kind}
@@ -31,7 +33,7 @@ use Rattle.rules.specs.declared.Kind.the-variants.{OneD, ThreeD}
 use Rattle.rules.specs.declared.Look.{Look}
 use Rattle.rules.specs.declared.Share.{Share}
 use Rattle.rules.proofs.Sound.{sound-of, wide-enough}
-use Rattle.rules.proofs.Depths.{depth-bounds}
+use Rattle.rules.proofs.KnownDepths.{depths-bounds}
 use Rattle.rules.proofs.Looking.Layers.{level, level-own, Stairs, layered, layered-own, stairs-total}
 use Rattle.rules.proofs.Looking.EitherReading.{rowIn, line-stairs, cube-stairs}
 use Rattle.rules.proofs.Looking.Rule.{rule-reads, rule-descends}
@@ -47,7 +49,7 @@ rowOwn OneD n j c = j c
 rowOwn ThreeD n j c = rowAt n j
 
 -- the row in which a layer of a pixel lies
-layerRow : Description → ℕ → Codes → Kind → Colour → ℕ → ℕ
+unfoldable pub layerRow : Description → ℕ → Codes → Kind → Colour → ℕ → ℕ
 layerRow d m pixel OneD c = level (positionOf d m pixel c) (denOf d m c)
 layerRow d m pixel ThreeD c = rowIn (d .n) (denOf d m c) (positionOf d m pixel)
 
@@ -70,7 +72,7 @@ module _ (d : Description) (table : List ℤ) (raw : ℕ) (pixel : Codes) (could
       → (k : Colour) → Reading (d .n) (denOf d raw c) (positionOf d raw pixel k) (i k) (f k)
   over-one e c i f r k = subst (λ x. Reading (d .n) x (positionOf d raw pixel k) (i k) (f k)) (one-den e k c) (r k)
 
-  rule-stairs : (k : Kind) → d .kind ≡ k → (c : Colour) → Stairs (layerRow d raw pixel k c) (denOf d raw c) (sharesFor d raw pixel k c)
+  pub rule-stairs : (k : Kind) → d .kind ≡ k → (c : Colour) → Stairs (layerRow d raw pixel k c) (denOf d raw c) (sharesFor d raw pixel k c)
   unfolding layerRow pair path
   rule-stairs OneD e c = line-stairs (reads c)
   rule-stairs ThreeD e c =
@@ -79,13 +81,13 @@ module _ (d : Description) (table : List ℤ) (raw : ℕ) (pixel : Codes) (could
       subst (λ x. Stairs (rowIn (d .n) x (positionOf d raw pixel)) x (path d raw pixel)) (one-den e Red c)
       (cube-stairs (over-one e Red i f reads) (rule-descends f))
 
-  reading-layers : (k : Kind) → d .kind ≡ k → (c : Colour) (t : ℤ) → ByReading d table raw pixel c k t → t ≡ layered table c (layerRow d raw pixel k c) (denOf d raw c)
+  pub reading-layers : (k : Kind) → d .kind ≡ k → (c : Colour) (t : ℤ) → ByReading d table raw pixel c k t → t ≡ layered table c (layerRow d raw pixel k c) (denOf d raw c)
   unfolding layerRow
   reading-layers k e c t (line i f r) = stairs-total table c (line-stairs r)
   reading-layers k e c t (cube i f o r s) = stairs-total table c (cube-stairs (over-one e c i f r) s)
 
   -- the rule's own reading is admissible
-  rule-reading : (k : Kind) → d .kind ≡ k → (c : Colour) → ByReading d table raw pixel c k (total table c (sharesFor d raw pixel k c))
+  pub rule-reading : (k : Kind) → d .kind ≡ k → (c : Colour) → ByReading d table raw pixel c k (total table c (sharesFor d raw pixel k c))
   unfolding pair path
   rule-reading OneD e c = line (indexOf d raw pixel c) (fractionOf d raw pixel c) (reads c)
   rule-reading ThreeD e c =
@@ -95,7 +97,7 @@ module _ (d : Description) (table : List ℤ) (raw : ℕ) (pixel : Codes) (could
       (cube i f (order f) reads (rule-descends f))
 
   -- and every other gives the same
-  one-value : (c : Colour) (t : ℤ) → ByReading d table raw pixel c (d .kind) t → t ≡ total table c (sharesFor d raw pixel (d .kind) c)
+  pub one-value : (c : Colour) (t : ℤ) → ByReading d table raw pixel c (d .kind) t → t ≡ total table c (sharesFor d raw pixel (d .kind) c)
   one-value c t r = reading-layers (d .kind) refl c t r ∙ sym (stairs-total table c (rule-stairs (d .kind) refl c))
 
   -- at a pixel that sits on a row's own point the exact value is that row's sample
@@ -127,7 +129,7 @@ module _ (d : Description) (table : List ℤ) (raw : ℕ) (pixel : Codes) (could
       in-own k e t l = ap (λ x. layerRow d raw pixel x c t) e ∙ ap (λ p. level p (denOf d raw c) t) h ∙ level-own (denOf d raw c) j t l
 
   -- the rows are below the count of rows
-  rows-below : (k : Kind) (c : Colour) → Each (λ x. x .row < rowsOf k (d .n)) (sharesFor d raw pixel k c)
+  pub rows-below : (k : Kind) (c : Colour) → Each (λ x. x .row < rowsOf k (d .n)) (sharesFor d raw pixel k c)
   unfolding pair path
   rows-below OneD c = pair-rows (d .n) (denOf d raw c) (indexOf d raw pixel c) (fractionOf d raw pixel c) (reads c .cell)
   rows-below ThreeD c =
@@ -140,12 +142,12 @@ module _ (table : List ℤ) (c : Colour) (den m : ℕ) (wide : 0 < den) where
   denominator-above-0 : 0 < denominator den
   denominator-above-0 = omega arith
 
-  code-is-nearest : (ss : List Share) → Nearest (pos m *ℤ total table c ss) (denominator den) m (codeBy m den table c ss)
+  pub code-is-nearest : (ss : List Share) → Nearest (pos m *ℤ total table c ss) (denominator den) m (codeBy m den table c ss)
   unfolding codeBy
   code-is-nearest ss = code-nearest (pos m *ℤ total table c ss) (denominator den) m denominator-above-0
 
   -- a row's code is the code of its sample by itself
-  row-code : (row : ℕ) → rowCode m den table c row ≡ code (pos m *ℤ (pos den *ℤ sampleAt table row c)) (denominator den) m
+  pub row-code : (row : ℕ) → rowCode m den table c row ≡ code (pos m *ℤ (pos den *ℤ sampleAt table row c)) (denominator den) m
   unfolding codeBy
   row-code row = ap (λ z. code (pos m *ℤ z) (denominator den) m) (+ℤ-idr (pos den *ℤ sampleAt table row c))
 
@@ -158,23 +160,23 @@ module _ (table : List ℤ) (c : Colour) (den m : ℕ) (wide : 0 < den) where
     some-weight : pos 0 <ℤ weights (weighed table c ss)
     some-weight = rw w (H.lt-by (pos 0) (pos den) (omega arith))
 
-    code-below : Carried (λ x. rowCode m den table c (x .row) ≤ a) ss → codeBy m den table c ss ≤ a
+    pub code-below : Carried (λ x. rowCode m den table c (x .row) ≤ a) ss → codeBy m den table c ss ≤ a
     unfolding codeBy
     code-below h =
         codes-below (weighed table c ss) u m (denominator den) m a denominator-above-0 some-weight (rw w (carried-codes (λ r. r ≤ a) ss h))
 
-    code-above : Carried (λ x. a ≤ rowCode m den table c (x .row)) ss → a ≤ codeBy m den table c ss
+    pub code-above : Carried (λ x. a ≤ rowCode m den table c (x .row)) ss → a ≤ codeBy m den table c ss
     unfolding codeBy
     code-above h =
         codes-above (weighed table c ss) u m (denominator den) m a denominator-above-0 some-weight (rw w (carried-codes (λ r. a ≤ r) ss h))
 
 -- document 01's short division: where the raw and the corrected depth are one, M falls out and the code is that of S / (w·10,000,000)
-pub short-division : (d : Description) (table : List ℤ) (m : ℕ) (c : Colour) (ss : List Share) → 0 < m
-    → codeBy m (denOf d m c) table c ss ≡ code (total table c ss) (width (domain d c) * sampleOne) m
+-- for D = M·w, and any other that is M times a span
+pub short-division : (table : List ℤ) (m span : ℕ) (c : Colour) (ss : List Share) → 0 < m → codeBy m (m * span) table c ss ≡ code (total table c ss) (span * sampleOne) m
 unfolding codeBy
-short-division d table m c ss deep =
-    ap (λ x. code (pos m *ℤ total table c ss) x m) (NatL.mul-assoc m (width (domain d c)) sampleOne)
-    ∙ code-scale m (total table c ss) (width (domain d c) * sampleOne) m deep
+short-division table m span c ss deep =
+    ap (λ x. code (pos m *ℤ total table c ss) x m) (NatL.mul-assoc m span sampleOne)
+    ∙ code-scale m (total table c ss) (span * sampleOne) m deep
 
 -- ---- of the definitions
 
@@ -186,16 +188,16 @@ used-shown d m pixel OneD Green = refl
 used-shown d m pixel OneD Blue = refl
 used-shown d m pixel ThreeD c = refl
 
-code-corrected : (d : Description) (table : List ℤ) (raw corrected : ℕ) (pixel : Codes) (c : Colour) → codeIn (correct d table raw corrected pixel) c ≡ codeOf d table raw corrected pixel c
-code-corrected d table raw corrected pixel Red = refl
-code-corrected d table raw corrected pixel Green = refl
-code-corrected d table raw corrected pixel Blue = refl
+pub code-corrected : (d : Description) (table : List ℤ) (depths : Depths) (pixel : Codes) (c : Colour) → codeIn (correct d table depths pixel) c ≡ codeOf d table depths pixel c
+code-corrected d table depths pixel Red = refl
+code-corrected d table depths pixel Green = refl
+code-corrected d table depths pixel Blue = refl
 
-pub right : (d : Description) (table : List ℤ) (raw corrected : ℕ) (pixel : Codes) → couldBeRead d table ≡ true → 0 < raw → (c : Colour)
-    → Right d table raw corrected pixel (correct d table raw corrected pixel) (shown d raw pixel (d .kind)) c
-right d table raw corrected pixel could deep c =
+pub right : (d : Description) (table : List ℤ) (depths : Depths) (pixel : Codes) → couldBeRead d table ≡ true → 0 < rawM depths → (c : Colour)
+    → LookRight d table depths pixel (correct d table depths pixel) (shown d (rawM depths) pixel (d .kind)) c
+right d table depths pixel could deep c =
     let used-are = used-shown d raw pixel (d .kind) c in
-    let code-is = code-corrected d table raw corrected pixel c in
+    let code-is = code-corrected d table depths pixel c in
     record {
       s = total table c ss;
       read-so = rule-reading d table raw pixel could deep (d .kind) refl c;
@@ -209,6 +211,12 @@ right d table raw corrected pixel could deep c =
       above = λ a h. rw code-is (code-above table c den corrected wide ss unsigned add-up a (rw used-are at h));
     }
   where
+    raw : ℕ
+    raw = rawM depths
+
+    corrected : ℕ
+    corrected = correctedM depths
+
     den : ℕ
     den = denOf d raw c
 
@@ -229,19 +237,16 @@ right d table raw corrected pixel could deep c =
 
 -- ---- of every answer that meets the promise and is accepted
 
-pub looks-right : {d : Description} {table : List ℤ} {bits : ℕ} {pixel : Codes} {r : Look} → Looks d table bits pixel r → lookNumber r ≡ 0 → AllRight d table bits pixel r
+pub looks-right : {d : Description} {table : List ℤ} {bits : Bits} {pixel : Codes} {r : Look} → Looks d table bits pixel r → lookNumber r ≡ 0 → AllRight d table bits pixel r
 looks-right {d} {table} {bits} {pixel} {r} l z =
     record {
-      m = m;
+      depths = p .depths;
       known = p .known;
-      codes = correct d table m m pixel;
-      shares = shown d m pixel (d .kind);
-      accepted = looks-is l ∙ look-0 d table bits pixel (p .depth) (p .could) (p .known) (p .inside);
-      all-right = right d table m m pixel (p .could) (depth-bounds bits (p .depth) (p .known) .0);
+      codes = correct d table (p .depths) pixel;
+      shares = shown d (rawM (p .depths)) pixel (d .kind);
+      accepted = looks-is l ∙ look-0 d table bits pixel (p .depths) (p .could) (p .known) (p .inside);
+      all-right = right d table (p .depths) pixel (p .could) (depths-bounds bits (p .depths) (p .known) .0 .0);
     }
   where
     p : LookPassed d table bits pixel
     p = look-passed d table bits pixel (sym (ap lookNumber (looks-is l)) ∙ z)
-
-    m : ℕ
-    m = p .depth .greatest

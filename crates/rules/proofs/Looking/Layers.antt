@@ -37,7 +37,7 @@ level-own den j t h = NatL.div-eq-of-lt-le {k = j} den (omega arith) (omega (ari
 
 -- ---- the sum of the layers below a height
 
-layers : (ℕ → ℤ) → ℕ → ℤ
+pub layers : (ℕ → ℤ) → ℕ → ℤ
 layers v zero = pos 0
 layers v (suc t) = v t +ℤ layers v t
 
@@ -47,7 +47,7 @@ suc-times k z =
     (omega (arith, H.times (suc k) z, H.times k z, H.sum z (pos k *ℤ z), NatL.suc-mul k (up z), NatL.suc-mul k (dn z)))
 
 -- k layers of one value, on top of those below a
-layers-alike : (v : ℕ → ℤ) (z : ℤ) (a k : ℕ) → ((t : ℕ) → a ≤ t → t < a + k → v t ≡ z) → layers v (a + k) ≡ pos k *ℤ z +ℤ layers v a
+pub layers-alike : (v : ℕ → ℤ) (z : ℤ) (a k : ℕ) → ((t : ℕ) → a ≤ t → t < a + k → v t ≡ z) → layers v (a + k) ≡ pos k *ℤ z +ℤ layers v a
 unfolding layers
 layers-alike v z a zero h = ap (layers v) (NatL.add-zero a) ∙ sym (ap (λ x. x +ℤ layers v a) (zero-*ℤ z) ∙ +ℤ-idl (layers v a))
 layers-alike v z a (suc k) h =

@@ -108,6 +108,10 @@ pathBy n den i f o =
 abbrev pub denOf : Description → ℕ → Colour → ℕ
 denOf d m c = den m (domain d c)
 
+-- 1D: the two rows of a colour with a code
+abbrev pub pairAt : Description → ℕ → Colour → ℕ → List Share
+pairAt d m c code = pairBy (denOf d m c) (index m (domain d c) (d .n) code) (fraction m (domain d c) (d .n) code)
+
 module _ (d : Description) (m : ℕ) (pixel : Codes) where
   abbrev pub positionOf : Colour → ℕ
   positionOf c = position m (domain d c) (d .n) (codeIn pixel c)
@@ -118,9 +122,9 @@ module _ (d : Description) (m : ℕ) (pixel : Codes) where
   abbrev pub fractionOf : Colour → ℕ
   fractionOf c = fraction m (domain d c) (d .n) (codeIn pixel c)
 
-  -- 1D: each colour has its own D
+  -- 1D: each colour has its own D, and is a matter of its own code alone
   unfoldable pub pair : Colour → List Share
-  pair c = pairBy (denOf d m c) (indexOf c) (fractionOf c)
+  pair c = pairAt d m c (codeIn pixel c)
 
   -- 3D: the three colours have one domain, so one D
   unfoldable pub path : List Share

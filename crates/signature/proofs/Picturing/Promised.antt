@@ -19,7 +19,7 @@ use Rattle.rules.specs.declared.Refusal.{Refusal}
 use Rattle.signature.proofs.Picturing.Codes.{PicturePassed, picture-passed, PictureCodes, picture-codes, output-length}
 use Rattle.rules.proofs.Colours.{place-below}
 use Rattle.rules.proofs.Looking.Demand3.{right}
-use Rattle.rules.proofs.Depths.{depth-bounds}
+use Rattle.rules.proofs.KnownDepths.{depth-bounds}
 use Rattle.rules.proofs.Answers.{pictures-is}
 
 module _ {d : Description} {table : List ℤ} {bits : ℕ} {src dst dst′ : List ℕ} where
