@@ -74,6 +74,7 @@ pub fn plan_of(d: Description, depths: Depths) -> Plan
 {
     let kind = d.kind;
     let n = d.n;
+    let square = n * n;
     let raw = depths.raw;
     let m = raw.greatest;
     Plan {
@@ -81,7 +82,7 @@ pub fn plan_of(d: Description, depths: Depths) -> Plan
         cells: n - 1,
         red: axis_of(d.red, m, 1),
         green: axis_of(d.green, m, n),
-        blue: axis_of(d.blue, m, n * n),
+        blue: axis_of(d.blue, m, square),
         depths,
     }
 }
