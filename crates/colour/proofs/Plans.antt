@@ -11,7 +11,7 @@ use Rattle.whole.proofs.Halves.{product-abs}
 use Rattle.rules.specs.Units.{depthsOf, sameBits, rawM, correctedM, sampleOne, sampleLimit, rowsOf, rowLimit, rowAt, stride}
 use Rattle.rules.specs.Descriptions.{rows, domain, width, couldBeRead, Sound, DomainFits}
 use Rattle.rules.specs.Looking.Interpolation.{den, denOf, positionOf, indexOf, fractionOf, rgb, climb, pathBy, pair, path, pairAt, codeBy}
-use Rattle.rules.specs.Looking.{shown, lineCode}
+use Rattle.rules.specs.Looking.{six, shown, lineCode}
 use Rattle.rules.specs.Looking.Readings.{Reading}
 use Rattle.rules.specs.declared.Codes.{Codes}
 use Rattle.rules.specs.declared.Colour.{Colour}
@@ -22,15 +22,17 @@ use Rattle.rules.specs.declared.Description.{Description}
 use Rattle.rules.specs.declared.Domain.{Domain}
 use Rattle.rules.specs.declared.Kind.{Kind}
 use Rattle.rules.specs.declared.Kind.the-variants.{OneD, ThreeD}
+use Rattle.rules.specs.declared.Shares.{Shares}
 use Rattle.rules.proofs.KnownDepths.{each-known, depths-bounds}
 use Rattle.rules.proofs.Sound.{sound-of, wide-enough, rows-most, greatest-most}
 use Rattle.rules.proofs.Looking.Demand3 as D3
 use Rattle.rules.proofs.Looking.RowsAndWeights.{path-rows}
 use Rattle.colour.specs.Limits.{denLimit}
 use Rattle.colour.specs.Plans.{axisOf, planOf, axisIn, rowsIn, Readable, Planned}
-use Rattle.colour.specs.Places.{AxisFits, CellsFit, pairOf, stepOf, Steps, pathBySteps, shownBy}
+use Rattle.colour.specs.Places.{AxisFits, CellsFit, pairOf, stepOf, stepsOf, StepsFit, pathBySteps, shownBy}
 use Rattle.colour.specs.Adding.{Codable}
 use Rattle.colour.specs.declared.plan.Plan.{Plan}
+use Rattle.colour.specs.declared.shares.Steps.{Steps}
 use Rattle.colour.proofs.Orders.{along-path}
 use Rattle.colour.proofs.Placing.{place-is}
 
@@ -78,19 +80,11 @@ module _ (d : Description) (depths : Depths) where
   pairs-of c code = rw (axis-of c, place-is)
 
   shown-of : (pixel : Codes) (k : Kind) → shownBy (planOf d depths) pixel k ≡ shown d (rawM depths) pixel k
-  unfolding shownBy shown pair path pathBySteps stepOf
+  unfolding shownBy shown pair path pathBySteps stepsOf stepOf
   shown-of pixel OneD = rw (pairs-of Red (pixel .red), pairs-of Green (pixel .green), pairs-of Blue (pixel .blue))
   shown-of pixel ThreeD =
       let m = rawM depths in
       rw (place-is (d .red) m (d .n) 1 (pixel .red), place-is (d .green) m (d .n) (d .n) (pixel .green), place-is (d .blue) m (d .n) (d .n * d .n) (pixel .blue), along-path (d .n) (denOf d m Red) (indexOf d m pixel) (fractionOf d m pixel))
-
--- the steps of a pixel, by a plan
-abbrev StepsBy : Plan → Codes → Type 0
-StepsBy plan pixel =
-    Steps (plan .red .den)
-    (stepOf (plan .red) (plan .cells) (pixel .red))
-    (stepOf (plan .green) (plan .cells) (pixel .green))
-    (stepOf (plan .blue) (plan .cells) (pixel .blue))
 
 module _ {plan : Plan} {table : List ℤ} (p : Planned plan table) where
   abbrev d : Description
@@ -138,8 +132,8 @@ module _ {plan : Plan} {table : List ℤ} (p : Planned plan table) where
 
   -- ---- its rows and weights
 
-  pub shown-is : (pixel : Codes) (k : Kind) → shownBy plan pixel k ≡ shown d m pixel k
-  shown-is pixel k = ap (λ x. shownBy x pixel k) (p .is) ∙ shown-of d (p .depths) pixel k
+  pub shown-is : (pixel : Codes) {k : Kind} → plan .kind ≡ k → shownBy plan pixel k ≡ shown d m pixel (d .kind)
+  shown-is pixel {k} e = ap (λ x. shownBy x pixel k) (p .is) ∙ shown-of d (p .depths) pixel k ∙ ap (shown d m pixel) (sym e ∙ kind-is)
 
   -- 1D: a colour's code of its own code, by its axis alone
   pub line-code : (c : Colour) (code : ℕ)
@@ -148,7 +142,12 @@ module _ {plan : Plan} {table : List ℤ} (p : Planned plan table) where
       ap (λ x. codeBy (correctedM (p .depths)) (axisIn x c .den) table c (pairOf (axisIn x c) (x .cells) code)) (p .is)
       ∙ rw (pairs-of d (p .depths) c code, axis-of d (p .depths) c)
 
-  -- 3D: the path ends at a row of the table, and the fractions are of one D
+  -- 3D: the path of the pixel's steps
+  pub path-shown : (pixel : Codes) {steps : Steps} {r : Shares} → steps ≡ stepsOf plan pixel → r ≡ six (pathBySteps steps) → r ≡ shownBy plan pixel ThreeD
+  unfolding shownBy
+  path-shown pixel e h = h ∙ ap (λ x. six (pathBySteps x)) e
+
+  -- which ends at a row of the table, and whose fractions are of one D
   module _ (e : plan .kind ≡ ThreeD) (pixel : Codes) where
     reads : (c : Colour) → Reading (d .n) (denOf d m c) (positionOf d m pixel c) (indexOf d m pixel c) (fractionOf d m pixel c)
     reads = D3.reads d table m pixel (p .could) (p .deep)
@@ -166,9 +165,9 @@ module _ {plan : Plan} {table : List ℤ} (p : Planned plan table) where
     part : (c : Colour) → fractionOf d m pixel c ≤ denOf d m Red
     part c = omega (arith, reads c .part, D3.one-den d table m pixel (p .could) (p .deep) three-d c Red)
 
-    pub steps-fit : StepsBy plan pixel
-    unfolding stepOf
+    pub steps-fit : StepsFit (stepsOf plan pixel)
+    unfolding stepsOf stepOf
     steps-fit =
-        subst (λ x. StepsBy x pixel) (sym (p .is))
+        subst (λ x. StepsFit (stepsOf x pixel)) (sym (p .is))
         (rw (place-is (d .red) m (d .n) 1 (pixel .red), place-is (d .green) m (d .n) (d .n) (pixel .green), place-is (d .blue) m (d .n) (d .n * d .n) (pixel .blue))
         (record { end = end-most; most = den-most (d .red) (could-sound .domains Red) m (p .most); red = part Red; green = part Green; blue = part Blue }))

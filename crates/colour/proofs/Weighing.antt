@@ -18,6 +18,7 @@ use Rattle.rules.specs.declared.Colour.{Colour}
 use Rattle.rules.specs.declared.Colour.the-variants.{Red, Green, Blue}
 use Rattle.rules.specs.declared.Depths.{Depths}
 use Rattle.rules.specs.declared.Description.{Description}
+use Rattle.rules.specs.declared.Kind.{Kind}
 use Rattle.rules.specs.declared.Share.{Share}
 use Rattle.rules.specs.declared.Shares.{Shares}
 use Rattle.rules.proofs.Colours.{place-below}
@@ -73,6 +74,16 @@ module _ {table : List ℤ} {c : Colour} {ss : List Share} {z : ℤ} (t : Totall
   sum-code {depths = depths} a e =
       let m = correctedM depths in
       e ∙ ap₂ (λ x y. code (pos m *ℤ x) y m) (t .is) (sym (a .over))
+
+-- ---- by the kind that the plan has
+
+module _ {plan : Plan} {table : List ℤ} {k : Kind} (p : Planned plan table) (shares : Shares) (e : plan .kind ≡ k) where
+  pub kind-fit : ((c : Colour) → Weighable table c (rowsIn plan) (axisIn plan c .den) (used (plan .kind) c shares)) → (c : Colour) → SharesFit table (used k c shares)
+  kind-fit w c = subst (λ x. SharesFit table (used x c shares)) e (shares-fit p (w c))
+
+  pub kind-codes : {r : Codes} → ((c : Colour) → codeIn r c ≡ codeBy (correctedM (plan .depths)) (axisIn plan c .den) table c (used k c shares))
+      → (c : Colour) → codeIn r c ≡ codeBy (correctedM (plan .depths)) (axisIn plan c .den) table c (used (plan .kind) c shares)
+  kind-codes h c = h c ∙ ap (λ x. codeBy (correctedM (plan .depths)) (axisIn plan c .den) table c (used x c shares)) (sym e)
 
 -- ---- what is shown of a pixel
 

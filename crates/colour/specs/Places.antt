@@ -19,6 +19,7 @@ use Rattle.colour.specs.declared.plan.Axis.{Axis}
 use Rattle.colour.specs.declared.plan.Plan.{Plan}
 use Rattle.colour.specs.declared.shares.Pair.{Pair}
 use Rattle.colour.specs.declared.shares.Step.{Step}
+use Rattle.colour.specs.declared.shares.Steps.{Steps}
 
 -- ---- one colour's code
 
@@ -62,20 +63,31 @@ along start den f s = let o = order f in climb start den (f (1st o)) (f (2nd o))
 unfoldable pub stepOf : Axis → ℕ → ℕ → Step
 stepOf axis cells c = let q = placeOf axis cells c in record { index = q .index; fraction = q .fraction; stride = axis .stride }
 
+unfoldable pub stepsOf : Plan → Codes → Steps
+stepsOf plan pixel = record {
+  den = plan .red .den;
+  red = stepOf (plan .red) (plan .cells) (pixel .red);
+  green = stepOf (plan .green) (plan .cells) (pixel .green);
+  blue = stepOf (plan .blue) (plan .cells) (pixel .blue);
+}
+
 -- the row of the three i: along red each row is the next
-abbrev pub startOf : Step → Step → Step → ℕ
-startOf r g b = r .index + g .stride * g .index + b .stride * b .index
+abbrev pub startOf : Steps → ℕ
+startOf s = s .red .index + s .green .stride * s .green .index + s .blue .stride * s .blue .index
 
 -- steps that end at a row of the table, with fractions of D
-pub record Steps (den : ℕ) (r g b : Step) : Type 0 where
-  pub end : startOf r g b + r .stride + g .stride + b .stride ≤ rowLimit
-  pub most : den ≤ denLimit
-  pub red : r .fraction ≤ den
-  pub green : g .fraction ≤ den
-  pub blue : b .fraction ≤ den
+pub record StepsFit (s : Steps) : Type 0 where
+  pub end : startOf s + s .red .stride + s .green .stride + s .blue .stride ≤ rowLimit
+  pub most : s .den ≤ denLimit
+  pub red : s .red .fraction ≤ s .den
+  pub green : s .green .fraction ≤ s .den
+  pub blue : s .blue .fraction ≤ s .den
 
-unfoldable pub pathBySteps : ℕ → Step → Step → Step → List Share
-pathBySteps den r g b = along (startOf r g b) den (three (r .fraction) (g .fraction) (b .fraction)) (three (r .stride) (g .stride) (b .stride))
+unfoldable pub pathBySteps : Steps → List Share
+pathBySteps s =
+    along (startOf s) (s .den)
+    (three (s .red .fraction) (s .green .fraction) (s .blue .fraction))
+    (three (s .red .stride) (s .green .stride) (s .blue .stride))
 
 -- ---- the six rows and weights
 
@@ -85,9 +97,4 @@ shownBy plan pixel OneD =
     (pairOf (plan .red) (plan .cells) (pixel .red)
     ++ (pairOf (plan .green) (plan .cells) (pixel .green)
     ++ pairOf (plan .blue) (plan .cells) (pixel .blue)))
-shownBy plan pixel ThreeD =
-    six
-    (pathBySteps (plan .red .den)
-    (stepOf (plan .red) (plan .cells) (pixel .red))
-    (stepOf (plan .green) (plan .cells) (pixel .green))
-    (stepOf (plan .blue) (plan .cells) (pixel .blue)))
+shownBy plan pixel ThreeD = six (pathBySteps (stepsOf plan pixel))

@@ -2,7 +2,7 @@
 use crate::plan::Axis;
 use crate::plan::Plan;
 use crate::shares::Pair;
-use crate::sums::cube_sums;
+use crate::sums::Sums;
 use crate::sums::pair_sum;
 use rules::Codes;
 use rules::Colour;
@@ -20,7 +20,7 @@ ghost use Rattle.rules.specs.Demands.{used};
 ghost use Rattle.colour.specs.Limits.{sumLimit};
 ghost use Rattle.colour.specs.Plans.{axisIn};
 ghost use Rattle.colour.specs.Places.{ofPair};
-ghost use Rattle.colour.specs.Adding.{UnitFits, SharesFit, Codable};
+ghost use Rattle.colour.specs.Adding.{sumIn, UnitFits, SharesFit, Codable};
 
 // The code nearest to M·S / (D·10,000,000), with the M of corrected codes: D·10,000,000 is the M of raw codes times the unit, and where the
 // two M are one they fall out.
@@ -79,17 +79,16 @@ pub fn line_codes(plan: Plan, table: &[i64], shares: Shares) -> Codes
 
 // ---- 3D
 
-// Each colour's code of the four rows of the path.
-pub fn cube_codes(plan: Plan, table: &[i64], shares: Shares) -> Codes
+// Each colour's code of its own sum.
+pub fn codes_by(plan: Plan, sums: Sums) -> Codes
     requires { ⌜ ((c : Colour) → Codable (axisIn plan c) (plan .depths)) ⌝ }
-    requires { ⌜ ((c : Colour) → SharesFit (now table) (used Kind.ThreeD c shares)) ⌝ }
-    ensures { λ r. ⌜ ((c : Colour) → codeIn r c ≡ codeBy (correctedM (plan .depths)) (axisIn plan c .den) (now (table .entry)) c (used Kind.ThreeD c shares)) ⌝ }
+    requires { ⌜ ((c : Colour) → natAbs (sumIn sums c) ≤ sumLimit) ⌝ }
+    ensures { λ r. ⌜ ((c : Colour) → codeIn r c ≡ code (pos (correctedM (plan .depths)) *ℤ sumIn sums c) (rawM (plan .depths) * axisIn plan c .unit) (correctedM (plan .depths))) ⌝ }
 {
     let depths = plan.depths;
     let red = plan.red;
     let green = plan.green;
     let blue = plan.blue;
-    let sums = cube_sums(table, shares);
     Codes {
         red: code_of(sums.red, red.unit, depths),
         green: code_of(sums.green, green.unit, depths),

@@ -1,5 +1,5 @@
 // One pixel to three corrected codes, with the rows and weights used: a plan, two halves over it, and look, which joins them.
-use codes::cube_codes;
+use codes::codes_by;
 use codes::line_codes;
 use judge::could_be_read;
 pub use plan::Plan;
@@ -16,8 +16,10 @@ use rules::Kind;
 use rules::Look;
 use rules::Refusal;
 use rules::Shares;
-use shares::cube;
 use shares::line;
+use shares::path_by;
+use shares::steps_of;
+use sums::cube_sums;
 ghost use mathlib.Core.Path.{_≡_};
 ghost use mathlib.Core.List.{List};
 ghost use lib.IntN.{ℤ};
@@ -44,7 +46,7 @@ fn shares_of(plan: Plan, pixel: Codes) -> Shares
     let kind = plan.kind;
     match kind {
         Kind::OneD => line(plan, pixel),
-        Kind::ThreeD => cube(plan, pixel),
+        Kind::ThreeD => path_by(steps_of(plan, pixel)),
     }
 }
 
@@ -57,16 +59,21 @@ fn codes_of(plan: Plan, table: &[i64], shares: Shares) -> Codes
     let kind = plan.kind;
     match kind {
         Kind::OneD => line_codes(plan, table, shares),
-        Kind::ThreeD => cube_codes(plan, table, shares),
+        Kind::ThreeD => codes_by(plan, cube_sums(table, shares)),
     }
 }
 
-// Both halves, for a pixel of a picture.
+// Both halves, for a pixel of a picture. The kind is asked for once, and what follows are the halves' own parts: each is small enough that the
+// compiler takes it into the picture's loop, which it does not do with a half.
 pub fn correct(plan: Plan, table: &[i64], pixel: Codes) -> Codes
     requires { ⌜ Planned plan (now table) ⌝ }
     ensures { λ r. ⌜ ((p : Planned plan (now (table .entry))) → r ≡ correct (p .d) (now (table .entry)) (p .depths) pixel) ⌝ }
 {
-    codes_of(plan, table, shares_of(plan, pixel))
+    let kind = plan.kind;
+    match kind {
+        Kind::OneD => line_codes(plan, table, line(plan, pixel)),
+        Kind::ThreeD => codes_by(plan, cube_sums(table, path_by(steps_of(plan, pixel)))),
+    }
 }
 
 // No code above M.

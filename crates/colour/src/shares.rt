@@ -13,7 +13,7 @@ ghost use Rattle.rules.specs.Looking.Interpolation.{share, climb};
 ghost use Rattle.rules.specs.Looking.{six};
 ghost use Rattle.colour.specs.Limits.{denLimit};
 ghost use Rattle.colour.specs.Plans.{Made};
-ghost use Rattle.colour.specs.Places.{AxisFits, CellsFit, ofPair, pairOf, three, along, stepOf, Steps, pathBySteps, shownBy};
+ghost use Rattle.colour.specs.Places.{AxisFits, CellsFit, ofPair, pairOf, three, along, stepOf, stepsOf, StepsFit, pathBySteps, shownBy};
 
 fn share_of(row: usize, weight: u64) -> Share
     requires { ⌜ weight ≤ denLimit ⌝ }
@@ -77,10 +77,10 @@ pub fn line(plan: Plan, pixel: Codes) -> Shares
 // ---- 3D
 
 // A step along one axis: the index that it starts from, its fraction, and the rows that one index up is.
-struct Step {
-    index: usize,
-    fraction: u64,
-    stride: usize,
+pub struct Step {
+    pub index: usize,
+    pub fraction: u64,
+    pub stride: usize,
 }
 
 fn step_of(axis: Axis, cells: usize, code: u16) -> Step
@@ -154,29 +154,40 @@ fn path_along(start: usize, den: u64, red: Step, green: Step, blue: Step) -> Sha
     climbed(start, den, blue, green, red)
 }
 
-// From the row of the three i, one index up along each axis.
-fn path_by(den: u64, red: Step, green: Step, blue: Step) -> Shares
-    requires { ⌜ Steps den red green blue ⌝ }
-    ensures { λ r. ⌜ r ≡ six (pathBySteps den red green blue) ⌝ }
-{
-    let ir = red.index;
-    let ig = green.index;
-    let ib = blue.index;
-    let start = ir + green.stride * ig + blue.stride * ib;
-    path_along(start, den, red, green, blue)
+// The three steps of a pixel, with the one D of their fractions.
+pub struct Steps {
+    pub den: u64,
+    pub red: Step,
+    pub green: Step,
+    pub blue: Step,
 }
 
-// Four rows and weights for the pixel, all with the one D.
-pub fn cube(plan: Plan, pixel: Codes) -> Shares
+pub fn steps_of(plan: Plan, pixel: Codes) -> Steps
     requires { ⌜ Made plan ⌝ }
-    requires { ⌜ plan .kind ≡ Kind.ThreeD ⌝ }
-    ensures { λ r. ⌜ r ≡ shownBy plan pixel Kind.ThreeD ⌝ }
+    ensures { λ r. ⌜ r ≡ stepsOf plan pixel ⌝ }
 {
     let cells = plan.cells;
     let axis = plan.red;
     let den = axis.den;
-    let red = step_of(axis, cells, pixel.red);
-    let green = step_of(plan.green, cells, pixel.green);
-    let blue = step_of(plan.blue, cells, pixel.blue);
-    path_by(den, red, green, blue)
+    Steps {
+        den,
+        red: step_of(axis, cells, pixel.red),
+        green: step_of(plan.green, cells, pixel.green),
+        blue: step_of(plan.blue, cells, pixel.blue),
+    }
+}
+
+// From the row of the three i, one index up along each axis: four rows and weights for the pixel.
+pub fn path_by(steps: Steps) -> Shares
+    requires { ⌜ StepsFit steps ⌝ }
+    ensures { λ r. ⌜ r ≡ six (pathBySteps steps) ⌝ }
+{
+    let red = steps.red;
+    let green = steps.green;
+    let blue = steps.blue;
+    let ir = red.index;
+    let ig = green.index;
+    let ib = blue.index;
+    let start = ir + green.stride * ig + blue.stride * ib;
+    path_along(start, steps.den, red, green, blue)
 }
