@@ -2,5 +2,6 @@
 
 -- its pixels are those of look
 pub mod Codes
--- what picture's promise decides
+-- the numbers that it answers, and what its promise decides
+pub mod Numbers
 pub mod Promised

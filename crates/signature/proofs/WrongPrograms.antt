@@ -7,6 +7,7 @@ use mathlib.Core.List.{List, [], _∷_}
 use native.Mathlib.Omega.{arith}
 use lib.IntN.{ℤ, pos, natAbs}
 use lib.ListN.{getD, replicate}
+use Rattle.rules.specs.Units.{sameBits}
 use Rattle.rules.specs.Reading.Lines.{bytes}
 use Rattle.rules.specs.Answers.{readNumber, readLine, lookNumber, lookCodes, lookRows, lookWeights, pictureNumber}
 use Rattle.rules.specs.Promises.{Reads, Looks, Pictures}
@@ -15,7 +16,8 @@ use Rattle.rules.specs.declared.Description.{Description}
 use Rattle.rules.specs.declared.Look.{Look}
 use Rattle.rules.specs.declared.Picture.{Picture}
 use Rattle.rules.specs.declared.Read.{Read}
-use Rattle.signature.proofs.Cases.{opened, untouched, describedBy, tableFrom, grey, sampleA3, threeRows, zeroAndHalf, minusAndPlusHalf, corner, cornerPixel}
+use Rattle.signature.specs.Cases.{untouched, describedBy, tableFrom, grey, sampleA3, threeRows, zeroAndHalf, minusAndPlusHalf, corner, cornerPixel}
+use Rattle.signature.proofs.Cases.{opened}
 
 -- ---- readers
 
@@ -88,7 +90,7 @@ abbrev pub Looker : Type 0
 Looker = Description → List ℤ → ℕ → Codes → Look
 
 abbrev pub LooksAll : Looker → Type 0
-LooksAll f = (d : Description) (table : List ℤ) (bits : ℕ) (pixel : Codes) → Looks d table bits pixel (f d table bits pixel)
+LooksAll f = (d : Description) (table : List ℤ) (bits : ℕ) (pixel : Codes) → Looks d table (sameBits bits) pixel (f d table bits pixel)
 
 abbrev first : List ℕ → ℕ
 first xs = getD xs 0 0
@@ -98,7 +100,7 @@ module _ (f : Looker) (keeps : LooksAll f) where
   abbrev seen : String → Codes → Look
   seen file pixel = f (describedBy file) (tableFrom file) 8 pixel
 
-  abbrev kept : (file : String) (pixel : Codes) → Looks (describedBy file) (tableFrom file) 8 pixel (seen file pixel)
+  abbrev kept : (file : String) (pixel : Codes) → Looks (describedBy file) (tableFrom file) (sameBits 8) pixel (seen file pixel)
   kept file pixel = keeps (describedBy file) (tableFrom file) 8 pixel
 
   pub refuses-all-pixels : ((d : Description) (table : List ℤ) (bits : ℕ) (pixel : Codes) → lookNumber (f d table bits pixel) ≡ 0 → ⊥) → ⊥
@@ -143,7 +145,7 @@ abbrev pub Painter : Type 0
 Painter = Description → List ℤ → ℕ → List ℕ → List ℕ → Picture × List ℕ
 
 abbrev pub PicturesAll : Painter → Type 0
-PicturesAll f = (d : Description) (table : List ℤ) (bits : ℕ) (src dst : List ℕ) → Pictures d table bits src dst (f d table bits src dst .0) (f d table bits src dst .1)
+PicturesAll f = (d : Description) (table : List ℤ) (bits : ℕ) (src dst : List ℕ) → Pictures d table (sameBits bits) src dst (f d table bits src dst .0) (f d table bits src dst .1)
 
 -- two pixels, and an output with one place more
 abbrev twoPixels : List ℕ

@@ -7,10 +7,12 @@ use mathlib.Core.List.{List, [], _∷_}
 use native.Mathlib.Omega.{arith}
 use lib.IntN.{ℤ, pos, negsuc, natAbs}
 use lib.ListN.{getD, replicate}
+use Rattle.rules.specs.Units.{sameBits}
 use Rattle.rules.specs.Reading.Lines.{bytes}
 use Rattle.rules.specs.Boundary.{describedIn, ReadsC, LooksC, PicturesC}
 use Rattle.signature.proofs.Boundary.Calls.{ReadLaid, read-laid, read-refused, look-refused}
-use Rattle.signature.proofs.Cases.{opened, untouched, tableFrom, sampleA3, corner}
+use Rattle.signature.specs.Cases.{untouched, tableFrom, sampleA3, corner}
+use Rattle.signature.proofs.Cases.{opened}
 use Rattle.signature.proofs.WrongPrograms as W
 
 abbrev size : ℕ → List ℤ → ℕ
@@ -108,7 +110,7 @@ LookCall = List ℤ → List ℤ → ℕ → List ℕ → LookLent → ℕ × Lo
 
 abbrev pub LooksCAll : LookCall → Type 0
 LooksCAll call = (eleven table : List ℤ) (bits : ℕ) (pixel : List ℕ) (lent : LookLent)
-    → let after = call eleven table bits pixel lent in LooksC eleven table bits pixel (after .0) (after .1 .codes) (after .1 .rows) (after .1 .weights)
+    → let after = call eleven table bits pixel lent in LooksC eleven table (sameBits bits) pixel (after .0) (after .1 .codes) (after .1 .rows) (after .1 .weights)
 
 -- document 01's 3D file, as eleven numbers whose title's places hold what no reading gives
 abbrev oddTitle : ℕ → List ℤ
@@ -126,7 +128,7 @@ module _ (call : LookCall) (keeps : LooksCAll call) where
   seen kind bits codes = call (oddTitle kind) (tableFrom corner) bits codes sevens
 
   abbrev kept : (kind bits : ℕ) (codes : List ℕ)
-      → LooksC (oddTitle kind) (tableFrom corner) bits codes (seen kind bits codes .0) (seen kind bits codes .1 .codes) (seen kind bits codes .1 .rows) (seen kind bits codes .1 .weights)
+      → LooksC (oddTitle kind) (tableFrom corner) (sameBits bits) codes (seen kind bits codes .0) (seen kind bits codes .1 .codes) (seen kind bits codes .1 .rows) (seen kind bits codes .1 .weights)
   kept kind bits codes = keeps (oddTitle kind) (tableFrom corner) bits codes sevens
 
   pub refuses-all-pixels : ((eleven table : List ℤ) (bits : ℕ) (pixel : List ℕ) (lent : LookLent) → call eleven table bits pixel lent .0 ≡ 0 → ⊥) → ⊥
@@ -185,7 +187,7 @@ PictureCall = List ℤ → List ℤ → ℕ → List ℕ → List ℕ → ℕ ×
 
 abbrev pub PicturesCAll : PictureCall → Type 0
 PicturesCAll call = (eleven table : List ℤ) (bits : ℕ) (src dst : List ℕ)
-    → PicturesC eleven table bits src dst (call eleven table bits src dst .0) (call eleven table bits src dst .1)
+    → PicturesC eleven table (sameBits bits) src dst (call eleven table bits src dst .0) (call eleven table bits src dst .1)
 
 -- two pixels, whose codes are three times 51 and three times 102
 abbrev src : List ℕ

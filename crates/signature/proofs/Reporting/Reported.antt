@@ -12,7 +12,8 @@ use lib.ListN.{length, take, drop, getD, replicate}
 use lib.Seq.{take-all, length-take-le}
 use Rattle.rules.specs.Reading.Lines.{bytes}
 use Rattle.rules.specs.Reporting.{reportBytes, report, decimalIn, decimal, signedDecimal, lineOf, cubeLine, domainLine, titleLine, refusedLine, answerText, reportText, Reports}
-use Rattle.signature.proofs.Cases.{opened, sampleA3, corner}
+use Rattle.signature.specs.Cases.{sampleA3, corner}
+use Rattle.signature.proofs.Cases.{opened}
 
 -- the definitions of what is printed, opened for computation
 unfoldable printed : ℕ

@@ -1,32 +1,24 @@
--- The numbers that each call can answer: reading 0 to 18, look 0, 20, 23 or 24, picture those and 21 and 22.
-use Prim.Native.Nat.{ℕ, suc, _+_, _%_, _≤_}
-use mathlib.Core.Path.{_≡_, refl, sym, subst}
-use mathlib.Core.Logic.{_⊎_, inl, inr}
-use mathlib.Core.Bool.{Bool, true, false, cond, not, _&&_}
+-- Reading answers 0 to 18.
+use Prim.Native.Nat.{ℕ, suc, _+_, _≤_}
+use mathlib.Core.Bool.{Bool, true, false, not, _&&_}
 use mathlib.Core.List.{List, [], _∷_}
 use mathlib.Core.Option.{Option, none, some}
 use native.Mathlib.Omega.{arith}
 use lib.Dec.{eqb, leb, ltb}
 use lib.IntN.{ℤ}
 use lib.ListN.{length}
-use Rattle.rules.specs.Units.{boundLimit, boundPlaces, depthOf, inRange, sampleLimit, samplePlaces}
-use Rattle.rules.specs.Descriptions.{agree, couldBeRead, everyColour, narrow, ordered, roomy, rows}
+use Rattle.rules.specs.Units.{boundLimit, boundPlaces, inRange, sampleLimit, samplePlaces}
+use Rattle.rules.specs.Descriptions.{agree, everyColour, narrow, ordered, roomy, rows}
 use Rattle.rules.specs.Reading.Lines.{lineLimit, after, blank, every, inTitle, inWord, linesOf, permitted, quote, wordsOf}
 use Rattle.rules.specs.Reading.Numerals.{digits, spell}
 use Rattle.rules.specs.Reading.Contents.{boundsOf, closes, contentBy, contentOf, formOf, parameters, quoted, samplesOn, sizeOf, threeOf, titleOf, valued, values}
 use Rattle.rules.specs.Reading.Judge.{Fault, Verdict, State, byteFault, describe, domainFault, endFault, first, given, go, headFault, judge, need, orderFault, refuse, repeats, start, take-in, unless}
 use Rattle.rules.specs.Reading.{finish, onward, read, readLines}
-use Rattle.rules.specs.Looking.{look, lookAt, within}
-use Rattle.rules.specs.Picturing.{picture, pictureAt, pictureWith}
-use Rattle.rules.specs.Answers.{lookNumber, pictureNumber, readNumber, refusalNumber}
-use Rattle.rules.specs.Promises.{Looks, Pictures, Reads}
-use Rattle.rules.specs.Boundary.{LooksC, PicturesC, ReadsC, describedIn, lookIn, pictureIn, pixelIn}
+use Rattle.rules.specs.Answers.{readNumber, refusalNumber}
+use Rattle.rules.specs.Promises.{Reads}
 use Rattle.rules.specs.declared.Bounds.{Bounds}
-use Rattle.rules.specs.declared.Codes.{Codes}
 use Rattle.rules.specs.declared.Content.{Content}
 use Rattle.rules.specs.declared.Content.the-variants.{Says, Wrong}
-use Rattle.rules.specs.declared.DepthFound.{DepthFound}
-use Rattle.rules.specs.declared.DepthFound.the-variants.{Known, Unknown}
 use Rattle.rules.specs.declared.Description.{Description}
 use Rattle.rules.specs.declared.Form.{Form}
 use Rattle.rules.specs.declared.Form.the-variants.{Idle, Keyed, Data, Neither}
@@ -34,21 +26,13 @@ use Rattle.rules.specs.declared.Item.{Item}
 use Rattle.rules.specs.declared.Item.the-variants.{OfLower, OfUpper}
 use Rattle.rules.specs.declared.Keyword.the-variants.{ATitle, ALower, AnUpper, ASize}
 use Rattle.rules.specs.declared.Kind.{Kind}
-use Rattle.rules.specs.declared.Look.{Look}
 use Rattle.rules.specs.declared.Number.{Number}
 use Rattle.rules.specs.declared.Number.the-variants.{Value, Malformed, Beyond, Finer}
-use Rattle.rules.specs.declared.Picture.{Picture}
 use Rattle.rules.specs.declared.Read.{Read}
 use Rattle.rules.specs.declared.Refusal.{Refusal}
 use Rattle.rules.specs.declared.Refusal.the-variants.{LineTooLong, ByteNotPermitted, KeywordAfterData, KeywordRepeated, ParametersWrong, DomainNumberWrong, NoSize, LowerNotBelowUpper, DomainTooWide, DomainsDiffer, TableTooShort, TooManyRows, NotThreeNumbers, SampleBeyond, SampleTooFine, TooFewRows}
 use Rattle.rules.specs.declared.Three.{Three}
-
--- what holds of both arms of a test holds of what it gives
-either : {A : Type 0} (P : A → Type 0) (t : Bool) (a b : A) → P a → P b → P (cond t a b)
-either P true a b p q = p
-either P false a b p q = q
-
--- ---- reading: 0 to 18
+use Rattle.signature.proofs.Either.{either}
 
 -- a refusal of reading
 abbrev Low : Refusal → Type 0
@@ -192,76 +176,3 @@ read-number file places = lines-low places 0 0 start (linesOf file)
 -- and so does every call that keeps reading's promise
 pub reads-number : {file : List ℕ} {table table′ : List ℤ} {r : Read} → Reads file table r table′ → readNumber r ≤ 18
 reads-number {file} {table} h = omega (arith, h .number, read-number file (length table))
-
--- ---- look and picture
-
--- n is one of these numbers
-abbrev pub OneOf : ℕ → List ℕ → Type 0
-OneOf n [] = ⊥
-OneOf n (k ∷ ks) = (n ≡ k) ⊎ OneOf n ks
-
-abbrev OfLook : Look → Type 0
-OfLook r = OneOf (lookNumber r) (0 ∷ 20 ∷ 23 ∷ 24 ∷ [])
-
-looked : (d : Description) (table : List ℤ) (pixel : Codes) (x : DepthFound) → OfLook (lookAt d table pixel x)
-unfolding lookAt refusalNumber
-looked d table pixel Unknown = inr (inl refl)
-looked d table pixel (Known m) = either OfLook (within (m .greatest) pixel) _ _ (inl refl) (inr (inr (inl refl)))
-
--- look answers 0, 20, 23 or 24
-pub look-number : (d : Description) (table : List ℤ) (bits : ℕ) (pixel : Codes) → OneOf (lookNumber (look d table bits pixel)) (0 ∷ 20 ∷ 23 ∷ 24 ∷ [])
-unfolding look refusalNumber
-look-number d table bits pixel = either OfLook (couldBeRead d table) _ _ (looked d table pixel (depthOf bits)) (inr (inr (inr (inl refl))))
-
--- and so does every call that keeps look's promise
-pub looks-number : {d : Description} {table : List ℤ} {bits : ℕ} {pixel : Codes} {r : Look} → Looks d table bits pixel r → OneOf (lookNumber r) (0 ∷ 20 ∷ 23 ∷ 24 ∷ [])
-looks-number {d} {table} {bits} {pixel} h = subst (λ n. OneOf n (0 ∷ 20 ∷ 23 ∷ 24 ∷ [])) (sym (h .number)) (look-number d table bits pixel)
-
-abbrev OfPicture : Picture → Type 0
-OfPicture r = OneOf (pictureNumber r) (0 ∷ 20 ∷ 21 ∷ 22 ∷ 23 ∷ 24 ∷ [])
-
-pictured : (x : DepthFound) (src : List ℕ) (places : ℕ) → OfPicture (pictureAt x src places)
-unfolding pictureWith refusalNumber
-pictured Unknown src places = inr (inl refl)
-pictured (Known m) src places =
-    either OfPicture (eqb (length src % 3) 0) _ _
-    (either OfPicture (leb (length src) places) _ _
-    (either OfPicture (every (λ c. leb c (m .greatest)) src) _ _ (inl refl)
-    (inr (inr (inr (inr (inl refl))))))
-    (inr (inr (inr (inl refl)))))
-    (inr (inr (inl refl)))
-
--- picture answers 0, 20, 21, 22, 23 or 24
-pub picture-number : (d : Description) (table : List ℤ) (bits : ℕ) (src : List ℕ) (places : ℕ)
-    → OneOf (pictureNumber (picture d table bits src places)) (0 ∷ 20 ∷ 21 ∷ 22 ∷ 23 ∷ 24 ∷ [])
-unfolding picture refusalNumber
-picture-number d table bits src places =
-    either OfPicture (couldBeRead d table) _ _ (pictured (depthOf bits) src places) (inr (inr (inr (inr (inr (inl refl))))))
-
--- and so does every call that keeps picture's promise
-pub pictures-number : {d : Description} {table : List ℤ} {bits : ℕ} {src dst dst′ : List ℕ} {r : Picture} → Pictures d table bits src dst r dst′
-    → OneOf (pictureNumber r) (0 ∷ 20 ∷ 21 ∷ 22 ∷ 23 ∷ 24 ∷ [])
-pictures-number {d} {table} {bits} {src} {dst} h =
-    subst (λ n. OneOf n (0 ∷ 20 ∷ 21 ∷ 22 ∷ 23 ∷ 24 ∷ [])) (sym (h .number)) (picture-number d table bits src (length dst))
-
--- ---- the same of the C boundary
-
-pub reads-c-number : {file : List ℕ} {table table′ eleven′ : List ℤ} {number line′ : ℕ} → ReadsC file table number table′ eleven′ line′ → number ≤ 18
-reads-c-number {file} {table} h = omega (arith, h .number-so, read-number file (length table))
-
-module _ {eleven table : List ℤ} {bits number : ℕ} where
-  pub looks-c-number : {pixel codes′ rows′ : List ℕ} {weights′ : List ℤ} → LooksC eleven table bits pixel number codes′ rows′ weights′ → OneOf number (0 ∷ 20 ∷ 23 ∷ 24 ∷ [])
-  unfolding refusalNumber
-  looks-c-number {pixel} h = subst (λ n. OneOf n (0 ∷ 20 ∷ 23 ∷ 24 ∷ [])) (sym (h .number-so)) (by (describedIn eleven) refl)
-    where
-      by : (o : Option Description) → describedIn eleven ≡ o → OfLook (lookIn eleven table bits (pixelIn pixel))
-      by none e = rw e (inr (inr (inr (inl refl))))
-      by (some d) e = rw e (look-number d table bits (pixelIn pixel))
-
-  pub pictures-c-number : {src dst dst′ : List ℕ} → PicturesC eleven table bits src dst number dst′ → OneOf number (0 ∷ 20 ∷ 21 ∷ 22 ∷ 23 ∷ 24 ∷ [])
-  unfolding refusalNumber
-  pictures-c-number {src} {dst} h = subst (λ n. OneOf n (0 ∷ 20 ∷ 21 ∷ 22 ∷ 23 ∷ 24 ∷ [])) (sym (h .number-so)) (by (describedIn eleven) refl)
-    where
-      by : (o : Option Description) → describedIn eleven ≡ o → OfPicture (pictureIn eleven table bits src (length dst))
-      by none e = rw e (inr (inr (inr (inr (inr (inl refl))))))
-      by (some d) e = rw e (picture-number d table bits src (length dst))
