@@ -193,6 +193,25 @@ numbered =
     ∷ pictured (describedBy zeroAndHalf) 8 [] 1 0 (77 ∷ [])
     ∷ []
 
+-- ---- what the report program prints
+
+-- of document 01's 3D file
+abbrev pub cornerReport : String
+cornerReport = "cube\t3D\t2\t8\ndomain\tred\t0\t1000\ndomain\tgreen\t0\t1000\ndomain\tblue\t0\t1000\ntitle\tno\n"
+
+-- of sample A.3, with a title
+abbrev pub reportA3 : String
+reportA3 = "cube\t1D\t3\t3\ndomain\tred\t0\t1000\ndomain\tgreen\t0\t2000\ndomain\tblue\t0\t3000\ntitle\tyes\tDemo\n"
+
+-- an empty title, and a lower bound below 0
+abbrev pub halfBelow : String
+halfBelow = "TITLE \"\"\nLUT_1D_SIZE 2\nDOMAIN_MIN -0.5 0 0\n0 0 0\n1 1 1\n"
+
+abbrev pub halfBelowReport : String
+halfBelowReport = "cube\t1D\t2\t2\ndomain\tred\t-500\t1000\ndomain\tgreen\t0\t1000\ndomain\tblue\t0\t1000\ntitle\tyes\t\n"
+
+-- ---- what is asked of a table of cases
+
 -- each case comes out as expected
 abbrev pub AllMet : List Case → Type 0
 AllMet [] = Unit {0}
