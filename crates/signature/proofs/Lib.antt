@@ -15,4 +15,3 @@ pub mod Boundary
 pub mod Reporting
 -- document 01's cases
 pub mod Cases
-pub mod WrongPrograms

@@ -4,3 +4,5 @@
 pub mod DomainEnds
 -- the numbers that it answers
 pub mod Numbers
+-- wrong programs that its promise rules out
+pub mod WrongPrograms

@@ -9,3 +9,5 @@ pub mod LineNumbers
 -- the numbers that it answers, and what its promise decides
 pub mod Numbers
 pub mod Promised
+-- wrong readers that it rules out
+pub mod WrongPrograms

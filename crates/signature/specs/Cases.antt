@@ -117,6 +117,10 @@ corner = "LUT_3D_SIZE 2\n0 0 0\n0 0 0\n0 0 0\n0 0 0\n0 0 0\n0 0 0\n0 0 0\n1 1 1\
 abbrev pub cornerPixel : Codes
 cornerPixel = record { red = 51; green = 102; blue = 204 }
 
+-- document 01's 3D file, as eleven numbers whose title's places hold what no reading gives
+abbrev pub oddTitle : ℕ → List ℤ
+oddTitle kind = pos kind ∷ pos 2 ∷ pos 0 ∷ pos 0 ∷ pos 0 ∷ pos 1000 ∷ pos 1000 ∷ pos 1000 ∷ pos 5 ∷ negsuc 8 ∷ negsuc 9 ∷ []
+
 -- ---- the cases marked P
 
 abbrev pub marked : List Case
