@@ -80,15 +80,31 @@ tested (c ∷ cs) e =
 
 -- every definition, opened for computation: to unfold one of these is to unfold what its line names
 unfoldable words-opened : ℕ
-unfolding bytes every run after starts same onFirst linesOf wordsOf unsigned digits exponentOf numeralWith numeralOf spell settle numberOf keywordOf wordForm formOf closes quoted titleOf threeOf parameters boundsOf samplesOn sizeOf contentBy
+unfolding bytes every run after starts same onFirst linesOf wordsOf
 words-opened = 0
+
+unfoldable numbers-opened : ℕ
+unfolding unsigned digits exponentOf numeralWith numeralOf spell settle numberOf
+numbers-opened = 0
+
+unfoldable contents-opened : ℕ
+unfolding keywordOf wordForm formOf closes quoted titleOf threeOf parameters boundsOf samplesOn sizeOf contentBy
+contents-opened = 0
 
 unfoldable lines-opened : ℕ
 unfolding need first take-in unless add describe repeats domainFault headFault byteFault orderFault judge endFault readLines read samplesIn samplesOf tableAfter
 lines-opened = 0
 
+unfoldable tables-opened : ℕ
+unfolding boundsFit ordered narrow sameDomain agree roomy samplesFit couldBeRead
+tables-opened = 0
+
+unfoldable looks-opened : ℕ
+unfolding offset position index fraction pairBy order climb pathBy pair path codeBy code within shown lookAt look
+looks-opened = 0
+
 unfoldable pub opened : ℕ
-unfolding words-opened lines-opened boundsFit ordered narrow sameDomain agree roomy samplesFit couldBeRead offset position index fraction pairBy order climb pathBy pair path codeBy code within shown lookAt look eachPixel pictureWith picture outputAfter refusalNumber
+unfolding words-opened numbers-opened contents-opened lines-opened tables-opened looks-opened eachPixel pictureWith picture outputAfter refusalNumber
 opened = 0
 
 marked-pass : test marked ≡ true
