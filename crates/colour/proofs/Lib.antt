@@ -1,6 +1,7 @@
 -- Laws that the proofs of several functions cite.
-pub mod Readables
 pub mod Orders
+pub mod Placing
+pub mod Plans
 pub mod Totals
 pub mod Weighing
 pub mod RowCodes

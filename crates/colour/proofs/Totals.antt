@@ -7,17 +7,13 @@ use native.Mathlib.Omega.{arith}
 use lib.IntN.{ℤ, pos, natAbs, _+ℤ_, _*ℤ_}
 use lib.ListN.{length, take, drop, getD, length-take, length-drop}
 use lib.Seq.{getD-take, getD-drop}
-use mir.Syntax.{w64}
-use mir.Val.{toZ, ofZ}
-use mir.ValLaws.{toZ-ofZ}
-use Rattle.whole.proofs.Held.{abs-fits}
 use Rattle.rules.specs.Units.{colourPlace, sampleAt}
 use Rattle.rules.specs.declared.Colour.{Colour}
 use Rattle.rules.specs.declared.Colour.the-variants.{Red, Green, Blue}
 use Rattle.rules.specs.declared.Share.{Share}
 use Rattle.rules.proofs.Colours.{place-below}
 use Rattle.colour.specs.Limits.{denLimit}
-use Rattle.colour.specs.Adding.{RowAt, Room, Added, carried, Totalled}
+use Rattle.colour.specs.Adding.{RowAt, Starts, Room, Added, carried, Totalled}
 
 pub each-colour : (P : Colour → Type 0) → P Red → P Green → P Blue → (c : Colour) → P c
 each-colour P r g b Red = r
@@ -41,10 +37,6 @@ module _ {table : List ℤ} {c : Colour} where
   pub room : {ss : List Share} {before weight : ℤ} → Totalled table c ss before → natAbs weight + carried ss ≤ denLimit → Room before weight
   room t h = record { room = omega (arith, t .within) }
 
--- a weight for which there is room is an i64
-pub weight-held : {before weight : ℤ} → Room before weight → toZ w64 (ofZ w64 weight) ≡ weight
-weight-held {weight} h = toZ-ofZ w64 weight (abs-fits weight (omega (arith, h .room)))
-
 -- ---- the part of the table that starts at a row
 
 pub first-row : (xs : List ℤ) (c : Colour) → sampleAt xs 0 c ≡ getD xs (colourPlace c) (pos 0)
@@ -54,14 +46,15 @@ module _ (table : List ℤ) (row : ℕ) (r : RowAt table (3 * row)) where
   abbrev part : List ℤ
   part = take (length table - 3 * row) (drop (3 * row) table)
 
-  pub part-number : (c : Colour) → getD part (colourPlace c) (pos 0) ≡ sampleAt table row c
-  part-number c =
-      getD-take (length table - 3 * row) (drop (3 * row) table) (colourPlace c) (pos 0) (omega (arith, place-below c, r .inside))
+  part-sample : (c : Colour) → sampleAt part 0 c ≡ sampleAt table row c
+  part-sample c =
+      first-row part c
+      ∙ getD-take (length table - 3 * row) (drop (3 * row) table) (colourPlace c) (pos 0) (omega (arith, place-below c, r .inside))
       ∙ getD-drop (3 * row) table (colourPlace c) (pos 0)
 
-  pub part-sample : (c : Colour) → sampleAt part 0 c ≡ sampleAt table row c
-  part-sample c = first-row part c ∙ part-number c
-
-  pub part-row : RowAt part 0
-  part-row =
-      record { inside = simp (length-take, length-drop) (omega (arith, r .inside)); small = λ c. rw (part-sample c) (r .small c) }
+  pub part-starts : Starts table row part
+  part-starts =
+      record {
+        row-at = record { inside = simp (length-take, length-drop) (omega (arith, r .inside)); small = λ c. rw (part-sample c) (r .small c) };
+        number = part-sample;
+      }

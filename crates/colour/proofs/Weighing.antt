@@ -1,32 +1,34 @@
--- Rows and weights that may be weighed have a sum that fits an i64, and its short division is the code of the definition; the rows and weights of a pixel may be weighed.
+-- Rows and weights that may be weighed have a sum that fits an i64, and its code is that of the definition; the rows and weights of a pixel may be
+-- weighed, and their codes are the corrected ones.
 use Prim.Native.Nat.{ℕ, _+_, _*_, _≤_, _<_}
-use mathlib.Core.Path.{_≡_, refl, sym, ap, subst, _∙_}
-use mathlib.Core.Bool.{true}
+use mathlib.Core.Path.{_≡_, refl, sym, ap, ap₂, subst, _∙_}
 use mathlib.Core.List.{List, [], _∷_}
 use native.Mathlib.Omega.{arith}
-use lib.IntN.{ℤ, pos, natAbs, _+ℤ_}
+use lib.IntN.{ℤ, pos, natAbs, _+ℤ_, _*ℤ_}
 use lib.Signed.{_≤ℤ_}
 use Rattle.whole.specs.Nearest.{code, weights}
 use Rattle.whole.proofs.Halves as H
-use Rattle.rules.specs.Units.{sampleOne, colourPlace, codeIn}
-use Rattle.rules.specs.Descriptions.{rows, domain, width, couldBeRead, Sound}
-use Rattle.rules.specs.Looking.Interpolation.{denOf, weighed, total, sharesFor, codeBy}
+use Rattle.rules.specs.Units.{rawM, correctedM, colourPlace, codeIn}
+use Rattle.rules.specs.Descriptions.{rows, Sound}
+use Rattle.rules.specs.Looking.Interpolation.{denOf, weighed, sharesFor, codeBy}
 use Rattle.rules.specs.Looking.{shown, correct}
 use Rattle.rules.specs.Demands.{Each, used}
 use Rattle.rules.specs.declared.Codes.{Codes}
 use Rattle.rules.specs.declared.Colour.{Colour}
 use Rattle.rules.specs.declared.Colour.the-variants.{Red, Green, Blue}
+use Rattle.rules.specs.declared.Depths.{Depths}
 use Rattle.rules.specs.declared.Description.{Description}
-use Rattle.rules.specs.declared.Kind.{Kind}
 use Rattle.rules.specs.declared.Share.{Share}
 use Rattle.rules.specs.declared.Shares.{Shares}
 use Rattle.rules.proofs.Colours.{place-below}
 use Rattle.rules.proofs.Sound.{sound-of}
-use Rattle.rules.proofs.Looking.Demand3.{short-division, right, used-shown}
+use Rattle.rules.proofs.Looking.Demand3.{right, used-shown}
 use Rattle.colour.specs.Limits.{sumLimit}
-use Rattle.colour.specs.Adding.{RowAt, sumIn, carried, SharesFit, Totalled, Weighable}
-use Rattle.colour.specs.declared.sums.Sums.{Sums}
-use Rattle.colour.proofs.Readables.{den-most}
+use Rattle.colour.specs.Plans.{axisIn, rowsIn, Planned}
+use Rattle.colour.specs.Adding.{RowAt, carried, SharesFit, Totalled, Weighable, Codable}
+use Rattle.colour.specs.declared.plan.Axis.{Axis}
+use Rattle.colour.specs.declared.plan.Plan.{Plan}
+use Rattle.colour.proofs.Plans.{kind-is, rows-are, axis-of, den-is, axis-fits}
 use Rattle.colour.proofs.Totals.{each-colour}
 
 -- ---- rows of the table, and weights that come to D
@@ -49,56 +51,53 @@ carried-is table c (x ∷ xs) h =
     ap (λ z. z +ℤ weights (weighed table c xs)) (not-negative-up (x .weight) (h .0))
     ∙ ap (λ z. pos (natAbs (x .weight)) +ℤ z) (carried-is table c xs (h .1))
 
--- ---- what is weighed
+-- what the second half is given may be added up
+pub shares-fit : {plan : Plan} {table : List ℤ} {c : Colour} {ss : List Share} → Planned plan table → Weighable table c (rowsIn plan) (axisIn plan c .den) ss
+    → SharesFit table ss
+shares-fit {plan} {table} {c} {ss} p w =
+    record {
+      rows = rows-stand (p .d) table (sound-of (p .d) table (p .could)) ss (subst (λ n. Each (λ x. x .row < n) ss) (rows-are p) (w .in-table));
+      weights = omega (arith, ap natAbs (sym (carried-is table c ss (w .not-negative)) ∙ w .add-up), axis-fits p c .most);
+    }
 
--- all that the second half is given
-pub record ToWeigh (d : Description) (table : List ℤ) (m : ℕ) (shares : Shares) : Type 0 where
-  pub could : couldBeRead d table ≡ true
-  pub deep : 0 < m
-  pub most : m < 65536
-  pub weighable : (c : Colour) → Weighable d table m shares c
+-- ---- the code of a sum
 
-module _ {d : Description} {table : List ℤ} {m : ℕ} {shares : Shares} (g : ToWeigh d table m shares) (k : Kind) (e : d .kind ≡ k) where
-  pub shares-fit : (c : Colour) → SharesFit table (used k c shares)
-  shares-fit c =
-      let ss = used (d .kind) c shares in
-      let w = g .weighable c in
-      subst (λ x. SharesFit table (used x c shares)) e
-      (record {
-        rows = rows-stand d table (sound-of d table (g .could)) ss (w .in-table);
-        weights = omega (arith, ap natAbs (sym (carried-is table c ss (w .not-negative)) ∙ w .add-up), den-most d (table, g .could) m (g .most) c);
-      })
+module _ {table : List ℤ} {c : Colour} {ss : List Share} {z : ℤ} (t : Totalled table c ss z) where
+  pub sum-most : SharesFit table ss → natAbs z ≤ sumLimit
+  sum-most f = omega (arith, t .within, f .weights)
 
-  module _ {sums : Sums} (t : (c : Colour) → Totalled table c (used k c shares) (sumIn sums c)) where
-    pub sums-most : (c : Colour) → natAbs (sumIn sums c) ≤ sumLimit
-    sums-most c = omega (arith, t c .within, shares-fit c .weights)
-
-    -- the code by the short division is the code of the definition
-    pub short-right : {r : Codes} → ((c : Colour) → codeIn r c ≡ code (sumIn sums c) (width (domain d c) * sampleOne) m)
-        → (c : Colour) → codeIn r c ≡ codeBy m (denOf d m c) table c (used (d .kind) c shares)
-    short-right h c =
-        h c
-        ∙ ap (λ z. code z (width (domain d c) * sampleOne) m) (t c .is ∙ ap (λ x. total table c (used x c shares)) (sym e))
-        ∙ sym (short-division d table m c (used (d .kind) c shares) (g .deep))
+  -- D·10,000,000 is the M of raw codes times the unit
+  pub sum-code : {axis : Axis} {depths : Depths} {r : ℕ} → Codable axis depths
+      → r ≡ code (pos (correctedM depths) *ℤ z) (rawM depths * axis .unit) (correctedM depths) → r ≡ codeBy (correctedM depths) (axis .den) table c ss
+  unfolding codeBy
+  sum-code {depths = depths} a e =
+      let m = correctedM depths in
+      e ∙ ap₂ (λ x y. code (pos m *ℤ x) y m) (t .is) (sym (a .over))
 
 -- ---- what is shown of a pixel
-
-pub shown-weighed : {d : Description} {table : List ℤ} {m : ℕ} {shares : Shares} (pixel : Codes) → couldBeRead d table ≡ true → 0 < m → m < 65536
-    → shares ≡ shown d m pixel (d .kind) → ToWeigh d table m shares
-shown-weighed {d} {table} {m} pixel could deep most e = rw e (record { could = could; deep = deep; most = most; weighable = weighable })
-  where
-    weighable : (c : Colour) → Weighable d table m (shown d m pixel (d .kind)) c
-    weighable c =
-        let r = right d table m m pixel could deep c in
-        record { in-table = r .in-table; not-negative = r .not-negative; add-up = r .add-up }
 
 same-codes : (r s : Codes) → ((c : Colour) → codeIn r c ≡ codeIn s c) → r ≡ s
 same-codes r s h i = record { red = h Red i; green = h Green i; blue = h Blue i }
 
--- the codes made of what is shown are the corrected ones
-pub shown-corrects : (d : Description) (table : List ℤ) (m : ℕ) (pixel : Codes) {shares : Shares} {r : Codes} → shares ≡ shown d m pixel (d .kind)
-    → ((c : Colour) → codeIn r c ≡ codeBy m (denOf d m c) table c (used (d .kind) c shares)) → r ≡ correct d table m m pixel
-shown-corrects d table m pixel {shares} {r} e h = same-codes r (correct d table m m pixel) (each-colour _ (by Red) (by Green) (by Blue))
-  where
-    by : (c : Colour) → codeIn r c ≡ codeBy m (denOf d m c) table c (sharesFor d m pixel (d .kind) c)
-    by c = h c ∙ ap (codeBy m (denOf d m c) table c) (ap (used (d .kind) c) e ∙ used-shown d m pixel (d .kind) c)
+module _ {plan : Plan} {table : List ℤ} (p : Planned plan table) (pixel : Codes) {shares : Shares} (e : shares ≡ shown (p .d) (rawM (p .depths)) pixel (p .d .kind)) where
+  -- it may be weighed
+  pub shown-weighable : (c : Colour) → Weighable table c (rowsIn plan) (axisIn plan c .den) (used (plan .kind) c shares)
+  shown-weighable c =
+      let r = right (p .d) table (p .depths) pixel (p .could) (p .deep) c in
+      subst (λ k. Weighable table c (rowsIn plan) (axisIn plan c .den) (used k c shares)) (sym (kind-is p))
+      (rw (rows-are p, den-is p c, e) (record { in-table = r .in-table; not-negative = r .not-negative; add-up = r .add-up }))
+
+  -- the codes made of it are the corrected ones
+  pub shown-corrects : {r : Codes} → ((c : Colour) → codeIn r c ≡ codeBy (correctedM (plan .depths)) (axisIn plan c .den) table c (used (plan .kind) c shares))
+      → r ≡ correct (p .d) table (p .depths) pixel
+  shown-corrects {r} h = same-codes r (correct (p .d) table (p .depths) pixel) (each-colour _ (by Red) (by Green) (by Blue))
+    where
+      m : ℕ
+      m = correctedM (p .depths)
+
+      by : (c : Colour) → codeIn r c ≡ codeBy m (denOf (p .d) (rawM (p .depths)) c) table c (sharesFor (p .d) (rawM (p .depths)) pixel (p .d .kind) c)
+      by c =
+          h c
+          ∙ ap (λ x. codeBy (correctedM (x .depths)) (axisIn x c .den) table c (used (x .kind) c shares)) (p .is)
+          ∙ ap (λ x. codeBy m (x .den) table c (used (p .d .kind) c shares)) (axis-of (p .d) (p .depths) c)
+          ∙ ap (codeBy m (denOf (p .d) (rawM (p .depths)) c) table c) (ap (used (p .d .kind) c) e ∙ used-shown (p .d) (rawM (p .depths)) pixel (p .d .kind) c)

@@ -6,16 +6,15 @@ use lib.IntN.{ℤ, pos, natAbs, _+ℤ_, _*ℤ_}
 use lib.ListN.{length, getD}
 use lib.Signed.{_≤ℤ_}
 use Rattle.whole.specs.Nearest.{weights}
-use Rattle.rules.specs.Units.{sampleLimit, colourPlace}
-use Rattle.rules.specs.Descriptions.{rows}
-use Rattle.rules.specs.Looking.Interpolation.{denOf, weighed, total}
-use Rattle.rules.specs.Demands.{Each, used}
+use Rattle.rules.specs.Units.{sampleLimit, rawM, correctedM, colourPlace, sampleAt}
+use Rattle.rules.specs.Looking.Interpolation.{weighed, total, denominator}
+use Rattle.rules.specs.Demands.{Each}
 use Rattle.rules.specs.declared.Colour.{Colour}
 use Rattle.rules.specs.declared.Colour.the-variants.{Red, Green, Blue}
-use Rattle.rules.specs.declared.Description.{Description}
+use Rattle.rules.specs.declared.Depths.{Depths}
 use Rattle.rules.specs.declared.Share.{Share}
-use Rattle.rules.specs.declared.Shares.{Shares}
-use Rattle.colour.specs.Limits.{denLimit, sumLimit}
+use Rattle.colour.specs.Limits.{denLimit, unitLimit, sumLimit}
+use Rattle.colour.specs.declared.plan.Axis.{Axis}
 use Rattle.colour.specs.declared.sums.Sums.{Sums}
 
 -- ---- one term more
@@ -24,6 +23,11 @@ use Rattle.colour.specs.declared.sums.Sums.{Sums}
 pub record RowAt (xs : List ℤ) (at : ℕ) : Type 0 where
   pub inside : at + 3 ≤ length xs
   pub small : (c : Colour) → natAbs (getD xs (at + colourPlace c) (pos 0)) ≤ sampleLimit
+
+-- the part of the table that starts at a row
+pub record Starts (table : List ℤ) (row : ℕ) (part : List ℤ) : Type 0 where
+  pub row-at : RowAt part 0
+  pub number : (c : Colour) → sampleAt part 0 c ≡ sampleAt table row c
 
 -- the sum has room for a row of this weight
 pub record Room (before weight : ℤ) : Type 0 where
@@ -55,8 +59,23 @@ pub record Totalled (table : List ℤ) (c : Colour) (ss : List Share) (z : ℤ) 
   pub is : z ≡ total table c ss
   pub within : natAbs z ≤ carried ss * sampleLimit
 
--- what the second half asks of rows and weights: rows of the table, and weights that are not negative and add up to D
-pub record Weighable (d : Description) (table : List ℤ) (m : ℕ) (shares : Shares) (c : Colour) : Type 0 where
-  pub in-table : Each (λ s. s .row < rows d) (used (d .kind) c shares)
-  pub not-negative : Each (λ s. pos 0 ≤ℤ s .weight) (used (d .kind) c shares)
-  pub add-up : weights (weighed table c (used (d .kind) c shares)) ≡ pos (denOf d m c)
+-- what the second half asks of rows and weights, of a table with so many rows: rows of the table, and weights that are not negative and add up to D
+pub record Weighable (table : List ℤ) (c : Colour) (count den : ℕ) (ss : List Share) : Type 0 where
+  pub in-table : Each (λ s. s .row < count) ss
+  pub not-negative : Each (λ s. pos 0 ≤ℤ s .weight) ss
+  pub add-up : weights (weighed table c ss) ≡ pos den
+
+-- ---- and divided
+
+-- what S is divided by, at depths that are one
+pub record UnitFits (unit : ℕ) (depths : Depths) : Type 0 where
+  pub above-0 : 0 < unit
+  pub most : unit ≤ unitLimit
+  pub deep : 0 < rawM depths
+  pub deepest : rawM depths ≤ 65535
+  pub one-depth : rawM depths ≡ correctedM depths
+
+-- an axis whose unit makes codes over its D
+pub record Codable (axis : Axis) (depths : Depths) : Type 0 where
+  pub unit-fits : UnitFits (axis .unit) depths
+  pub over : denominator (axis .den) ≡ rawM depths * axis .unit

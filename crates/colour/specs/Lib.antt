@@ -1,4 +1,5 @@
 -- What only the code needs: nothing here has to be believed.
 pub mod Limits
+pub mod Plans
 pub mod Places
 pub mod Adding

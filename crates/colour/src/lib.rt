@@ -1,12 +1,16 @@
-// One pixel to three corrected codes, with the rows and weights used: two halves, and look, which joins them.
-use codes::codes_by;
+// One pixel to three corrected codes, with the rows and weights used: a plan, two halves over it, and look, which joins them.
+use codes::cube_codes;
+use codes::line_codes;
 use judge::could_be_read;
+use plan::Plan;
+pub use plan::plan_of;
 pub use rows::den_of;
 pub use rows::row_code;
+use rules::Bits;
 use rules::Codes;
 use rules::Colour;
-use rules::Depth;
-use rules::DepthFound;
+use rules::Depths;
+use rules::DepthsFound;
 use rules::Description;
 use rules::Kind;
 use rules::Look;
@@ -14,65 +18,55 @@ use rules::Refusal;
 use rules::Shares;
 use shares::cube;
 use shares::line;
-use sums::cube_sums;
-use sums::line_sums;
 ghost use mathlib.Core.Path.{_≡_};
-ghost use mathlib.Core.Bool.{true};
-ghost use Prim.Native.Nat.{_<_};
-ghost use Rattle.rules.specs.Units.{codeIn};
-ghost use Rattle.rules.specs.Descriptions.{couldBeRead};
-ghost use Rattle.rules.specs.Looking.Interpolation.{denOf, codeBy};
+ghost use mathlib.Core.List.{List};
+ghost use lib.IntN.{ℤ};
+ghost use Rattle.rules.specs.Units.{rawM, correctedM, sameBits, codeIn};
+ghost use Rattle.rules.specs.Looking.Interpolation.{codeBy};
 ghost use Rattle.rules.specs.Looking.{within, shown, correct};
 ghost use Rattle.rules.specs.Demands.{used};
 ghost use Rattle.rules.specs.Promises.{Looks};
-ghost use Rattle.colour.specs.Places.{Readable};
+ghost use Rattle.colour.specs.Plans.{axisIn, rowsIn, Planned, Made};
 ghost use Rattle.colour.specs.Adding.{Weighable};
 
 mod codes;
 mod place;
+mod plan;
 mod rows;
 mod shares;
 mod sums;
 
 // The first half: the rows and weights of a pixel, two for each colour in 1D, four for the pixel in 3D.
-fn shares_of(d: Description, m: u16, pixel: Codes) -> Shares
-    requires { ⌜ Readable d ⌝ }
-    requires { ⌜ 0 < m ⌝ }
-    ensures { λ r. ⌜ r ≡ shown d m pixel (d .kind) ⌝ }
+fn shares_of(plan: Plan, pixel: Codes) -> Shares
+    requires { ⌜ Made plan ⌝ }
+    ensures { λ r. ⌜ ((table : List ℤ) (p : Planned plan table) → r ≡ shown (p .d) (rawM (p .depths)) pixel (p .d .kind)) ⌝ }
 {
-    let kind = d.kind;
+    let kind = plan.kind;
     match kind {
-        Kind::OneD => line(d, m, pixel),
-        Kind::ThreeD => cube(d, m, pixel),
+        Kind::OneD => line(plan, pixel),
+        Kind::ThreeD => cube(plan, pixel),
     }
 }
 
 // The second half: the codes that rows and weights make.
-fn codes_of(d: Description, table: &[i64], m: u16, shares: Shares) -> Codes
-    requires { ⌜ couldBeRead d (now table) ≡ true ⌝ }
-    requires { ⌜ 0 < m ⌝ }
-    requires { ⌜ ((c : Colour) → Weighable d (now table) m shares c) ⌝ }
-    ensures { λ r. ⌜ ((c : Colour) → codeIn r c ≡ codeBy m (denOf d m c) (now (table .entry)) c (used (d .kind) c shares)) ⌝ }
+fn codes_of(plan: Plan, table: &[i64], shares: Shares) -> Codes
+    requires { ⌜ Planned plan (now table) ⌝ }
+    requires { ⌜ ((c : Colour) → Weighable (now table) c (rowsIn plan) (axisIn plan c .den) (used (plan .kind) c shares)) ⌝ }
+    ensures { λ r. ⌜ ((c : Colour) → codeIn r c ≡ codeBy (correctedM (plan .depths)) (axisIn plan c .den) (now (table .entry)) c (used (plan .kind) c shares)) ⌝ }
 {
-    let kind = d.kind;
+    let kind = plan.kind;
     match kind {
-        Kind::OneD => codes_by(d, m, line_sums(table, shares)),
-        Kind::ThreeD => codes_by(d, m, cube_sums(table, shares)),
+        Kind::OneD => line_codes(plan, table, shares),
+        Kind::ThreeD => cube_codes(plan, table, shares),
     }
 }
 
-// Both halves at once, for a pixel of a picture: the kind is asked for once.
-pub fn correct(d: Description, table: &[i64], m: u16, pixel: Codes) -> Codes
-    requires { ⌜ couldBeRead d (now table) ≡ true ⌝ }
-    requires { ⌜ 0 < m ⌝ }
-    requires { ⌜ within m pixel ≡ true ⌝ }
-    ensures { λ r. ⌜ r ≡ correct d (now (table .entry)) m m pixel ⌝ }
+// Both halves, for a pixel of a picture.
+pub fn correct(plan: Plan, table: &[i64], pixel: Codes) -> Codes
+    requires { ⌜ Planned plan (now table) ⌝ }
+    ensures { λ r. ⌜ ((p : Planned plan (now (table .entry))) → r ≡ correct (p .d) (now (table .entry)) (p .depths) pixel) ⌝ }
 {
-    let kind = d.kind;
-    match kind {
-        Kind::OneD => codes_by(d, m, line_sums(table, line(d, m, pixel))),
-        Kind::ThreeD => codes_by(d, m, cube_sums(table, cube(d, m, pixel))),
-    }
+    codes_of(plan, table, shares_of(plan, pixel))
 }
 
 // No code above M.
@@ -93,19 +87,20 @@ fn codes_within(m: u16, pixel: Codes) -> bool
 
 // The checks run 24, 20, 23.
 pub fn look(d: Description, table: &[i64], bits: u32, pixel: Codes) -> Look
-    ensures { λ r. ⌜ Looks d (now (table .entry)) bits pixel r ⌝ }
+    ensures { λ r. ⌜ Looks d (now (table .entry)) (sameBits bits) pixel r ⌝ }
 {
     if !could_be_read(d, table) {
         return Look::Refused(Refusal::CouldNotBeRead);
     }
-    let DepthFound::Known(depth) = Depth::of(bits) else {
+    let DepthsFound::Both(depths) = Depths::of(Bits::same(bits)) else {
         return Look::Refused(Refusal::DepthUnknown);
     };
-    let m = depth.greatest;
-    if !codes_within(m, pixel) {
+    let raw = depths.raw;
+    if !codes_within(raw.greatest, pixel) {
         return Look::Refused(Refusal::CodeTooGreat);
     }
-    let shares = shares_of(d, m, pixel);
-    let codes = codes_of(d, table, m, shares);
+    let plan = plan_of(d, depths);
+    let shares = shares_of(plan, pixel);
+    let codes = codes_of(plan, table, shares);
     Look::Accepted { codes, shares }
 }

@@ -1,10 +1,11 @@
 // A row by itself: its code for a colour, and the D over which it may carry the weight (document 01, "Interpolation").
-use crate::codes::SAMPLE_ONE;
-use crate::place::domain_of;
-use crate::place::width_of;
+use crate::plan::times_m;
+use crate::plan::width_of;
+use crate::sums::row_part;
 use crate::sums::sample_of;
 use rules::Colour;
 use rules::Description;
+use rules::Domain;
 use rules::TenMillionths;
 use whole::Whole;
 ghost use mathlib.Core.Path.{_≡_};
@@ -12,9 +13,23 @@ ghost use Prim.Native.Nat.{ℕ, _*_, _≤_, _<_};
 ghost use lib.IntN.{pos, natAbs, _*ℤ_};
 ghost use Rattle.whole.specs.Nearest.{code};
 ghost use Rattle.rules.specs.Units.{sampleOne, sampleLimit};
+ghost use Rattle.rules.specs.Descriptions.{domain};
 ghost use Rattle.rules.specs.Looking.Interpolation.{denOf, rowCode};
-ghost use Rattle.colour.specs.Places.{Readable};
+ghost use Rattle.colour.specs.Plans.{Readable};
 ghost use Rattle.colour.specs.Adding.{RowAt};
+
+fn domain_of(d: Description, c: Colour) -> Domain
+    ensures { λ r. ⌜ r ≡ domain d c ⌝ }
+{
+    let red = d.red;
+    let green = d.green;
+    let blue = d.blue;
+    match c {
+        Colour::Red => red,
+        Colour::Green => green,
+        Colour::Blue => blue,
+    }
+}
 
 // D: what the weights of a colour add up to.
 pub fn den_of(d: Description, m: u16, c: Colour) -> u64
@@ -29,10 +44,7 @@ fn sample_code(sample: TenMillionths, m: u16) -> u16
     requires { ⌜ natAbs (sample .0) ≤ sampleLimit ⌝ }
     ensures { λ r. ⌜ r ≡ code (pos m *ℤ sample .0) sampleOne m ⌝ }
 {
-    let value = Whole(sample.0);
-    Whole::of(m as u64)
-        .times(value)
-        .nearest(SAMPLE_ONE, m as u64) as u16
+    times_m(m, Whole(sample.0)).nearest(TenMillionths::ONE, m as u64) as u16
 }
 
 // The code given where the row alone carries the weight. Whatever D it carries, D falls out.
@@ -40,6 +52,5 @@ pub fn row_code(table: &[i64], m: u16, c: Colour, row: usize) -> u16
     requires { ⌜ RowAt (now table) (3 * row) ⌝ }
     ensures { λ r. ⌜ ((den : ℕ) → 0 < den → r ≡ rowCode m den (now (table .entry)) c row) ⌝ }
 {
-    let at = 3 * row;
-    sample_code(sample_of(&table[at..], c), m)
+    sample_code(sample_of(row_part(table, row), c), m)
 }

@@ -1,19 +1,19 @@
 // The rows and weights of a pixel (document 01, "Interpolation").
-use crate::place::Place;
-use crate::place::place_in;
+use crate::place::place_of;
+use crate::plan::Axis;
+use crate::plan::Plan;
 use rules::Codes;
-use rules::Colour;
-use rules::Description;
 use rules::Kind;
 use rules::Share;
 use rules::Shares;
 ghost use mathlib.Core.Path.{_≡_};
-ghost use Prim.Native.Nat.{_+_, _*_, _≤_, _<_};
-ghost use Rattle.rules.specs.Units.{rowAt, rowLimit};
-ghost use Rattle.rules.specs.Looking.Interpolation.{share, pair, climb};
-ghost use Rattle.rules.specs.Looking.{six, shown};
+ghost use Prim.Native.Nat.{_+_, _≤_};
+ghost use Rattle.rules.specs.Units.{rowLimit};
+ghost use Rattle.rules.specs.Looking.Interpolation.{share, climb};
+ghost use Rattle.rules.specs.Looking.{six};
 ghost use Rattle.colour.specs.Limits.{denLimit};
-ghost use Rattle.colour.specs.Places.{Readable, Cell, ofPair, three, along};
+ghost use Rattle.colour.specs.Plans.{Made};
+ghost use Rattle.colour.specs.Places.{AxisFits, CellsFit, ofPair, pairOf, three, along, stepOf, Steps, pathBySteps, shownBy};
 
 fn share_of(row: usize, weight: u64) -> Share
     requires { ⌜ weight ≤ denLimit ⌝ }
@@ -28,22 +28,21 @@ fn share_of(row: usize, weight: u64) -> Share
 // ---- 1D
 
 // The two rows of a colour.
-struct Pair {
-    low: Share,
-    high: Share,
+pub struct Pair {
+    pub low: Share,
+    pub high: Share,
 }
 
-// Rows i and i+1, weights D−f and f.
-fn pair_of(d: Description, m: u16, pixel: Codes, c: Colour) -> Pair
-    requires { ⌜ Readable d ⌝ }
-    requires { ⌜ 0 < m ⌝ }
-    ensures { λ r. ⌜ ofPair r ≡ pair d m pixel c ⌝ }
+// Rows i and i+1, weights D−f and f: a matter of the colour's own axis and code.
+fn pair_of(axis: Axis, cells: usize, code: u16) -> Pair
+    requires { ⌜ AxisFits axis ⌝ }
+    requires { ⌜ CellsFit cells ⌝ }
+    ensures { λ r. ⌜ ofPair r ≡ pairOf axis cells code ⌝ }
 {
-    let at = place_in(d, m, pixel, c);
-    let den = at.den;
+    let at = place_of(axis, cells, code);
     let i = at.index;
     let f = at.fraction;
-    let rest = den - f;
+    let rest = axis.den - f;
     Pair {
         low: share_of(i, rest),
         high: share_of(i + 1, f),
@@ -51,14 +50,14 @@ fn pair_of(d: Description, m: u16, pixel: Codes, c: Colour) -> Pair
 }
 
 // Two rows and weights for each colour.
-pub fn line(d: Description, m: u16, pixel: Codes) -> Shares
-    requires { ⌜ Readable d ⌝ }
-    requires { ⌜ 0 < m ⌝ }
-    ensures { λ r. ⌜ r ≡ shown d m pixel Kind.OneD ⌝ }
+pub fn line(plan: Plan, pixel: Codes) -> Shares
+    requires { ⌜ Made plan ⌝ }
+    ensures { λ r. ⌜ r ≡ shownBy plan pixel Kind.OneD ⌝ }
 {
-    let red = pair_of(d, m, pixel, Colour::Red);
-    let green = pair_of(d, m, pixel, Colour::Green);
-    let blue = pair_of(d, m, pixel, Colour::Blue);
+    let cells = plan.cells;
+    let red = pair_of(plan.red, cells, pixel.red);
+    let green = pair_of(plan.green, cells, pixel.green);
+    let blue = pair_of(plan.blue, cells, pixel.blue);
     let first = red.low;
     let second = red.high;
     let third = green.low;
@@ -77,10 +76,27 @@ pub fn line(d: Description, m: u16, pixel: Codes) -> Shares
 
 // ---- 3D
 
-// A step along one axis: its fraction, and the rows that one index up is.
+// A step along one axis: the index that it starts from, its fraction, and the rows that one index up is.
 struct Step {
+    index: usize,
     fraction: u64,
     stride: usize,
+}
+
+fn step_of(axis: Axis, cells: usize, code: u16) -> Step
+    requires { ⌜ AxisFits axis ⌝ }
+    requires { ⌜ CellsFit cells ⌝ }
+    ensures { λ r. ⌜ r ≡ stepOf axis cells code ⌝ }
+{
+    let at = place_of(axis, cells, code);
+    let index = at.index;
+    let fraction = at.fraction;
+    let stride = axis.stride;
+    Step {
+        index,
+        fraction,
+        stride,
+    }
 }
 
 // Four rows from a start, by three steps: weights D − f1, f1 − f2, f2 − f3, f3.
@@ -139,42 +155,28 @@ fn path_along(start: usize, den: u64, red: Step, green: Step, blue: Step) -> Sha
 }
 
 // From the row of the three i, one index up along each axis.
-fn path_by(n: usize, den: u64, r: Place, g: Place, b: Place) -> Shares
-    requires { ⌜ n ≤ 256 ⌝ }
-    requires { ⌜ den ≤ denLimit ⌝ }
-    requires { ⌜ Cell n den r ⌝ }
-    requires { ⌜ Cell n den g ⌝ }
-    requires { ⌜ Cell n den b ⌝ }
-    ensures { λ s. ⌜ s ≡ six (along (rowAt n (three (r .index) (g .index) (b .index))) den (three (r .fraction) (g .fraction) (b .fraction)) (three 1 n (n * n))) ⌝ }
+fn path_by(den: u64, red: Step, green: Step, blue: Step) -> Shares
+    requires { ⌜ Steps den red green blue ⌝ }
+    ensures { λ r. ⌜ r ≡ six (pathBySteps den red green blue) ⌝ }
 {
-    let ir = r.index;
-    let ig = g.index;
-    let ib = b.index;
-    let square = n * n;
-    let red = Step {
-        fraction: r.fraction,
-        stride: 1,
-    };
-    let green = Step {
-        fraction: g.fraction,
-        stride: n,
-    };
-    let blue = Step {
-        fraction: b.fraction,
-        stride: square,
-    };
-    path_along(ir + n * ig + square * ib, den, red, green, blue)
+    let ir = red.index;
+    let ig = green.index;
+    let ib = blue.index;
+    let start = ir + green.stride * ig + blue.stride * ib;
+    path_along(start, den, red, green, blue)
 }
 
 // Four rows and weights for the pixel, all with the one D.
-pub fn cube(d: Description, m: u16, pixel: Codes) -> Shares
-    requires { ⌜ Readable d ⌝ }
-    requires { ⌜ 0 < m ⌝ }
-    requires { ⌜ d .kind ≡ Kind.ThreeD ⌝ }
-    ensures { λ r. ⌜ r ≡ shown d m pixel Kind.ThreeD ⌝ }
+pub fn cube(plan: Plan, pixel: Codes) -> Shares
+    requires { ⌜ Made plan ⌝ }
+    requires { ⌜ plan .kind ≡ Kind.ThreeD ⌝ }
+    ensures { λ r. ⌜ r ≡ shownBy plan pixel Kind.ThreeD ⌝ }
 {
-    let red = place_in(d, m, pixel, Colour::Red);
-    let green = place_in(d, m, pixel, Colour::Green);
-    let blue = place_in(d, m, pixel, Colour::Blue);
-    path_by(d.n, red.den, red, green, blue)
+    let cells = plan.cells;
+    let axis = plan.red;
+    let den = axis.den;
+    let red = step_of(axis, cells, pixel.red);
+    let green = step_of(plan.green, cells, pixel.green);
+    let blue = step_of(plan.blue, cells, pixel.blue);
+    path_by(den, red, green, blue)
 }

@@ -1,4 +1,5 @@
 // Rows of the table, weighed and added up (document 01, "Interpolation").
+use crate::shares::Pair;
 use rules::Colour;
 use rules::Kind;
 use rules::Share;
@@ -6,13 +7,12 @@ use rules::Shares;
 use rules::TenMillionths;
 use whole::Whole;
 ghost use mathlib.Core.Path.{_≡_};
-ghost use mathlib.Core.List.{[], _∷_};
 ghost use Prim.Native.Nat.{_*_, _≤_};
-ghost use lib.IntN.{pos, natAbs};
-ghost use lib.ListN.{length, getD};
+ghost use lib.IntN.{natAbs};
 ghost use Rattle.rules.specs.Units.{sampleLimit, colourPlace, sampleAt};
 ghost use Rattle.rules.specs.Demands.{used};
-ghost use Rattle.colour.specs.Adding.{RowAt, Room, Added, sumIn, SharesFit, Totalled};
+ghost use Rattle.colour.specs.Places.{ofPair};
+ghost use Rattle.colour.specs.Adding.{RowAt, Starts, Room, Added, sumIn, SharesFit, Totalled};
 
 // A sum of weight times sample for each colour.
 pub struct Sums {
@@ -35,8 +35,8 @@ fn colour_place(c: Colour) -> usize
 
 // The number of a colour in the row that this part of the table starts at.
 pub fn sample_of(part: &[i64], c: Colour) -> TenMillionths
-    requires { ⌜ 3 ≤ length (now part) ⌝ }
-    ensures { λ r. ⌜ r .0 ≡ getD (now (part .entry)) (colourPlace c) (pos 0) ⌝ }
+    requires { ⌜ RowAt (now part) 0 ⌝ }
+    ensures { λ r. ⌜ r .0 ≡ sampleAt (now (part .entry)) 0 c ⌝ }
 {
     let at = colour_place(c);
     TenMillionths(part[at])
@@ -79,14 +79,28 @@ fn with_row(sums: Sums, weight: Whole, part: &[i64]) -> Sums
 
 // ---- the numbers of row n begin at place 3n
 
+// The part of the table that starts at a row.
+pub fn row_part(table: &[i64], row: usize) -> &[i64]
+    requires { ⌜ RowAt (now table) (3 * row) ⌝ }
+    ensures { λ r. ⌜ Starts (now (table .entry)) row (now r) ⌝ }
+{
+    let at = 3 * row;
+    &table[at..]
+}
+
+fn weight_of(share: Share) -> Whole
+    ensures { λ r. ⌜ r .0 ≡ share .weight ⌝ }
+{
+    Whole(share.weight)
+}
+
 // 1D: only the number that is wanted.
 fn add_number(table: &[i64], share: Share, c: Colour, sum: Whole) -> Whole
     requires { ⌜ Room (sum .0) (share .weight) ⌝ }
     requires { ⌜ RowAt (now table) (3 * share .row) ⌝ }
     ensures { λ r. ⌜ Added (sampleAt (now (table .entry)) (share .row) c) (share .weight) (sum .0) (r .0) ⌝ }
 {
-    let at = 3 * share.row;
-    with_number(sum, Whole(share.weight), &table[at..], c)
+    with_number(sum, weight_of(share), row_part(table, share.row), c)
 }
 
 // 3D: all three.
@@ -95,36 +109,19 @@ fn add_row(table: &[i64], share: Share, sums: Sums) -> Sums
     requires { ⌜ RowAt (now table) (3 * share .row) ⌝ }
     ensures { λ r. ⌜ ((c : Colour) → Added (sampleAt (now (table .entry)) (share .row) c) (share .weight) (sumIn sums c) (sumIn r c)) ⌝ }
 {
-    let at = 3 * share.row;
-    with_row(sums, Whole(share.weight), &table[at..])
+    with_row(sums, weight_of(share), row_part(table, share.row))
 }
 
 // ---- S
 
-// Of the two rows of a colour.
-fn pair_sum(table: &[i64], low: Share, high: Share, c: Colour) -> Whole
-    requires { ⌜ SharesFit (now table) (low ∷ high ∷ []) ⌝ }
-    ensures { λ r. ⌜ Totalled (now (table .entry)) c (low ∷ high ∷ []) (r .0) ⌝ }
+// 1D: of the two rows of a colour.
+pub fn pair_sum(table: &[i64], pair: Pair, c: Colour) -> Whole
+    requires { ⌜ SharesFit (now table) (ofPair pair) ⌝ }
+    ensures { λ r. ⌜ Totalled (now (table .entry)) c (ofPair pair) (r .0) ⌝ }
 {
+    let low = pair.low;
+    let high = pair.high;
     add_number(table, low, c, add_number(table, high, c, Whole(0)))
-}
-
-// 1D: each colour by its own two rows.
-pub fn line_sums(table: &[i64], shares: Shares) -> Sums
-    requires { ⌜ ((c : Colour) → SharesFit (now table) (used Kind.OneD c shares)) ⌝ }
-    ensures { λ r. ⌜ ((c : Colour) → Totalled (now (table .entry)) c (used Kind.OneD c shares) (sumIn r c)) ⌝ }
-{
-    let first = shares.first;
-    let second = shares.second;
-    let third = shares.third;
-    let fourth = shares.fourth;
-    let fifth = shares.fifth;
-    let sixth = shares.sixth;
-    Sums {
-        red: pair_sum(table, first, second, Colour::Red),
-        green: pair_sum(table, third, fourth, Colour::Green),
-        blue: pair_sum(table, fifth, sixth, Colour::Blue),
-    }
 }
 
 // 3D: the four rows of the path for all colours.

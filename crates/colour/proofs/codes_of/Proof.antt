@@ -1,57 +1,49 @@
--- Each kind by its own sums, and the code of each by the short division.
-use denote.Ref.{now}
-use native.Mathlib.Omega.{arith}
+-- Each kind by its own function.
 use borrow.Author.Needs.{needs}
-use Rattle.rules.specs.declared.Kind.the-variants.{OneD, ThreeD}
-use Rattle.rules.proofs.Sound.{sound-of}
-use Rattle.colour.proofs.Weighing.{ToWeigh, shares-fit, sums-most, short-right}
+use denote.Ref.{now}
+use mathlib.Core.Path.{_≡_, sym, ap, subst, _∙_}
+use Rattle.rules.specs.Units.{correctedM}
+use Rattle.rules.specs.Looking.Interpolation.{codeBy}
+use Rattle.rules.specs.Demands.{used}
+use Rattle.rules.specs.declared.Colour.{Colour}
+use Rattle.rules.specs.declared.Kind.{Kind}
+use Rattle.colour.specs.Plans.{axisIn}
+use Rattle.colour.specs.Adding.{SharesFit, Codable}
+use Rattle.colour.proofs.Plans.{codable}
+use Rattle.colour.proofs.Weighing.{shares-fit}
 use Rattle.colour.proofs.codes_of.Statement.{statement}
 use Rattle.colour.proofs.codes_of.Tie as tie
 
-given : (s : tie.Start) → ToWeigh (s .args .d) (now (s .args .table)) (s .args .m) (s .args .shares)
-given s = record { could = s .pre .0; deep = s .pre .1 .0; most = omega (arith, s .fits .m); weighable = s .pre .1 .1 }
+module _ (s : tie.Start) (k : Kind) (e : s .args .plan .kind ≡ k) where
+  -- what each kind asks for
+  asked : ((c : Colour) → Codable (axisIn (s .args .plan) c) (s .args .plan .depths)) × ((c : Colour) → SharesFit (now (s .args .table)) (used k c (s .args .shares)))
+  asked = (codable (s .pre .0), λ c. subst (λ x. SharesFit (now (s .args .table)) (used x c (s .args .shares))) e (shares-fit (s .pre .0) (s .pre .1 c)))
+
+  -- and what it gives
+  of-kind : (c : Colour)
+      → let code = codeBy (correctedM (s .args .plan .depths)) (axisIn (s .args .plan) c .den) (now (s .args .table)) c in
+      code (used k c (s .args .shares)) ≡ code (used (s .args .plan .kind) c (s .args .shares))
+  of-kind c = ap (λ x. codeBy (correctedM (s .args .plan .depths)) (axisIn (s .args .plan) c .den) (now (s .args .table)) c (used x c (s .args .shares))) (sym e)
 
 enum-told : tie.Need-enum-told
 enum-told c = search needs
 
-line-sums-requires : tie.Need-line-sums-requires
-line-sums-requires c κs = shares-fit (given (c .before .before)) OneD (c .enum-told .given .1)
-
-codes-by-requires : tie.Need-codes-by-requires
-codes-by-requires c κs =
-    let s = c .before .before .before in
-    (sound-of _ _ (s .pre .0) .domains, sums-most (given s) OneD (c .before .enum-told .given .1) (c .line-sums .ensures))
+line-codes-requires : tie.Need-line-codes-requires
+line-codes-requires c κs = asked (c .before .before) _ (c .enum-told .given .1)
 
 enum-told-2 : tie.Need-enum-told-2
 enum-told-2 c = search needs
 
-cube-sums-requires : tie.Need-cube-sums-requires
-cube-sums-requires c κs = shares-fit (given (c .before .before)) ThreeD (c .enum-told2 .given .1)
-
-codes-by-requires-2 : tie.Need-codes-by-requires-2
-codes-by-requires-2 c κs =
-    let s = c .before .before .before in
-    (sound-of _ _ (s .pre .0) .domains, sums-most (given s) ThreeD (c .before .enum-told2 .given .1) (c .cube-sums .ensures))
+cube-codes-requires : tie.Need-cube-codes-requires
+cube-codes-requires c κs = asked (c .before .before) _ (c .enum-told2 .given .1)
 
 returns : tie.Need-returns
-returns c =
-    let summed = c .before in
-    short-right (given (summed .before .before .before)) OneD (summed .before .enum-told .given .1) (summed .line-sums .ensures) (c .codes-by .ensures)
+returns c = λ k. c .line-codes .ensures k ∙ of-kind (c .before .before .before) _ (c .before .enum-told .given .1) k
 
 returns-2 : tie.Need-returns-2
-returns-2 c =
-    let summed = c .before in
-    short-right (given (summed .before .before .before)) ThreeD (summed .before .enum-told2 .given .1) (summed .cube-sums .ensures) (c .codes-by2 .ensures)
+returns-2 c = λ k. c .cube-codes .ensures k ∙ of-kind (c .before .before .before) _ (c .before .enum-told2 .given .1) k
 
 pub codes-of-spec : {M : Type 1} → statement M
 codes-of-spec =
     tie.close
-    (tie.spec
-    enum-told
-    line-sums-requires
-    codes-by-requires
-    enum-told-2
-    cube-sums-requires
-    codes-by-requires-2
-    returns
-    returns-2)
+    (tie.spec enum-told line-codes-requires enum-told-2 cube-codes-requires returns returns-2)

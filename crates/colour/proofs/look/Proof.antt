@@ -1,59 +1,57 @@
--- The checks run 24, 20, 23; what each has shown goes on to the next, and to the two halves.
-use denote.Ref.{now}
-use Prim.Native.Nat.{_≤_, _<_}
-use mathlib.Core.Path.{_≡_, sym, ap₂, _∙_}
-use mathlib.Core.Bool.{true}
-use native.Mathlib.Omega.{arith}
+-- The checks run 24, 20, 23; what each has shown goes on to the next, and to the plan of the two halves.
 use borrow.Author.Needs.{needs}
+use denote.Ref.{now}
+use mathlib.Core.Path.{_≡_, sym, ap, ap₂, _∙_}
+use mathlib.Core.Bool.{true}
 use borrow.Author.Tests.{not-true, not-false}
-use Rattle.rules.specs.Units.{depthOf}
+use Rattle.rules.specs.Units.{depthsOf, sameBits, rawM}
 use Rattle.rules.specs.Descriptions.{couldBeRead}
 use Rattle.rules.specs.Looking.{within}
-use Rattle.rules.specs.declared.Depth.{Depth}
-use Rattle.rules.specs.declared.DepthFound.the-variants.{Known}
+use Rattle.rules.specs.declared.Depths.{Depths}
+use Rattle.rules.specs.declared.DepthsFound.the-variants.{Both}
 use Rattle.rules.specs.declared.Look.the-variants.{Accepted}
-use Rattle.rules.proofs.KnownDepths.{depth-bounds}
 use Rattle.rules.proofs.Answers.{is-looks}
 use Rattle.rules.proofs.Looking.Checks.{look-24, look-20, look-23, look-0}
-use Rattle.colour.proofs.Weighing.{ToWeigh, shown-weighed, shown-corrects}
+use Rattle.colour.specs.Plans.{Planned}
+use Rattle.colour.proofs.Plans.{planned}
+use Rattle.colour.proofs.Weighing.{shown-weighable, shown-corrects}
 use Rattle.colour.proofs.look.Statement.{statement}
 use Rattle.colour.proofs.look.Tie as tie
 
--- ---- the entry and the depth found, as the later places see them
+-- ---- the entry and the depths found, as the later places see them
 
-abbrev entry : tie.After-depth → tie.Start
-entry c = c .before .before .before .before .before
+abbrev entry : tie.Else1 → tie.Start
+entry c = c .before .before
 
-abbrev depth : tie.After-depth → Depth
-depth c = c .depth .given .0 .0
+abbrev asked : tie.After-depths → tie.Else1
+asked c = c .before .before .before .before
 
-abbrev found : tie.Else2 → tie.After-depth
-found c = c .before .before .before
+abbrev depths : tie.After-depths → Depths
+depths c = c .depths .given .0 .0
+
+abbrev told : tie.Else2 → tie.After-depths
+told c = c .before .before .before .before
 
 -- ---- what has been passed
 
 -- not 24
-could : (c : tie.Else1) → couldBeRead (c .before .before .args .d) (now (c .before .before .args .table)) ≡ true
+could : (c : tie.Else1) → couldBeRead (entry c .args .d) (now (entry c .args .table)) ≡ true
 could c = sym (c .before .could-be-read .ensures) ∙ not-false _ (c .if1 .left)
 
 -- not 20
-known : (c : tie.After-depth) → depthOf (entry c .args .bits) ≡ Known (depth c)
-known c = sym (c .before .before .of .ensures) ∙ c .depth .given .1
+found : (c : tie.After-of) → depthsOf (sameBits (entry (c .before .before) .args .bits)) ≡ c .of .result
+found c = sym (c .of .ensures ∙ ap depthsOf (c .before .same .ensures))
 
-deep : (c : tie.After-depth) → (0 < depth c .greatest) × (depth c .greatest ≤ 65535)
-deep c = depth-bounds (entry c .args .bits) (depth c) (known c)
+known : (c : tie.After-depths) → depthsOf (sameBits (entry (asked c) .args .bits)) ≡ Both (depths c)
+known c = found (c .before .before) ∙ c .depths .given .1
 
 -- not 23
-inside : (c : tie.Else2) → within (depth (found c) .greatest) (entry (found c) .args .pixel) ≡ true
+inside : (c : tie.Else2) → within (rawM (depths (told c))) (entry (asked (told c)) .args .pixel) ≡ true
 inside c = sym (c .before .codes-within .ensures) ∙ not-false _ (c .if2 .left)
 
--- what the first half shows may be weighed
-weighed : (c : tie.After-shares-of)
-    → let a = entry (found (c .before)) .args in
-    ToWeigh (a .d) (now (a .table)) (depth (found (c .before)) .greatest) (c .shares-of .result)
-weighed c =
-    let at = found (c .before) in
-    shown-weighed (entry at .args .pixel) (could (at .before .before .before)) (deep at .0) (omega (arith, deep at .1)) (c .shares-of .ensures)
+-- so there is a plan
+abbrev plan-there : (c : tie.After-plan-of) → Planned (c .plan-of .result) (now (entry (asked (told (c .before))) .args .table))
+plan-there c = let k = told (c .before) in planned (entry (asked k) .args .d) (entry (asked k) .args .bits) (could (asked k)) (known k) (c .plan-of .ensures)
 
 -- ---- the answers
 
@@ -63,19 +61,22 @@ could-be-read-requires c κs = search needs
 returns : tie.Need-returns
 returns c = is-looks (sym (look-24 _ _ _ _ (sym (c .before .could-be-read .ensures) ∙ not-true _ (c .if1 .taken))))
 
+same-requires : tie.Need-same-requires
+same-requires c κs = search needs
+
 of-requires : tie.Need-of-requires
 of-requires c κs = search needs
 
-enum-known-depth : tie.Need-enum-known-depth
-enum-known-depth c = search needs
+enum-known-depths : tie.Need-enum-known-depths
+enum-known-depths c = search needs
 
 enum-told : tie.Need-enum-told
 enum-told c = search needs
 
 returns-2 : tie.Need-returns-2
 returns-2 c =
-    let asked = c .before .before in
-    is-looks (sym (look-20 _ _ _ _ (could (asked .before)) (sym (asked .of .ensures) ∙ c .enum-told .given .1)))
+    let of = c .before .before in
+    is-looks (sym (look-20 _ _ _ _ (could (of .before .before)) (found of ∙ c .enum-told .given .1)))
 
 codes-within-requires : tie.Need-codes-within-requires
 codes-within-requires c κs = search needs
@@ -83,23 +84,29 @@ codes-within-requires c κs = search needs
 returns-3 : tie.Need-returns-3
 returns-3 c =
     let at = c .before .before .before in
-    is-looks (sym (look-23 _ _ _ _ (depth at) (could (at .before .before .before)) (known at) (sym (c .before .codes-within .ensures) ∙ not-true _ (c .if2 .taken))))
+    let k = at .before in
+    is-looks (sym (look-23 _ _ _ _ (depths k) (could (asked k)) (known k) (sym (c .before .codes-within .ensures) ∙ not-true _ (c .if2 .taken))))
+
+plan-of-requires : tie.Need-plan-of-requires
+plan-of-requires c κs = (_, could (asked (told c)))
 
 shares-of-requires : tie.Need-shares-of-requires
-shares-of-requires c κs = ((_, could (found c .before .before .before)), deep (found c) .0)
+shares-of-requires c κs = (_, plan-there c)
 
 codes-of-requires : tie.Need-codes-of-requires
-codes-of-requires c κs = let w = weighed c in (w .could, (w .deep, w .weighable))
+codes-of-requires c κs = let p = plan-there (c .before) in (p, shown-weighable p _ (c .shares-of .ensures _ p))
 
 returns-4 : tie.Need-returns-4
 returns-4 c =
     let shared = c .before in
-    let at = found (shared .before) in
-    let a = entry at .args in
-    let m = depth at .greatest in
+    let made = shared .before in
+    let k = told (made .before) in
+    let a = entry (asked k) .args in
+    let p = plan-there made in
+    let shows = shared .shares-of .ensures _ p in
     is-looks
-    (ap₂ Accepted (shown-corrects (a .d) (now (a .table)) m (a .pixel) (shared .shares-of .ensures) (c .codes-of .ensures)) (shared .shares-of .ensures)
-    ∙ sym (look-0 (a .d) (now (a .table)) (a .bits) (a .pixel) (depth at) (could (at .before .before .before)) (known at) (inside (shared .before))))
+    (ap₂ Accepted (shown-corrects p (a .pixel) shows (c .codes-of .ensures)) shows
+    ∙ sym (look-0 (a .d) (now (a .table)) (sameBits (a .bits)) (a .pixel) (depths k) (could (asked k)) (known k) (inside (made .before))))
 
 pub look-spec : {M : Type 1} → statement M
 look-spec =
@@ -107,12 +114,14 @@ look-spec =
     (tie.spec
     could-be-read-requires
     returns
+    same-requires
     of-requires
-    enum-known-depth
+    enum-known-depths
     enum-told
     returns-2
     codes-within-requires
     returns-3
+    plan-of-requires
     shares-of-requires
     codes-of-requires
     returns-4)

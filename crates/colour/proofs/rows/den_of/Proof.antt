@@ -1,11 +1,11 @@
 -- The width is that of the colour's domain, and D is at most 655,350,000.
+use native.Mathlib.Omega.{arith}
+use borrow.Author.Needs.{needs}
 use Prim.Native.Nat.{_*_}
 use mathlib.Core.Path.{_≡_, sym, subst}
-use native.Mathlib.Omega.{arith}
 use Rattle.rules.specs.Looking.Interpolation.{denOf}
-use Rattle.rules.specs.Descriptions.{DomainFits}
-use Rattle.colour.proofs.Readables.{sound, den-most}
-use borrow.Author.Needs.{needs}
+use Rattle.rules.specs.Descriptions.{DomainFits, domain}
+use Rattle.colour.proofs.Plans.{sound, den-most}
 use Rattle.colour.proofs.rows.den_of.Statement.{statement}
 use Rattle.colour.proofs.rows.den_of.Tie as tie
 
@@ -16,10 +16,13 @@ domain-of-requires : tie.Need-domain-of-requires
 domain-of-requires c κs = search needs
 
 width-of-requires : tie.Need-width-of-requires
-width-of-requires c κs = subst DomainFits (sym (c .domain-of .ensures)) (sound (c .before .args .d) (c .before .pre) .domains (c .before .args .c))
+width-of-requires c κs = subst DomainFits (sym (c .domain-of .ensures)) (sound _ (c .before .pre) .domains (c .before .args .c))
 
 mul-result : tie.Need-mul-result
-mul-result c = omega (arith, product c, den-most (c .before .before .args .d) (c .before .before .pre) (c .before .before .args .m) (omega (arith, c .before .before .fits .m)) (c .before .before .args .c))
+mul-result c =
+    let s = c .before .before in
+    let a = s .args in
+    omega (arith, product c, den-most (domain (a .d) (a .c)) (sound _ (s .pre) .domains (a .c)) (a .m) (omega (arith, s .fits .m)))
 
 returns : tie.Need-returns
 returns c = product c

@@ -1,45 +1,31 @@
--- In 3D N is at most 256, and the three places share D, since the colours have one domain.
-use native.Mathlib.Omega.{arith}
-use borrow.Author.Needs.{needs}
-use Rattle.rules.specs.Units.{codeIn}
-use Rattle.rules.specs.Descriptions.{domain}
-use Rattle.rules.specs.Looking.Interpolation.{denOf, indexOf, fractionOf, path}
-use Rattle.rules.specs.Looking.{shown}
-use Rattle.rules.specs.declared.Colour.{Colour}
+-- The three steps end at a row of the table, and share D, since the colours have one domain.
 use Rattle.rules.specs.declared.Colour.the-variants.{Red, Green, Blue}
-use Rattle.colour.specs.Places.{placeOf, Cell}
-use Rattle.colour.proofs.Orders.{along-path}
-use Rattle.colour.proofs.Readables.{sound, den-most, cell}
+use Rattle.colour.specs.Places.{shownBy}
+use Rattle.colour.proofs.Plans.{cells-fit, axis-fits, steps-fit}
 use Rattle.colour.proofs.shares.cube.Statement.{statement}
 use Rattle.colour.proofs.shares.cube.Tie as tie
 
-place-in-requires : tie.Need-place-in-requires
-place-in-requires c κs = search needs
+step-of-requires : tie.Need-step-of-requires
+step-of-requires c κs = let p = c .before .pre .0 .1 in (axis-fits p Red, cells-fit p)
 
-place-in-requires-2 : tie.Need-place-in-requires-2
-place-in-requires-2 c κs = search needs
+step-of-requires-2 : tie.Need-step-of-requires-2
+step-of-requires-2 c κs = let p = c .before .before .pre .0 .1 in (axis-fits p Green, cells-fit p)
 
-place-in-requires-3 : tie.Need-place-in-requires-3
-place-in-requires-3 c κs = search needs
+step-of-requires-3 : tie.Need-step-of-requires-3
+step-of-requires-3 c κs = let p = c .before .before .before .pre .0 .1 in (axis-fits p Blue, cells-fit p)
 
 path-by-requires : tie.Need-path-by-requires
-unfolding placeOf
 path-by-requires c κs =
-    let s = c .before .before .before in
-    let a = s .args in
-    let r = s .pre .0 in
-    let at : (k : Colour) → Cell (a .d .n) (denOf (a .d) (a .m) Red) (placeOf (a .m) (domain (a .d) k) (a .d .n) (codeIn (a .pixel) k))
-    = λ k. cell (a .d) r (a .m) (s .pre .1 .0) (a .pixel) k (s .pre .1 .1) in
-    rw (c .before .before .place-in .ensures, c .before .place-in2 .ensures, c .place-in3 .ensures)
-    (rw (s .pre .1 .1) at (sound (a .d) r .most), (den-most (a .d) r (a .m) (omega (arith, s .fits .m)) Red, (at Red, (at Green, at Blue))))
+    let s = c .before .before .before .before in
+    rw (c .before .before .step-of .ensures, c .before .step-of2 .ensures, c .step-of3 .ensures) (steps-fit (s .pre .0 .1) (s .pre .1) (s .args .pixel))
 
 returns : tie.Need-returns
-unfolding placeOf shown path
+unfolding shownBy
 returns c =
-    let places = c .before in
-    let a = places .before .before .before .args in
-    rw (places .before .before .place-in .ensures, places .before .place-in2 .ensures, places .place-in3 .ensures, along-path (a .d .n) (denOf (a .d) (a .m) Red) (indexOf (a .d) (a .m) (a .pixel)) (fractionOf (a .d) (a .m) (a .pixel)))
-    at (c .path-by .ensures)
+    let steps = c .before in
+    rw (steps .before .before .step-of .ensures, steps .before .step-of2 .ensures, steps .step-of3 .ensures) at (c .path-by .ensures)
 
 pub cube-spec : {M : Type 1} → statement M
-cube-spec = tie.close (tie.spec place-in-requires place-in-requires-2 place-in-requires-3 path-by-requires returns)
+cube-spec =
+    tie.close
+    (tie.spec step-of-requires step-of-requires-2 step-of-requires-3 path-by-requires returns)

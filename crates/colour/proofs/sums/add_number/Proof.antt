@@ -1,42 +1,22 @@
--- The part of the table from place 3n on starts with row n.
+-- The number of the row that the part starts at.
 use borrow.Author.Needs.{needs}
-use Rattle.colour.proofs.Totals.{weight-held, part-sample, part-row}
 use Rattle.colour.proofs.sums.add_number.Statement.{statement}
 use Rattle.colour.proofs.sums.add_number.Tie as tie
 
-mul-at : tie.Need-mul-at
-mul-at c = search needs
+weight-of-requires : tie.Need-weight-of-requires
+weight-of-requires c κs = search needs
 
-mul-with-number : tie.Need-mul-with-number
-mul-with-number c = search needs
-
-sub-with-number : tie.Need-sub-with-number
-sub-with-number c = search needs
-
-part-with-number-start : tie.Need-part-with-number-start
-part-with-number-start c = search needs
-
-part-with-number-end : tie.Need-part-with-number-end
-part-with-number-end c = search needs
+row-part-requires : tie.Need-row-part-requires
+row-part-requires c κs = search needs
 
 with-number-requires : tie.Need-with-number-requires
-with-number-requires c κs =
-    let s = c .before .before .before in
-    (rw (weight-held (s .pre .0)) (s .pre .0), part-row _ (s .args .share .row) (s .pre .1))
+with-number-requires c κs = (rw (c .before .weight-of .ensures) (c .before .before .pre .0), c .row-part .ensures .row-at)
 
 returns : tie.Need-returns
 returns c =
-    let s = c .before .before .before .before in
-    rw (weight-held (s .pre .0), part-sample (s .args .table .now) (s .args .share .row) (s .pre .1) (s .args .c)) at (c .with-number .ensures)
+    let part = c .before in
+    rw (part .before .weight-of .ensures, part .row-part .ensures .number (part .before .before .args .c)) at (c .with-number .ensures)
 
 pub add-number-spec : {M : Type 1} → statement M
 add-number-spec =
-    tie.close
-    (tie.spec
-    mul-at
-    mul-with-number
-    sub-with-number
-    part-with-number-start
-    part-with-number-end
-    with-number-requires
-    returns)
+    tie.close (tie.spec weight-of-requires row-part-requires with-number-requires returns)

@@ -1,42 +1,21 @@
--- The part of the table from place 3n on starts with row n.
+-- The three numbers of the row that the part starts at.
 use borrow.Author.Needs.{needs}
-use Rattle.colour.proofs.Totals.{weight-held, part-sample, part-row}
 use Rattle.colour.proofs.sums.add_row.Statement.{statement}
 use Rattle.colour.proofs.sums.add_row.Tie as tie
 
-mul-at : tie.Need-mul-at
-mul-at c = search needs
+weight-of-requires : tie.Need-weight-of-requires
+weight-of-requires c κs = search needs
 
-mul-with-row : tie.Need-mul-with-row
-mul-with-row c = search needs
-
-sub-with-row : tie.Need-sub-with-row
-sub-with-row c = search needs
-
-part-with-row-start : tie.Need-part-with-row-start
-part-with-row-start c = search needs
-
-part-with-row-end : tie.Need-part-with-row-end
-part-with-row-end c = search needs
+row-part-requires : tie.Need-row-part-requires
+row-part-requires c κs = search needs
 
 with-row-requires : tie.Need-with-row-requires
-with-row-requires c κs =
-    let s = c .before .before .before in
-    (λ k. rw (weight-held (s .pre .0 k)) (s .pre .0 k), part-row _ (s .args .share .row) (s .pre .1))
+with-row-requires c κs = (λ k. rw (c .before .weight-of .ensures) (c .before .before .pre .0 k), c .row-part .ensures .row-at)
 
 returns : tie.Need-returns
 returns c =
-    let s = c .before .before .before .before in
-    λ k. rw (weight-held (s .pre .0 k), part-sample (s .args .table .now) (s .args .share .row) (s .pre .1) k) at (c .with-row .ensures k)
+    let part = c .before in
+    λ k. rw (part .before .weight-of .ensures, part .row-part .ensures .number k) at (c .with-row .ensures k)
 
 pub add-row-spec : {M : Type 1} → statement M
-add-row-spec =
-    tie.close
-    (tie.spec
-    mul-at
-    mul-with-row
-    sub-with-row
-    part-with-row-start
-    part-with-row-end
-    with-row-requires
-    returns)
+add-row-spec = tie.close (tie.spec weight-of-requires row-part-requires with-row-requires returns)

@@ -1,0 +1,174 @@
+-- What the plan of a description that could have been read says: how great its numbers are, that its places are those of the rule, and that so are
+-- the rows and weights by it.
+use Prim.Native.Nat.{ℕ, suc, _+_, _-_, _*_, _≤_, _<_}
+use mathlib.Core.Path.{_≡_, refl, sym, ap, subst, _∙_}
+use mathlib.Core.Bool.{true}
+use mathlib.Core.List.{List}
+use native.Mathlib.Nat as NatL
+use native.Mathlib.Omega.{arith}
+use lib.IntN.{ℤ, natAbs}
+use Rattle.whole.proofs.Halves.{product-abs}
+use Rattle.rules.specs.Units.{depthsOf, sameBits, rawM, correctedM, sampleOne, sampleLimit, rowsOf, rowLimit, rowAt, stride}
+use Rattle.rules.specs.Descriptions.{rows, domain, width, couldBeRead, Sound, DomainFits}
+use Rattle.rules.specs.Looking.Interpolation.{den, denOf, positionOf, indexOf, fractionOf, rgb, climb, pathBy, pair, path, pairAt, codeBy}
+use Rattle.rules.specs.Looking.{shown, lineCode}
+use Rattle.rules.specs.Looking.Readings.{Reading}
+use Rattle.rules.specs.declared.Codes.{Codes}
+use Rattle.rules.specs.declared.Colour.{Colour}
+use Rattle.rules.specs.declared.Colour.the-variants.{Red, Green, Blue}
+use Rattle.rules.specs.declared.Depths.{Depths}
+use Rattle.rules.specs.declared.DepthsFound.the-variants.{Both}
+use Rattle.rules.specs.declared.Description.{Description}
+use Rattle.rules.specs.declared.Domain.{Domain}
+use Rattle.rules.specs.declared.Kind.{Kind}
+use Rattle.rules.specs.declared.Kind.the-variants.{OneD, ThreeD}
+use Rattle.rules.proofs.KnownDepths.{each-known, depths-bounds}
+use Rattle.rules.proofs.Sound.{sound-of, wide-enough, rows-most, greatest-most}
+use Rattle.rules.proofs.Looking.Demand3 as D3
+use Rattle.rules.proofs.Looking.RowsAndWeights.{path-rows}
+use Rattle.colour.specs.Limits.{denLimit}
+use Rattle.colour.specs.Plans.{axisOf, planOf, axisIn, rowsIn, Readable, Planned}
+use Rattle.colour.specs.Places.{AxisFits, CellsFit, pairOf, stepOf, Steps, pathBySteps, shownBy}
+use Rattle.colour.specs.Adding.{Codable}
+use Rattle.colour.specs.declared.plan.Plan.{Plan}
+use Rattle.colour.proofs.Orders.{along-path}
+use Rattle.colour.proofs.Placing.{place-is}
+
+-- ---- a description that could have been read
+
+pub sound : (d : Description) → (r : Readable d) → Sound d (r .0)
+sound d r = sound-of d (r .0) (r .1)
+
+pub n-most : {d : Description} {table : List ℤ} → Sound d table → d .n ≤ 65536
+n-most {d} s = NatL.le-trans (s .most) (greatest-most (d .kind))
+
+module _ (dom : Domain) (fits : DomainFits dom) (m : ℕ) (most : m ≤ 65535) where
+  pub den-most : den m dom ≤ denLimit
+  den-most = NatL.mul-le-mul {n₂ = 65535} {m₂ = 10_000} most (fits .narrow)
+
+  pub low-most : natAbs (axisOf dom m 0 .low .0) ≤ denLimit
+  low-most = rw product-abs (NatL.mul-le-mul {n₂ = 65535} {m₂ = 10_000} most (fits .low))
+
+-- M times a bound or a sample
+pub times-m-most : (m : ℕ) (z : ℤ) → m < 65536 → natAbs z ≤ sampleLimit → m * natAbs z ≤ 65535 * sampleLimit
+times-m-most m z most h = NatL.mul-le-mul {n₂ = 65535} {m₂ = sampleLimit} (omega arith) h
+
+-- ---- the plan of a call with one depth
+
+pub one-depth : (bits : ℕ) (depths : Depths) → depthsOf (sameBits bits) ≡ Both depths → rawM depths ≡ correctedM depths
+one-depth bits depths known = let k = each-known (sameBits bits) depths known in cc
+
+abbrev pub planned : (d : Description) {table : List ℤ} (bits : ℕ) {depths : Depths} {plan : Plan} → couldBeRead d table ≡ true
+    → depthsOf (sameBits bits) ≡ Both depths → plan ≡ planOf d depths → Planned plan table
+planned d bits {depths = depths} could known is =
+    let deep = depths-bounds (sameBits bits) depths known .0 in
+    record { d = d; depths = depths; could = could; deep = deep .0; most = deep .1; one-depth = one-depth bits depths known; is = is }
+
+-- ---- the axes of a plan
+
+-- what a plan says by its definition
+module _ (d : Description) (depths : Depths) where
+  pub axis-of : (c : Colour) → axisIn (planOf d depths) c ≡ axisOf (domain d c) (rawM depths) (stride (d .n) c)
+  axis-of Red = refl
+  axis-of Green = refl
+  axis-of Blue = refl
+
+  pairs-of : (c : Colour) (code : ℕ) → pairOf (axisIn (planOf d depths) c) (d .n - 1) code ≡ pairAt d (rawM depths) c code
+  unfolding pairOf
+  pairs-of c code = rw (axis-of c, place-is)
+
+  shown-of : (pixel : Codes) (k : Kind) → shownBy (planOf d depths) pixel k ≡ shown d (rawM depths) pixel k
+  unfolding shownBy shown pair path pathBySteps stepOf
+  shown-of pixel OneD = rw (pairs-of Red (pixel .red), pairs-of Green (pixel .green), pairs-of Blue (pixel .blue))
+  shown-of pixel ThreeD =
+      let m = rawM depths in
+      rw (place-is (d .red) m (d .n) 1 (pixel .red), place-is (d .green) m (d .n) (d .n) (pixel .green), place-is (d .blue) m (d .n) (d .n * d .n) (pixel .blue), along-path (d .n) (denOf d m Red) (indexOf d m pixel) (fractionOf d m pixel))
+
+-- the steps of a pixel, by a plan
+abbrev StepsBy : Plan → Codes → Type 0
+StepsBy plan pixel =
+    Steps (plan .red .den)
+    (stepOf (plan .red) (plan .cells) (pixel .red))
+    (stepOf (plan .green) (plan .cells) (pixel .green))
+    (stepOf (plan .blue) (plan .cells) (pixel .blue))
+
+module _ {plan : Plan} {table : List ℤ} (p : Planned plan table) where
+  abbrev d : Description
+  d = p .d
+
+  abbrev m : ℕ
+  m = rawM (p .depths)
+
+  abbrev could-sound : Sound d table
+  could-sound = sound-of d table (p .could)
+
+  -- ---- its numbers
+
+  pub kind-is : plan .kind ≡ d .kind
+  kind-is = ap (λ x. x .kind) (p .is)
+
+  pub rows-are : rowsIn plan ≡ rows d
+  rows-are = let n : suc (d .n - 1) ≡ d .n = omega (arith, could-sound .least) in ap rowsIn (p .is) ∙ ap (rowsOf (d .kind)) n
+
+  pub axis-is : (c : Colour) → axisIn plan c ≡ axisOf (domain d c) m (stride (d .n) c)
+  axis-is c = ap (λ x. axisIn x c) (p .is) ∙ axis-of d (p .depths) c
+
+  pub den-is : (c : Colour) → axisIn plan c .den ≡ denOf d m c
+  den-is c = ap (λ x. x .den) (axis-is c)
+
+  pub cells-fit : CellsFit (plan .cells)
+  cells-fit = rw (p .is) (record { some = omega (arith, could-sound .least); most = omega (arith, n-most could-sound) })
+
+  pub axis-fits : (c : Colour) → AxisFits (axisIn plan c)
+  axis-fits c =
+      let fits = could-sound .domains c in
+      rw (axis-is c)
+      (record { low = low-most (domain d c) fits m (p .most); wide = NatL.mul-pos (p .deep) (wide-enough fits); most = den-most (domain d c) fits m (p .most) })
+
+  pub codable : (c : Colour) → Codable (axisIn plan c) (plan .depths)
+  codable c =
+      let fits = could-sound .domains c in
+      subst (λ x. Codable (axisIn x c) (x .depths)) (sym (p .is))
+      (rw (axis-of d (p .depths) c)
+      (record {
+        unit-fits =
+            record { above-0 = omega (arith, wide-enough fits); most = omega (arith, fits .narrow); deep = p .deep; deepest = p .most; one-depth = p .one-depth };
+        over = NatL.mul-assoc m (width (domain d c)) sampleOne;
+      }))
+
+  -- ---- its rows and weights
+
+  pub shown-is : (pixel : Codes) (k : Kind) → shownBy plan pixel k ≡ shown d m pixel k
+  shown-is pixel k = ap (λ x. shownBy x pixel k) (p .is) ∙ shown-of d (p .depths) pixel k
+
+  -- 1D: a colour's code of its own code, by its axis alone
+  pub line-code : (c : Colour) (code : ℕ)
+      → codeBy (correctedM (p .depths)) (axisIn plan c .den) table c (pairOf (axisIn plan c) (plan .cells) code) ≡ lineCode d table (p .depths) c code
+  line-code c code =
+      ap (λ x. codeBy (correctedM (p .depths)) (axisIn x c .den) table c (pairOf (axisIn x c) (x .cells) code)) (p .is)
+      ∙ rw (pairs-of d (p .depths) c code, axis-of d (p .depths) c)
+
+  -- 3D: the path ends at a row of the table, and the fractions are of one D
+  module _ (e : plan .kind ≡ ThreeD) (pixel : Codes) where
+    reads : (c : Colour) → Reading (d .n) (denOf d m c) (positionOf d m pixel c) (indexOf d m pixel c) (fractionOf d m pixel c)
+    reads = D3.reads d table m pixel (p .could) (p .deep)
+
+    three-d : d .kind ≡ ThreeD
+    three-d = sym kind-is ∙ e
+
+    cube-most : d .n * d .n * d .n ≤ rowLimit
+    cube-most = subst (λ k. rowsOf k (d .n) ≤ rowLimit) three-d (rows-most (d .kind) (d .n) (could-sound .most))
+
+    end-most : rowAt (d .n) (indexOf d m pixel) + 1 + d .n + d .n * d .n ≤ rowLimit
+    unfolding pathBy climb
+    end-most = let i = indexOf d m pixel in omega (arith, path-rows (d .n) 0 i i rgb (λ k. reads k .cell) .1 .1 .1 .0, cube-most)
+
+    part : (c : Colour) → fractionOf d m pixel c ≤ denOf d m Red
+    part c = omega (arith, reads c .part, D3.one-den d table m pixel (p .could) (p .deep) three-d c Red)
+
+    pub steps-fit : StepsBy plan pixel
+    unfolding stepOf
+    steps-fit =
+        subst (λ x. StepsBy x pixel) (sym (p .is))
+        (rw (place-is (d .red) m (d .n) 1 (pixel .red), place-is (d .green) m (d .n) (d .n) (pixel .green), place-is (d .blue) m (d .n) (d .n * d .n) (pixel .blue))
+        (record { end = end-most; most = den-most (d .red) (could-sound .domains Red) m (p .most); red = part Red; green = part Green; blue = part Blue }))

@@ -1,0 +1,62 @@
+-- A plan: what of a description and the depths is the same for every pixel.
+use Prim.Native.Nat.{ℕ, suc, _-_, _*_, _≤_, _<_}
+use mathlib.Core.Path.{_≡_}
+use mathlib.Core.Bool.{true}
+use mathlib.Core.List.{List}
+use lib.IntN.{ℤ, pos, _*ℤ_}
+use Rattle.rules.specs.Units.{sampleOne, rawM, correctedM, rowsOf, stride}
+use Rattle.rules.specs.Descriptions.{width, couldBeRead}
+use Rattle.rules.specs.Looking.Interpolation.{den}
+use Rattle.rules.specs.declared.Colour.{Colour}
+use Rattle.rules.specs.declared.Colour.the-variants.{Red, Green, Blue}
+use Rattle.rules.specs.declared.Depths.{Depths}
+use Rattle.rules.specs.declared.Description.{Description}
+use Rattle.rules.specs.declared.Domain.{Domain}
+use Rattle.colour.specs.declared.plan.Axis.{Axis}
+use Rattle.colour.specs.declared.plan.Plan.{Plan}
+
+-- ---- what is kept
+
+-- of a domain, at the M of raw codes: lo·M, D and w·10,000,000; one index up along the axis is so many rows up
+abbrev pub axisOf : Domain → ℕ → ℕ → Axis
+axisOf dom m step = record { low = record { 0 = pos m *ℤ dom .lower .0 }; den = den m dom; unit = width dom * sampleOne; stride = step }
+
+abbrev pub planOf : Description → Depths → Plan
+planOf d depths = record {
+  kind = d .kind;
+  cells = d .n - 1;
+  red = axisOf (d .red) (rawM depths) (stride (d .n) Red);
+  green = axisOf (d .green) (rawM depths) (stride (d .n) Green);
+  blue = axisOf (d .blue) (rawM depths) (stride (d .n) Blue);
+  depths = depths;
+}
+
+abbrev pub axisIn : Plan → Colour → Axis
+axisIn plan Red = plan .red
+axisIn plan Green = plan .green
+axisIn plan Blue = plan .blue
+
+-- N is one more than the cells
+abbrev pub rowsIn : Plan → ℕ
+rowsIn plan = rowsOf (plan .kind) (suc (plan .cells))
+
+-- ---- of what
+
+-- reading could have given the description, with some table
+abbrev pub Readable : Description → Type 0
+Readable d = (table : List ℤ) × (couldBeRead d table ≡ true)
+
+-- the plan is that of a description which reading could have given with this table
+pub record Planned (plan : Plan) (table : List ℤ) : Type 0 where
+  pub d : Description
+  pub depths : Depths
+  pub could : couldBeRead d table ≡ true
+  pub deep : 0 < rawM depths
+  pub most : rawM depths ≤ 65535
+  -- raw and corrected codes have one depth: that alone is why the short division suffices
+  pub one-depth : rawM depths ≡ correctedM depths
+  pub is : plan ≡ planOf d depths
+
+-- with some table
+abbrev pub Made : Plan → Type 0
+Made plan = (table : List ℤ) × Planned plan table

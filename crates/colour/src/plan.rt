@@ -1,0 +1,88 @@
+// A plan: what of a description and the depths is the same for every pixel, made once.
+use rules::Depths;
+use rules::Description;
+use rules::Domain;
+use rules::Kind;
+use rules::TenMillionths;
+use whole::Whole;
+ghost use mathlib.Core.Path.{_≡_};
+ghost use Prim.Native.Nat.{_≤_};
+ghost use lib.IntN.{pos, natAbs, _*ℤ_};
+ghost use Rattle.rules.specs.Units.{sampleLimit};
+ghost use Rattle.rules.specs.Descriptions.{width, DomainFits};
+ghost use Rattle.colour.specs.Plans.{Readable};
+ghost use Rattle.colour.specs.Plans.{axisOf, planOf};
+
+// One colour's axis.
+pub struct Axis {
+    // lo·M, with the M of raw codes.
+    pub low: Whole,
+    // D, over which the colour's fraction is.
+    pub den: u64,
+    // D / M · 10,000,000, with the same M: what S is divided by where the two depths are one.
+    pub unit: u64,
+    // One index up is so many rows up.
+    pub stride: usize,
+}
+
+pub struct Plan {
+    pub kind: Kind,
+    // N − 1, from one row to the next along an axis.
+    pub cells: usize,
+    pub red: Axis,
+    pub green: Axis,
+    pub blue: Axis,
+    pub depths: Depths,
+}
+
+// w, the width of a domain, in thousandths.
+pub fn width_of(dom: Domain) -> u64
+    requires { ⌜ DomainFits dom ⌝ }
+    ensures { λ r. ⌜ r ≡ width dom ⌝ }
+{
+    let lower = dom.lower;
+    let upper = dom.upper;
+    let lo = lower.0;
+    let hi = upper.0;
+    (hi - lo) as u64
+}
+
+// M times a bound or a sample.
+pub fn times_m(m: u16, value: Whole) -> Whole
+    requires { ⌜ natAbs (value .0) ≤ sampleLimit ⌝ }
+    ensures { λ r. ⌜ r .0 ≡ pos m *ℤ value .0 ⌝ }
+{
+    Whole::of(m as u64).times(value)
+}
+
+fn axis_of(dom: Domain, m: u16, stride: usize) -> Axis
+    requires { ⌜ DomainFits dom ⌝ }
+    ensures { λ r. ⌜ r ≡ axisOf dom m stride ⌝ }
+{
+    let lower = dom.lower;
+    let w = width_of(dom);
+    Axis {
+        low: times_m(m, Whole(lower.0)),
+        den: m as u64 * w,
+        unit: w * TenMillionths::ONE,
+        stride,
+    }
+}
+
+pub fn plan_of(d: Description, depths: Depths) -> Plan
+    requires { ⌜ Readable d ⌝ }
+    ensures { λ r. ⌜ r ≡ planOf d depths ⌝ }
+{
+    let kind = d.kind;
+    let n = d.n;
+    let raw = depths.raw;
+    let m = raw.greatest;
+    Plan {
+        kind,
+        cells: n - 1,
+        red: axis_of(d.red, m, 1),
+        green: axis_of(d.green, m, n),
+        blue: axis_of(d.blue, m, n * n),
+        depths,
+    }
+}
