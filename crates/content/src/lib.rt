@@ -34,7 +34,7 @@ ghost use Rattle.rules.specs.declared.Content.{Content};
 ghost use Rattle.rules.specs.declared.Form.the-variants.{Keyed};
 ghost use Rattle.rules.specs.declared.Item.{Item};
 ghost use Rattle.rules.specs.declared.Item.the-variants.{OfLower, OfUpper};
-ghost use Rattle.content.specs.Found.{complaintOf, foundThree, sayValues, sayBounds, sayRow};
+ghost use Rattle.content.specs.Found.{NextFrom, complaintOf, foundThree, sayValues, sayBounds, sayRow};
 
 // ---- three numbers
 
@@ -76,27 +76,43 @@ fn three_formed(first: Number, second: Number, third: Number) -> ThreeFound
     })
 }
 
+// What a word says as a number, and where the word ends.
+enum NextNumber {
+    ANumber(Number, usize),
+    Nothing,
+}
+
+// The first word from a place on as a number.
+fn next_number(l: &[u8], from: usize, places: usize, limit: u64) -> NextNumber
+    requires { ⌜ (length (now l) ≤ lineLimit) × (from ≤ length (now l)) ⌝ }
+    requires { ⌜ (places ≤ mostPlaces) × (limit ≤ mostLimit) ⌝ }
+    ensures { λ r. ⌜ NextFrom places limit (now (l .entry)) from r ⌝ }
+{
+    let Word::At { start, end } = next_word(l, from) else {
+        return NextNumber::Nothing;
+    };
+    let number = number_of(&l[start..end], places, limit);
+    NextNumber::ANumber(number, end)
+}
+
 // Three words from a place on, each a number, and no word more.
 fn three_numbers(l: &[u8], from: usize, places: usize, limit: u64) -> ThreeFound
     requires { ⌜ (length (now l) ≤ lineLimit) × (from ≤ length (now l)) ⌝ }
     requires { ⌜ (places ≤ mostPlaces) × (limit ≤ mostLimit) ⌝ }
     ensures { λ r. ⌜ foundThree r ≡ threeOf places limit (wordsOf (drop from (now (l .entry)))) ⌝ }
 {
-    let Word::At { start: a, end: b } = next_word(l, from) else {
+    let NextNumber::ANumber(first, a) = next_number(l, from, places, limit) else {
         return ThreeFound::NotThree;
     };
-    let Word::At { start: c, end: d } = next_word(l, b) else {
+    let NextNumber::ANumber(second, b) = next_number(l, a, places, limit) else {
         return ThreeFound::NotThree;
     };
-    let Word::At { start: e, end: f } = next_word(l, d) else {
+    let NextNumber::ANumber(third, c) = next_number(l, b, places, limit) else {
         return ThreeFound::NotThree;
     };
-    let Word::Nothing = next_word(l, f) else {
+    let Word::Nothing = next_word(l, c) else {
         return ThreeFound::NotThree;
     };
-    let first = number_of(&l[a..b], places, limit);
-    let second = number_of(&l[c..d], places, limit);
-    let third = number_of(&l[e..f], places, limit);
     three_formed(first, second, third)
 }
 
