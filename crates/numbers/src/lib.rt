@@ -1,6 +1,7 @@
 // Document 01, "Lines": a word as a number. The grammar finds where its parts stand, and their digits, cut at the unit's point, give its exact value.
 use rules::Number;
 use scan::ByteKind;
+use scan::run_end;
 ghost use mathlib.Core.Path.{_≡_};
 ghost use mathlib.Core.List.{_++_};
 ghost use mathlib.Core.Option.{some};
@@ -11,7 +12,7 @@ ghost use Rattle.rules.specs.Reading.Lines.{lineLimit, eByte, starts};
 ghost use Rattle.rules.specs.Reading.Numerals.{digits, spell};
 ghost use Rattle.rules.specs.Reading.Numbers.{exponentOf, numberOf, numeralOf, unsigned, valueOf};
 ghost use Rattle.numbers.specs.Cuts.{Served, answer, cutOf, exponentCap, kept, mostLimit, mostPlaces};
-ghost use Rattle.numbers.specs.Parts.{DigitsTo, Inside, PowerInside, exponentAt, numeral, numeralAt};
+ghost use Rattle.numbers.specs.Parts.{Inside, PowerInside, exponentAt, numeral, numeralAt};
 
 // ---- digits
 
@@ -121,14 +122,6 @@ fn sign_length(w: &[u8]) -> usize
     0
 }
 
-// The end of the digits that stand from a place on.
-fn digits_end(w: &[u8], from: usize) -> usize
-    requires { ⌜ from ≤ length (now w) ⌝ }
-    ensures { λ r. ⌜ DigitsTo (now (w .entry)) from r ⌝ }
-{
-    from + scan::run_length(&w[from..], ByteKind::Digit)
-}
-
 // Nothing; or e or E, an optional sign, digits.
 fn power_in(e: &[u8]) -> PowerFound
     ensures says { λ r. ⌜ exponentAt (now (e .entry)) r ≡ exponentOf (now (e .entry)) ⌝ }
@@ -162,10 +155,10 @@ fn numeral_in(w: &[u8]) -> NumeralFound
 {
     let negative = starts_with(w, b'-');
     let whole = sign_length(w);
-    let point = digits_end(w, whole);
+    let point = run_end(w, whole, ByteKind::Digit);
     let pointed = starts_with(&w[point..], b'.');
     let fraction = point + pointed as usize;
-    let end = digits_end(w, fraction);
+    let end = run_end(w, fraction, ByteKind::Digit);
     // a point has at least one digit after it; without a point there is a whole digit
     let there = if pointed {
         fraction < end
@@ -180,6 +173,7 @@ fn numeral_in(w: &[u8]) -> NumeralFound
     };
     let down = p.down;
     let start = p.start;
+    let power = end + start;
     NumeralFound::Stands(Parts {
         negative,
         whole,
@@ -187,7 +181,7 @@ fn numeral_in(w: &[u8]) -> NumeralFound
         fraction,
         end,
         down,
-        power: end + start,
+        power,
     })
 }
 

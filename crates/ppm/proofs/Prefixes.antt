@@ -12,7 +12,8 @@ use lib.ListN.{length, take, drop, getD, length-take}
 use lib.Seq.{length-take-le, take-all, take-take, take-nil, getD-take}
 use Rattle.rules.specs.Reading.Lines.{digit, run}
 use Rattle.rules.specs.Reading.Numerals.{spell}
-use Rattle.ppm.specs.Header.{whitespace, goesOn, commentAfter, gapLength, gapEnd, digitsEnd, fieldBetween, fieldAt, withMaxval, afterHeight, withHeight, afterWidth, withWidth, startsP6, mostSize, mostMaxval, headerOf}
+use Rattle.scan.specs.RunEnds.{runEnd}
+use Rattle.ppm.specs.Header.{whitespace, goesOn, commentAfter, gapLength, gapEnd, fieldBetween, fieldAt, withMaxval, afterHeight, withHeight, afterWidth, withWidth, startsP6, mostSize, mostMaxval, headerOf}
 use Rattle.ppm.specs.declared.header.Count.{Count}
 use Rattle.ppm.specs.declared.header.Fault.{Fault}
 use Rattle.ppm.specs.declared.header.Fault.the-variants.{NotP6, EndsEarly}
@@ -60,11 +61,11 @@ run-first kind (b ∷ rest) (suc k) h = by (kind b) h (run-first kind rest k)
     by false h later = refl
 
 module _ (s : List ℕ) (p m : ℕ) where
-  gap-end-first : gapEnd s p < m → gapEnd (take m s) p ≡ gapEnd s p
+  gap-end-first : gapEnd false s p < m → gapEnd false (take m s) p ≡ gapEnd false s p
   gap-end-first h = ap (λ n. p + n) (ap (gapLength false) (drop-first m p s) ∙ gap-first false (drop p s) (m - p) (omega arith))
 
-  digits-end-first : digitsEnd s p < m → digitsEnd (take m s) p ≡ digitsEnd s p
-  digits-end-first h = ap (λ n. p + n) (ap (λ l. length (run digit l)) (drop-first m p s) ∙ run-first digit (drop p s) (m - p) (omega arith))
+  run-end-first : (kind : ℕ → Bool) → runEnd kind s p < m → runEnd kind (take m s) p ≡ runEnd kind s p
+  run-end-first kind h = ap (λ n. p + n) (ap (λ l. length (run kind l)) (drop-first m p s) ∙ run-first kind (drop p s) (m - p) (omega arith))
 
 -- ---- a number among the first bytes
 
@@ -90,16 +91,16 @@ module _ (part : Part) (limit : ℕ) (s : List ℕ) where
       rw (length-take-le m s there, ne-eqb end m (omega arith), ne-eqb end (length s) (omega arith), getD-take m s end 0 inside, same)
 
   -- nor in where it stands
-  number-first : (p m : ℕ) → digitsEnd s (gapEnd s p) < m → m ≤ length s → fieldAt part limit (take m s) p ≡ fieldAt part limit s p
+  number-first : (p m : ℕ) → runEnd digit s (gapEnd false s p) < m → m ≤ length s → fieldAt part limit (take m s) p ≡ fieldAt part limit s p
   unfolding fieldAt
   number-first p m h there =
-      let start = gapEnd s p in
-      ap₂ (fieldBetween part limit (take m s)) (gap-end-first s p m (omega arith)) (ap (digitsEnd (take m s)) (gap-end-first s p m (omega arith)) ∙ digits-end-first s start m h)
-      ∙ between-first start (digitsEnd s start) m (omega arith) h there
+      let start = gapEnd false s p in
+      ap₂ (fieldBetween part limit (take m s)) (gap-end-first s p m (omega arith)) (ap (runEnd digit (take m s)) (gap-end-first s p m (omega arith)) ∙ run-end-first s start m digit h)
+      ∙ between-first start (runEnd digit s start) m (omega arith) h there
 
-  field-ends : (p : ℕ) (number : Count) → fieldAt part limit s p ≡ Says number → number .next ≡ digitsEnd s (gapEnd s p) + 1
+  field-ends : (p : ℕ) (number : Count) → fieldAt part limit s p ≡ Says number → number .next ≡ runEnd digit s (gapEnd false s p) + 1
   unfolding fieldAt
-  field-ends p number e = subst (Ends (digitsEnd s (gapEnd s p))) e (between-ends (gapEnd s p) (digitsEnd s (gapEnd s p)))
+  field-ends p number e = subst (Ends (runEnd digit s (gapEnd false s p))) e (between-ends (gapEnd false s p) (runEnd digit s (gapEnd false s p)))
 
   -- a number that is found is found in the first bytes, up to where it ends or further
   pub field-first : (p m : ℕ) (number : Count) → fieldAt part limit s p ≡ Says number → number .next ≤ m → (p ≤ number .next) × (fieldAt part limit (take m s) p ≡ Says number)

@@ -2,13 +2,13 @@
 // one whitespace byte; the one after maxval is the last byte before the pixels.
 use numbers::spelt;
 use scan::ByteKind;
-use scan::run_length;
+use scan::run_end;
 ghost use mathlib.Core.Path.{_≡_};
 ghost use mathlib.Core.Bool.{false};
 ghost use Prim.Native.Nat.{_≤_};
 ghost use lib.ListN.{length};
 ghost use Rattle.numbers.specs.Cuts.{mostLimit};
-ghost use Rattle.ppm.specs.Header.{whitespace, goesOn, commentAfter, gapLength, gapEnd, digitsEnd, startsP6, fieldAt, EndsWithin, headerOf, afterWidth, afterHeight};
+ghost use Rattle.ppm.specs.Header.{whitespace, goesOn, commentAfter, gapEnd, startsP6, fieldAt, EndsWithin, headerOf, afterWidth, afterHeight};
 
 // The numbers of a header, in their order.
 pub enum Part {
@@ -94,13 +94,14 @@ fn comment_after(comment: bool, b: u8) -> bool
     b != b'\r'
 }
 
-// How many bytes of whitespace and comments stand first.
-fn gap_length(s: &[u8]) -> usize
-    ensures counts { λ r. ⌜ r ≡ gapLength false (now (s .entry)) ⌝ }
+// Where the whitespace and comments from a place on end.
+fn gap_end(s: &[u8], from: usize) -> usize
+    requires { ⌜ from ≤ length (now s) ⌝ }
+    ensures ends { λ r. ⌜ r ≡ gapEnd false (now (s .entry)) from ⌝ }
     ensures within { λ r. ⌜ r ≤ length (now (s .entry)) ⌝ }
 {
     let mut comment = false;
-    let mut i = 0;
+    let mut i = from;
     while i < s.len() {
         let b = s[i];
         if !goes_on(comment, b) {
@@ -112,25 +113,7 @@ fn gap_length(s: &[u8]) -> usize
     i
 }
 
-// Where the whitespace and comments from a place on end.
-fn gap_end(s: &[u8], from: usize) -> usize
-    requires { ⌜ from ≤ length (now s) ⌝ }
-    ensures ends { λ r. ⌜ r ≡ gapEnd (now (s .entry)) from ⌝ }
-    ensures within { λ r. ⌜ r ≤ length (now (s .entry)) ⌝ }
-{
-    from + gap_length(&s[from..])
-}
-
 // ---- a number
-
-// Where the digits from a place on end.
-fn digits_end(s: &[u8], from: usize) -> usize
-    requires { ⌜ from ≤ length (now s) ⌝ }
-    ensures ends { λ r. ⌜ r ≡ digitsEnd (now (s .entry)) from ⌝ }
-    ensures within { λ r. ⌜ r ≤ length (now (s .entry)) ⌝ }
-{
-    from + run_length(&s[from..], ByteKind::Digit)
-}
 
 // The number from a place on.
 fn field_at(s: &[u8], from: usize, limit: u64, part: Part) -> Field
@@ -139,7 +122,7 @@ fn field_at(s: &[u8], from: usize, limit: u64, part: Part) -> Field
     ensures within { λ r. ⌜ EndsWithin (now (s .entry)) r ⌝ }
 {
     let start = gap_end(s, from);
-    let end = digits_end(s, start);
+    let end = run_end(s, start, ByteKind::Digit);
     if end == s.len() {
         return Field::Lacks(Fault::EndsEarly);
     }
@@ -153,10 +136,8 @@ fn field_at(s: &[u8], from: usize, limit: u64, part: Part) -> Field
     if limit < value {
         return Field::Lacks(Fault::Beyond(part));
     }
-    Field::Says(Count {
-        value,
-        next: end + 1,
-    })
+    let next = end + 1;
+    Field::Says(Count { value, next })
 }
 
 // ---- the header

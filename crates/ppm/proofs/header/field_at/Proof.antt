@@ -20,16 +20,16 @@ between s start end = take (end - start) (drop start s)
 gap-end-requires : tie.Need-gap-end-requires
 gap-end-requires c κs = search needs
 
-digits-end-requires : tie.Need-digits-end-requires
-digits-end-requires c κs = search needs
+run-end-requires : tie.Need-run-end-requires
+run-end-requires c κs = search needs
 
 returns : tie.Need-returns
 unfolding fieldAt fieldBetween
-returns c = let d = c .before in (rw (← d .before .gap-end .ensures .0, ← d .digits-end .ensures .0, eq-eqb _ _ (c .if1 .taken)), tt)
+returns c = let d = c .before in (rw (← d .before .gap-end .ensures .0, ← d .run-end .ensures .0, eq-eqb _ _ (c .if1 .taken)), tt)
 
 returns-2 : tie.Need-returns-2
 unfolding fieldAt fieldBetween
-returns-2 c = let d = c .before .before in (rw (← d .before .gap-end .ensures .0, ← d .digits-end .ensures .0, ne-eqb _ _ (c .before .if1 .left), eq-eqb _ _ (c .if2 .taken)), tt)
+returns-2 c = let d = c .before .before in (rw (← d .before .gap-end .ensures .0, ← d .run-end .ensures .0, ne-eqb _ _ (c .before .if1 .left), eq-eqb _ _ (c .if2 .taken)), tt)
 
 shared-slice-read-is-whitespace : tie.Need-shared-slice-read-is-whitespace
 shared-slice-read-is-whitespace c = search needs
@@ -45,7 +45,7 @@ returns-3 c =
     let d = two .before .before in (
       rw (
         ← d .before .gap-end .ensures .0,
-        ← d .digits-end .ensures .0,
+        ← d .run-end .ensures .0,
         ne-eqb _ _ (two .before .if1 .left),
         ne-eqb _ _ (two .if2 .left),
         ← w .is-whitespace .ensures,
@@ -75,10 +75,10 @@ returns-4 c =
     let d = two .before .before in
     let s = now (d .before .before .before .args .s) in
     let limit = d .before .before .before .args .limit in
-    let past : limit < spell 0 (between s (d .before .gap-end .result) (d .digits-end .result)) = omega (arith, c .before .spelt .ensures) in (
+    let past : limit < spell 0 (between s (d .before .gap-end .result) (d .run-end .result)) = omega (arith, c .before .spelt .ensures) in (
       rw (
         ← d .before .gap-end .ensures .0,
-        ← d .digits-end .ensures .0,
+        ← d .run-end .ensures .0,
         ne-eqb _ _ (two .before .if1 .left),
         ne-eqb _ _ (two .if2 .left),
         ← w .is-whitespace .ensures,
@@ -88,8 +88,8 @@ returns-4 c =
       tt,
     )
 
-add-t8 : tie.Need-add-t8
-add-t8 c = search needs
+add-next : tie.Need-add-next
+add-next c = search needs
 
 returns-5 : tie.Need-returns-5
 unfolding fieldAt fieldBetween
@@ -100,20 +100,20 @@ returns-5 c =
     let d = two .before .before in
     let s = now (d .before .before .before .args .s) in
     let limit = d .before .before .before .args .limit in
-    let value = spell 0 (between s (d .before .gap-end .result) (d .digits-end .result)) in
+    let value = spell 0 (between s (d .before .gap-end .result) (d .run-end .result)) in
     let inside : value ≤ limit = omega (arith, c .before .spelt .ensures, c .if4 .left) in
     let same : c .before .spelt .result ≡ value = omega (arith, c .before .spelt .ensures) in (
       rw (
         ← d .before .gap-end .ensures .0,
-        ← d .digits-end .ensures .0,
+        ← d .run-end .ensures .0,
         ne-eqb _ _ (two .before .if1 .left),
         ne-eqb _ _ (two .if2 .left),
         ← w .is-whitespace .ensures,
         not-false (w .is-whitespace .result) (three .if3 .left),
         le-leb _ _ inside,
       )
-          (ap (λ n. Says (counted n (d .digits-end .result + 1))) same),
-      omega (arith, d .digits-end .ensures .1, two .before .if1 .left),
+          (ap (λ n. Says (counted n (d .run-end .result + 1))) same),
+      omega (arith, d .run-end .ensures .1, two .before .if1 .left),
     )
 
 pub field-at-spec : {M : Type 1} → statement M
@@ -121,7 +121,7 @@ field-at-spec =
     tie.close
     (tie.spec
     gap-end-requires
-    digits-end-requires
+    run-end-requires
     returns
     returns-2
     shared-slice-read-is-whitespace
@@ -132,5 +132,5 @@ field-at-spec =
     part-spelt-end
     spelt-requires
     returns-4
-    add-t8
+    add-next
     returns-5)
