@@ -2,10 +2,12 @@
 use rules::Number;
 use scan::ByteKind;
 use scan::run_end;
+use whole::lesser;
+use whole::lesser_count;
 ghost use mathlib.Core.Path.{_≡_};
 ghost use mathlib.Core.List.{_++_};
 ghost use mathlib.Core.Option.{some};
-ghost use Prim.Native.Nat.{_+_, _-_, _*_, _^_, _≤_, min};
+ghost use Prim.Native.Nat.{_+_, _-_, _*_, _^_, _≤_};
 ghost use lib.Dec.{eqb};
 ghost use lib.ListN.{length, drop};
 ghost use Rattle.rules.specs.Reading.Lines.{lineLimit, eByte, starts};
@@ -41,7 +43,7 @@ fn one_more(m: u64, b: u8, limit: u64) -> u64
 {
     let n = m * 10 + digit_value(b);
     let past = limit + 1;
-    if n < past { n } else { past }
+    lesser(past, n)
 }
 
 // The number that digits spell after m, kept at limit + 1 once it is past the limit.
@@ -190,12 +192,6 @@ fn numeral_in(w: &[u8]) -> NumeralFound
 // Past it a greater exponent changes no answer.
 const EXPONENT_CAP: u64 = 2000;
 
-fn smaller(a: usize, b: usize) -> usize
-    ensures { λ r. ⌜ r ≡ min a b ⌝ }
-{
-    if a < b { a } else { b }
-}
-
 // How many digits stand before the unit's point.
 fn cut_at(whole: usize, places: usize, down: bool, x: usize) -> usize
     requires { ⌜ (whole ≤ lineLimit) × (places ≤ mostPlaces) × (x ≤ exponentCap + 1) ⌝ }
@@ -271,8 +267,8 @@ fn value(
 {
     let x = spelt(power, 0, EXPONENT_CAP);
     let cut = cut_at(whole.len(), places, down, x as usize);
-    let a = smaller(cut, whole.len());
-    let b = smaller(cut - a, fraction.len());
+    let a = lesser_count(cut, whole.len());
+    let b = lesser_count(cut - a, fraction.len());
     let front = spelt_both(&whole[..a], &fraction[..b], limit);
     let quotient = padded(front, cut - a - b, limit);
     let rest = spelt_both(&whole[a..], &fraction[b..], limit);

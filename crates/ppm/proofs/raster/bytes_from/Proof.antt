@@ -20,13 +20,13 @@ abbrev μ-loop : tie.MeasureT-loop
 byte-count-requires : tie.Need-byte-count-requires Inv-loop μ-loop
 byte-count-requires c κs = search needs
 
-smaller-requires : tie.Need-smaller-requires Inv-loop μ-loop
-smaller-requires c κs = search needs
+lesser-count-requires : tie.Need-lesser-count-requires Inv-loop μ-loop
+lesser-count-requires c κs = search needs
 
 loop-holds : tie.Need-loop-holds Inv-loop μ-loop
 loop-holds c =
     let a = c .before .before .before .before .args in
-    none-put _ _ _ (c .smaller .ensures ∙ ap (λ n. min n (length (now (a .bytes)))) (c .before .byte-count .ensures ∙ sym (bytes-length (a .wide) (now (a .codes)))))
+    none-put _ _ _ (c .lesser-count .ensures ∙ ap (λ n. min n (length (now (a .bytes)))) (c .before .byte-count .ensures ∙ sym (bytes-length (a .wide) (now (a .codes)))))
 
 byte-at-requires : tie.Need-byte-at-requires Inv-loop μ-loop
 byte-at-requires c κs =
@@ -59,7 +59,7 @@ bytes-from-spec =
     Inv-loop
     μ-loop
     byte-count-requires
-    smaller-requires
+    lesser-count-requires
     loop-holds
     byte-at-requires
     slice-write-bytes

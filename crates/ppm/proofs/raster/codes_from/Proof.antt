@@ -20,13 +20,13 @@ abbrev μ-loop : tie.MeasureT-loop
 code-count-requires : tie.Need-code-count-requires Inv-loop μ-loop
 code-count-requires c κs = search needs
 
-smaller-requires : tie.Need-smaller-requires Inv-loop μ-loop
-smaller-requires c κs = search needs
+lesser-count-requires : tie.Need-lesser-count-requires Inv-loop μ-loop
+lesser-count-requires c κs = search needs
 
 loop-holds : tie.Need-loop-holds Inv-loop μ-loop
 loop-holds c =
     let a = c .before .before .before .before .args in
-    none-put _ _ _ (c .smaller .ensures ∙ ap (λ n. min n (length (now (a .codes)))) (c .before .code-count .ensures ∙ sym (codes-length (a .wide) (now (a .bytes)))))
+    none-put _ _ _ (c .lesser-count .ensures ∙ ap (λ n. min n (length (now (a .codes)))) (c .before .code-count .ensures ∙ sym (codes-length (a .wide) (now (a .bytes)))))
 
 code-at-requires : tie.Need-code-at-requires Inv-loop μ-loop
 code-at-requires c κs =
@@ -62,7 +62,7 @@ codes-from-spec =
     Inv-loop
     μ-loop
     code-count-requires
-    smaller-requires
+    lesser-count-requires
     loop-holds
     code-at-requires
     mul-codes
