@@ -174,16 +174,6 @@ fn values_of(three: ThreeFound, complaints: Complaints) -> Values
 
 // ---- bounds and samples
 
-// Domain bounds are kept in thousandths and lie from -10 to 10.
-const BOUND_PLACES: usize = 3;
-
-const BOUND_LIMIT: u64 = 10_000;
-
-// Samples are kept in ten-millionths and lie from -1000 to 1000.
-const SAMPLE_PLACES: usize = 7;
-
-const SAMPLE_LIMIT: u64 = 10_000_000_000;
-
 // Three bounds, or why there are none.
 pub enum BoundsFound {
     AllBounds(Bounds),
@@ -201,7 +191,7 @@ fn bounds_on(l: &[u8], from: usize) -> BoundsFound
     requires { ⌜ (length (now l) ≤ lineLimit) × (from ≤ length (now l)) ⌝ }
     ensures { λ r. ⌜ ((side : Bounds → Item) → sayBounds r side ≡ boundsOf side (wordsOf (drop from (now (l .entry))))) ⌝ }
 {
-    let three = three_numbers(l, from, BOUND_PLACES, BOUND_LIMIT);
+    let three = three_numbers(l, from, Thousandths::PLACES, Thousandths::GREATEST as u64);
     let complaints = Complaints {
         unformed: Refusal::ParametersWrong,
         beyond: Refusal::DomainNumberWrong,
@@ -222,7 +212,7 @@ pub fn row_on(l: &[u8]) -> RowFound
     requires { ⌜ length (now l) ≤ lineLimit ⌝ }
     ensures { λ r. ⌜ sayRow r ≡ samplesOn (wordsOf (now (l .entry))) ⌝ }
 {
-    let three = three_numbers(l, 0, SAMPLE_PLACES, SAMPLE_LIMIT);
+    let three = three_numbers(l, 0, TenMillionths::PLACES, TenMillionths::GREATEST as u64);
     let complaints = Complaints {
         unformed: Refusal::NotThreeNumbers,
         beyond: Refusal::SampleBeyond,
@@ -240,17 +230,15 @@ pub fn row_on(l: &[u8]) -> RowFound
 
 // ---- a size
 
-// No N is greater, of either kind.
-const GREATEST_N: u64 = 65536;
-
-// The size that a word gives: digits alone, in range. Digits of any length are kept at one past the greatest N, which is as far out of range as they are.
+// The size that a word gives: digits alone, in range. Digits of any length are kept at one past the greatest N of either kind, which is as far out of
+// range as they are.
 fn size_in(kind: Kind, w: &[u8]) -> Content
     ensures { λ r. ⌜ r ≡ sizeOf kind (now (w .entry) ∷ []) ⌝ }
 {
     if !is_digits(w) {
         return Content::Wrong(Refusal::ParametersWrong);
     }
-    let n = spelt(w, 0, GREATEST_N) as usize;
+    let n = spelt(w, 0, Kind::MOST_1D as u64) as usize;
     if !in_range(kind, n) {
         return Content::Wrong(Refusal::SizeOutOfRange);
     }

@@ -1,6 +1,7 @@
 // The header: P6 and a whitespace byte, then width, height and maxval. Each number stands after whitespace and comments, if any, and is ended by
 // one whitespace byte; the one after maxval is the last byte before the pixels.
 use numbers::spelt;
+use rules::Depth;
 use scan::ByteKind;
 use scan::run_end;
 ghost use mathlib.Core.Path.{_≡_};
@@ -50,8 +51,6 @@ enum Field {
 }
 
 const MOST_SIZE: u64 = 2_147_483_647;
-
-const MOST_MAXVAL: u64 = 65_535;
 
 // ---- whitespace and comments
 
@@ -162,7 +161,7 @@ fn after_height(s: &[u8], width: u64, height: Count) -> Header
     ensures { λ r. ⌜ r ≡ afterHeight (now (s .entry)) width height ⌝ }
 {
     let at = height.next;
-    let field = field_at(s, at, MOST_MAXVAL, Part::Maxval);
+    let field = field_at(s, at, Depth::BITS_16 as u64, Part::Maxval);
     match field {
         Field::Lacks(fault) => Header::Wrong(fault),
         Field::Says(maxval) => Header::Stands(Frame {

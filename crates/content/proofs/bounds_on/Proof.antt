@@ -22,6 +22,9 @@ said c side =
     c .values-of .ensures _
     ∙ ap (λ o. values ParametersWrong DomainNumberWrong DomainNumberWrong o (λ x y z. Says (side (boundsAt x y z)))) (c .before .three-numbers .ensures)
 
+cast-three-numbers : tie.Need-cast-three-numbers
+cast-three-numbers c = search needs
+
 three-numbers-requires : tie.Need-three-numbers-requires
 three-numbers-requires c κs = search needs
 
@@ -49,6 +52,7 @@ pub bounds-on-spec : {M : Type 1} → statement M
 bounds-on-spec =
     tie.close
     (tie.spec
+    cast-three-numbers
     three-numbers-requires
     values-of-requires
     enum-known-t

@@ -18,6 +18,9 @@ said c =
     c .values-of .ensures _
     ∙ ap (λ o. values NotThreeNumbers SampleBeyond SampleTooFine o (λ x y z. Says (OfRow (rowOf x y z)))) (c .before .three-numbers .ensures)
 
+cast-three-numbers : tie.Need-cast-three-numbers
+cast-three-numbers c = search needs
+
 three-numbers-requires : tie.Need-three-numbers-requires
 three-numbers-requires c κs = search needs
 
@@ -44,6 +47,7 @@ pub row-on-spec : {M : Type 1} → statement M
 row-on-spec =
     tie.close
     (tie.spec
+    cast-three-numbers
     three-numbers-requires
     values-of-requires
     enum-known-t
