@@ -28,10 +28,11 @@ fn code_at(bytes: &[u8], wide: bool, i: usize) -> u16
     requires { ⌜ i < codeCount wide (length (now bytes)) ⌝ }
     ensures { λ r. ⌜ r ≡ getD (codesOf wide (now (bytes .entry))) i 0 ⌝ }
 {
-    if wide {
-        return joined(bytes[i * 2], bytes[i * 2 + 1]);
+    if !wide {
+        return joined(0, bytes[i]);
     }
-    joined(0, bytes[i])
+    let first = i * 2;
+    joined(bytes[first], bytes[first + 1])
 }
 
 // Puts the codes that bytes are at the start of `codes`, as many as there are and fit, and answers how many.
@@ -77,10 +78,11 @@ fn byte_at(codes: &[u16], wide: bool, i: usize) -> u8
     if !wide {
         return lesser_byte(codes[i]);
     }
+    let code = codes[i / 2];
     if i % 2 == 0 {
-        return greater_byte(codes[i / 2]);
+        return greater_byte(code);
     }
-    lesser_byte(codes[i / 2])
+    lesser_byte(code)
 }
 
 // Puts the bytes that codes are at the start of `bytes`, as many as there are and fit, and answers how many.
