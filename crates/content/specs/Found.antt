@@ -11,18 +11,18 @@ use Rattle.rules.specs.declared.Bounds.{Bounds}
 use Rattle.rules.specs.declared.Content.{Content}
 use Rattle.rules.specs.declared.Content.the-variants.{Says, Wrong}
 use Rattle.rules.specs.declared.Item.{Item}
-use Rattle.rules.specs.declared.Item.the-variants.{OfRow}
+use Rattle.rules.specs.declared.Item.the-variants.{OfLower, OfRow, OfUpper}
 use Rattle.rules.specs.declared.Number.{Number}
 use Rattle.rules.specs.declared.Number.the-variants.{Value, Malformed, Beyond, Finer}
 use Rattle.rules.specs.declared.Refusal.{Refusal}
 use Rattle.rules.specs.declared.Three.{Three}
-use Rattle.content.specs.declared.BoundsFound.{BoundsFound}
-use Rattle.content.specs.declared.BoundsFound.the-variants.{AllBounds, NoBounds}
 use Rattle.content.specs.declared.Complaints.{Complaints}
 use Rattle.content.specs.declared.NextNumber.{NextNumber}
 use Rattle.content.specs.declared.NextNumber.the-variants.{ANumber, Nothing}
 use Rattle.content.specs.declared.RowFound.{RowFound}
 use Rattle.content.specs.declared.RowFound.the-variants.{ARow, NoRow}
+use Rattle.content.specs.declared.Side.{Side}
+use Rattle.content.specs.declared.Side.the-variants.{Lower, Upper}
 use Rattle.content.specs.declared.ThreeFound.{ThreeFound}
 use Rattle.content.specs.declared.ThreeFound.the-variants.{Found, NotThree}
 use Rattle.content.specs.declared.Values.{Values}
@@ -57,10 +57,10 @@ abbrev pub sayValues : Values → (ℤ → ℤ → ℤ → Content) → Content
 sayValues (All t) next = next (t .x) (t .y) (t .z)
 sayValues (Fault r) next = Wrong r
 
--- what three bounds say, as the lower or the upper ones, or their refusal
-abbrev pub sayBounds : BoundsFound → (Bounds → Item) → Content
-sayBounds (AllBounds b) side = Says (side b)
-sayBounds (NoBounds r) side = Wrong r
+-- bounds as the lower or the upper ones
+abbrev pub itemOf : Side → Bounds → Item
+itemOf Lower = OfLower
+itemOf Upper = OfUpper
 
 -- what a row says, or its refusal
 abbrev pub sayRow : RowFound → Content

@@ -29,12 +29,9 @@ ghost use lib.ListN.{length, drop};
 ghost use Rattle.numbers.specs.Cuts.{mostLimit, mostPlaces};
 ghost use Rattle.rules.specs.Reading.Lines.{lineLimit, wordsOf};
 ghost use Rattle.rules.specs.Reading.Contents.{formed, threeOf, values, boundsOf, samplesOn, sizeOf, parameters, contentBy};
-ghost use Rattle.rules.specs.declared.Bounds.{Bounds};
 ghost use Rattle.rules.specs.declared.Content.{Content};
 ghost use Rattle.rules.specs.declared.Form.the-variants.{Keyed};
-ghost use Rattle.rules.specs.declared.Item.{Item};
-ghost use Rattle.rules.specs.declared.Item.the-variants.{OfLower, OfUpper};
-ghost use Rattle.content.specs.Found.{NextFrom, complaintOf, foundThree, sayValues, sayBounds, sayRow};
+ghost use Rattle.content.specs.Found.{NextFrom, complaintOf, foundThree, itemOf, sayRow, sayValues};
 
 // ---- three numbers
 
@@ -172,12 +169,55 @@ fn values_of(three: ThreeFound, complaints: Complaints) -> Values
     Values::All(Triple { x, y, z })
 }
 
+// The values of the three numbers that stand from a place on.
+fn values_on(l: &[u8], from: usize, places: usize, limit: u64, complaints: Complaints) -> Values
+    requires { ⌜ (length (now l) ≤ lineLimit) × (from ≤ length (now l)) ⌝ }
+    requires { ⌜ (places ≤ mostPlaces) × (limit ≤ mostLimit) ⌝ }
+    ensures { λ r. ⌜ ((next : ℤ → ℤ → ℤ → Content) → sayValues r next ≡ values (complaints .unformed) (complaints .beyond) (complaints .finer) (threeOf places limit (wordsOf (drop from (now (l .entry))))) next) ⌝ }
+{
+    values_of(three_numbers(l, from, places, limit), complaints)
+}
+
 // ---- bounds and samples
 
-// Three bounds, or why there are none.
-pub enum BoundsFound {
-    AllBounds(Bounds),
-    NoBounds(Refusal),
+// Which of the bounds a line gives.
+enum Side {
+    Lower,
+    Upper,
+}
+
+// Bounds as a line gives them.
+fn bounds_item(side: Side, bounds: Bounds) -> Item
+    ensures { λ r. ⌜ r ≡ itemOf side bounds ⌝ }
+{
+    match side {
+        Side::Lower => Item::OfLower(bounds),
+        Side::Upper => Item::OfUpper(bounds),
+    }
+}
+
+// The three bounds that stand from a place on.
+fn bounds_on(side: Side, l: &[u8], from: usize) -> Content
+    requires { ⌜ (length (now l) ≤ lineLimit) × (from ≤ length (now l)) ⌝ }
+    ensures { λ r. ⌜ r ≡ boundsOf (itemOf side) (wordsOf (drop from (now (l .entry)))) ⌝ }
+{
+    let complaints = Complaints {
+        unformed: Refusal::ParametersWrong,
+        beyond: Refusal::DomainNumberWrong,
+        finer: Refusal::DomainNumberWrong,
+    };
+    let limit = Thousandths::GREATEST as u64;
+    match values_on(l, from, Thousandths::PLACES, limit, complaints) {
+        Values::All(t) => Content::Says(bounds_item(
+            side,
+            Bounds {
+                red: Thousandths(t.x),
+                green: Thousandths(t.y),
+                blue: Thousandths(t.z),
+            },
+        )),
+        Values::Fault(r) => Content::Wrong(r),
+    }
 }
 
 // A row, or why there is none.
@@ -186,39 +226,18 @@ pub enum RowFound {
     NoRow(Refusal),
 }
 
-// The three bounds that stand from a place on.
-fn bounds_on(l: &[u8], from: usize) -> BoundsFound
-    requires { ⌜ (length (now l) ≤ lineLimit) × (from ≤ length (now l)) ⌝ }
-    ensures { λ r. ⌜ ((side : Bounds → Item) → sayBounds r side ≡ boundsOf side (wordsOf (drop from (now (l .entry))))) ⌝ }
-{
-    let three = three_numbers(l, from, Thousandths::PLACES, Thousandths::GREATEST as u64);
-    let complaints = Complaints {
-        unformed: Refusal::ParametersWrong,
-        beyond: Refusal::DomainNumberWrong,
-        finer: Refusal::DomainNumberWrong,
-    };
-    match values_of(three, complaints) {
-        Values::All(t) => BoundsFound::AllBounds(Bounds {
-            red: Thousandths(t.x),
-            green: Thousandths(t.y),
-            blue: Thousandths(t.z),
-        }),
-        Values::Fault(r) => BoundsFound::NoBounds(r),
-    }
-}
-
 // The row of a data line.
 pub fn row_on(l: &[u8]) -> RowFound
     requires { ⌜ length (now l) ≤ lineLimit ⌝ }
     ensures { λ r. ⌜ sayRow r ≡ samplesOn (wordsOf (now (l .entry))) ⌝ }
 {
-    let three = three_numbers(l, 0, TenMillionths::PLACES, TenMillionths::GREATEST as u64);
     let complaints = Complaints {
         unformed: Refusal::NotThreeNumbers,
         beyond: Refusal::SampleBeyond,
         finer: Refusal::SampleTooFine,
     };
-    match values_of(three, complaints) {
+    let limit = TenMillionths::GREATEST as u64;
+    match values_on(l, 0, TenMillionths::PLACES, limit, complaints) {
         Values::All(t) => RowFound::ARow(Row {
             red: TenMillionths(t.x),
             green: TenMillionths(t.y),
@@ -272,26 +291,6 @@ fn after_first_word(l: &[u8]) -> usize
     end
 }
 
-// What bounds say as the lower ones.
-fn as_lower(found: BoundsFound) -> Content
-    ensures { λ r. ⌜ r ≡ sayBounds found OfLower ⌝ }
-{
-    match found {
-        BoundsFound::AllBounds(b) => Content::Says(Item::OfLower(b)),
-        BoundsFound::NoBounds(r) => Content::Wrong(r),
-    }
-}
-
-// What bounds say as the upper ones.
-fn as_upper(found: BoundsFound) -> Content
-    ensures { λ r. ⌜ r ≡ sayBounds found OfUpper ⌝ }
-{
-    match found {
-        BoundsFound::AllBounds(b) => Content::Says(Item::OfUpper(b)),
-        BoundsFound::NoBounds(r) => Content::Wrong(r),
-    }
-}
-
 // What a row says.
 fn as_row(found: RowFound) -> Content
     ensures { λ r. ⌜ r ≡ sayRow found ⌝ }
@@ -310,8 +309,8 @@ fn keyed_content(keyword: Keyword, l: &[u8], place: usize) -> Content
     let rest = after_first_word(l);
     match keyword {
         Keyword::ATitle => title_of(l, place),
-        Keyword::ALower => as_lower(bounds_on(l, rest)),
-        Keyword::AnUpper => as_upper(bounds_on(l, rest)),
+        Keyword::ALower => bounds_on(Side::Lower, l, rest),
+        Keyword::AnUpper => bounds_on(Side::Upper, l, rest),
         Keyword::ASize(kind) => size_on(kind, l, rest),
     }
 }
