@@ -9,7 +9,7 @@ ghost use mathlib.Core.Bool.{false};
 ghost use Prim.Native.Nat.{_≤_};
 ghost use lib.ListN.{length};
 ghost use Rattle.numbers.specs.Cuts.{mostLimit};
-ghost use Rattle.ppm.specs.Header.{whitespace, goesOn, commentAfter, gapEnd, startsP6, fieldAt, EndsWithin, headerOf, afterWidth, afterHeight};
+ghost use Rattle.ppm.specs.Header.{whitespace, goesOn, commentAfter, gapEnd, startsP6, fieldBetween, fieldAt, EndsWithin, headerOf, afterWidth, afterHeight};
 
 // The numbers of a header, in their order.
 pub enum Part {
@@ -114,14 +114,12 @@ fn gap_end(s: &[u8], from: usize) -> usize
 
 // ---- a number
 
-// The number from a place on.
-fn field_at(s: &[u8], from: usize, limit: u64, part: Part) -> Field
-    requires { ⌜ (from ≤ length (now s)) × (limit ≤ mostLimit) ⌝ }
-    ensures says { λ r. ⌜ r ≡ fieldAt part limit (now (s .entry)) from ⌝ }
+// The number whose digits stand from a start to an end: a whitespace byte ends it, and it is within the limit.
+fn field_between(s: &[u8], start: usize, end: usize, limit: u64, part: Part) -> Field
+    requires { ⌜ (start ≤ end) × (end ≤ length (now s)) × (limit ≤ mostLimit) ⌝ }
+    ensures says { λ r. ⌜ r ≡ fieldBetween part limit (now (s .entry)) start end ⌝ }
     ensures within { λ r. ⌜ EndsWithin (now (s .entry)) r ⌝ }
 {
-    let start = gap_end(s, from);
-    let end = run_end(s, start, ByteKind::Digit);
     if end == s.len() {
         return Field::Lacks(Fault::EndsEarly);
     }
@@ -137,6 +135,17 @@ fn field_at(s: &[u8], from: usize, limit: u64, part: Part) -> Field
     }
     let next = end + 1;
     Field::Says(Count { value, next })
+}
+
+// The number from a place on.
+fn field_at(s: &[u8], from: usize, limit: u64, part: Part) -> Field
+    requires { ⌜ (from ≤ length (now s)) × (limit ≤ mostLimit) ⌝ }
+    ensures says { λ r. ⌜ r ≡ fieldAt part limit (now (s .entry)) from ⌝ }
+    ensures within { λ r. ⌜ EndsWithin (now (s .entry)) r ⌝ }
+{
+    let start = gap_end(s, from);
+    let end = run_end(s, start, ByteKind::Digit);
+    field_between(s, start, end, limit, part)
 }
 
 // ---- the header
