@@ -12,11 +12,6 @@ use Rattle.rules.specs.Reading.Numbers.{unsigned}
 -- ---- the first byte
 
 module _ (kind : ℕ → Bool) where
-  pub starts-empty : (w : List ℕ) → length w ≡ 0 → starts kind w ≡ false
-  unfolding starts
-  starts-empty [] h = refl
-  starts-empty (b ∷ rest) h = absurd (omega arith)
-
   -- a byte that stands first takes a place
   pub starts-room : (w : List ℕ) → boolByte (starts kind w) ≤ length w
   unfolding starts

@@ -97,7 +97,12 @@ module _ (kind : ℕ → Bool) where
       split true ih = rw eqb·suc-suc ih
       split false ih = rw eqb·zero-suc
 
-  -- the first byte
+  -- the first byte, where there is one
+  pub starts-empty : (l : List ℕ) → length l ≡ 0 → starts kind l ≡ false
+  unfolding starts
+  starts-empty [] h = refl
+  starts-empty (b ∷ rest) h = absurd (omega arith)
+
   pub starts-first : (l : List ℕ) → (length l ≡ 0 → ⊥) → starts kind l ≡ kind (getD l 0 0)
   unfolding starts
   starts-first [] h = absurd (h refl)
