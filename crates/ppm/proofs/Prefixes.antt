@@ -120,44 +120,37 @@ abbrev StandsFrom : (List ℕ → Header) → List ℕ → ℕ → Frame → Typ
 StandsFrom says s p f = (p ≤ f .pixels) × ((m : ℕ) → f .pixels ≤ m → says (take m s) ≡ Stands f)
 
 module _ (s : List ℕ) (f : Frame) where
+  -- a number that is found, and what it is followed by
+  number-stands : (part : Part) (limit p : ℕ) (next : List ℕ → Field → Header) → ((fault : Fault) → next s (Lacks fault) ≡ Wrong fault)
+      → ((number : Count) → next s (Says number) ≡ Stands f → StandsFrom (λ l. next l (Says number)) s (number .next) f)
+      → next s (fieldAt part limit s p) ≡ Stands f → StandsFrom (λ l. next l (fieldAt part limit l p)) s p f
+  number-stands part limit p next lacks later e = by (fieldAt part limit s p) refl e
+    where
+      by : (found : Field) → fieldAt part limit s p ≡ found → next s found ≡ Stands f → StandsFrom (λ l. next l (fieldAt part limit l p)) s p f
+      by (Lacks fault) g e = absurd (never fault f (sym (lacks fault) ∙ e))
+      by (Says number) g e =
+          let rest = later number e in (
+            omega (arith, rest .0, field-first part limit s p (number .next) number g (omega arith) .0),
+            λ m h. ap (next (take m s)) (field-first part limit s p m number g (omega (arith, rest .0)) .1) ∙ rest .1 m h,
+          )
+
   height-first : (width : ℕ) (height : Count) → afterHeight s width height ≡ Stands f → StandsFrom (λ l. afterHeight l width height) s (height .next) f
   unfolding afterHeight withMaxval
-  height-first width height e = by (fieldAt Maxval mostMaxval s (height .next)) refl e
+  height-first width height = number-stands Maxval mostMaxval (height .next) (λ l. withMaxval width (height .value)) (λ fault. refl) pixels-next
     where
-      by : (found : Field) → fieldAt Maxval mostMaxval s (height .next) ≡ found → withMaxval width (height .value) found ≡ Stands f
-          → StandsFrom (λ l. withMaxval width (height .value) (fieldAt Maxval mostMaxval l (height .next))) s (height .next) f
-      by (Lacks fault) g e = absurd (never fault f e)
-      by (Says maxval) g e =
+      pixels-next : (maxval : Count) → withMaxval width (height .value) (Says maxval) ≡ Stands f → StandsFrom (λ l. withMaxval width (height .value) (Says maxval)) s (maxval .next) f
+      pixels-next maxval e =
           let frame : _≡_ {A = Frame} (record { width = width; height = height .value; maxval = maxval .value; pixels = maxval .next }) f = cc in
-          let pixels : maxval .next ≡ f .pixels = ap (λ x. x .pixels) frame in (
-            omega (arith, field-first Maxval mostMaxval s (height .next) (maxval .next) maxval g (omega arith) .0),
-            λ m h. ap (withMaxval width (height .value)) (field-first Maxval mostMaxval s (height .next) m maxval g (omega arith) .1) ∙ e,
-          )
+          let pixels : maxval .next ≡ f .pixels = ap (λ x. x .pixels) frame in
+          (omega arith, λ m h. e)
 
   width-first : (width : Count) → afterWidth s width ≡ Stands f → StandsFrom (λ l. afterWidth l width) s (width .next) f
   unfolding afterWidth withHeight
-  width-first width e = by (fieldAt Height mostSize s (width .next)) refl e
-    where
-      by : (found : Field) → fieldAt Height mostSize s (width .next) ≡ found → withHeight s (width .value) found ≡ Stands f
-          → StandsFrom (λ l. withHeight l (width .value) (fieldAt Height mostSize l (width .next))) s (width .next) f
-      by (Lacks fault) g e = absurd (never fault f e)
-      by (Says height) g e =
-          let later = height-first (width .value) height e in (
-            omega (arith, later .0, field-first Height mostSize s (width .next) (height .next) height g (omega arith) .0),
-            λ m h. ap (withHeight (take m s) (width .value)) (field-first Height mostSize s (width .next) m height g (omega (arith, later .0)) .1) ∙ later .1 m h,
-          )
+  width-first width = number-stands Height mostSize (width .next) (λ l. withHeight l (width .value)) (λ fault. refl) (height-first (width .value))
 
   fields-first : withWidth s (fieldAt Width mostSize s 3) ≡ Stands f → StandsFrom (λ l. withWidth l (fieldAt Width mostSize l 3)) s 3 f
   unfolding withWidth
-  fields-first e = by (fieldAt Width mostSize s 3) refl e
-    where
-      by : (found : Field) → fieldAt Width mostSize s 3 ≡ found → withWidth s found ≡ Stands f → StandsFrom (λ l. withWidth l (fieldAt Width mostSize l 3)) s 3 f
-      by (Lacks fault) g e = absurd (never fault f e)
-      by (Says width) g e =
-          let later = width-first width e in (
-            omega (arith, later .0, field-first Width mostSize s 3 (width .next) width g (omega arith) .0),
-            λ m h. ap (withWidth (take m s)) (field-first Width mostSize s 3 m width g (omega (arith, later .0)) .1) ∙ later .1 m h,
-          )
+  fields-first = number-stands Width mostSize 3 withWidth (λ fault. refl) width-first
 
   -- a header that stands, stands in the bytes before its pixels
   pub header-first : headerOf s ≡ Stands f → headerOf (take (f .pixels) s) ≡ Stands f
