@@ -1,22 +1,22 @@
--- The run's length is what the scan has passed and the run from there: one byte of the kind changes nothing in that, another byte or the end leaves no more.
+-- The run ends where the run from the place that the scan has come to does: a byte of the kind changes nothing in that, another byte or the end leaves no more.
 use denote.Ref.{now}
 use Prim.Native.Nat.{_≤_, _-_}
 use mathlib.Core.Path.{_≡_, sym, _∙_}
 use lib.ListN.{length}
 use borrow.Author.Tests.{not-true, not-false}
-use Rattle.rules.specs.Reading.Lines.{run}
 use Rattle.scan.specs.Kinds.{kindOf}
-use Rattle.scan.proofs.Runs.{runFrom, run-more, run-stop, run-end}
+use Rattle.scan.specs.RunEnds.{runEnd}
+use Rattle.scan.proofs.Runs.{run-more, run-over, run-stop}
 use borrow.Author.Needs.{needs}
 use native.Mathlib.Omega.{arith}
-use Rattle.scan.proofs.run_length.Statement.{statement}
-use Rattle.scan.proofs.run_length.Tie as tie
+use Rattle.scan.proofs.run_end.Statement.{statement}
+use Rattle.scan.proofs.run_end.Tie as tie
 
 abbrev Inv-loop : tie.InvT-loop
-Inv-loop s k i₀ i = (i ≤ length s) × (length (run (kindOf k) s) ≡ runFrom (kindOf k) s i)
+Inv-loop s from k i₀ i = (i ≤ length s) × (runEnd (kindOf k) s from ≡ runEnd (kindOf k) s i)
 
 abbrev μ-loop : tie.MeasureT-loop
-μ-loop s k i₀ i = length s - i
+μ-loop s from k i₀ i = length s - i
 
 loop-holds : tie.Need-loop-holds Inv-loop μ-loop
 loop-holds c = search needs
@@ -48,10 +48,10 @@ loop-again c =
 returns-2 : tie.Need-returns-2 Inv-loop μ-loop
 returns-2 c =
     let a = c .before .before .before .args in
-    (sym (c .before .loop .inv .1 ∙ run-end (kindOf (a .k)) (now (a .s)) _ (omega arith)), omega arith)
+    (sym (c .before .loop .inv .1 ∙ run-over (kindOf (a .k)) (now (a .s)) _ (omega arith)), omega arith)
 
-pub run-length-spec : {M : Type 1} → statement M
-run-length-spec =
+pub run-end-spec : {M : Type 1} → statement M
+run-end-spec =
     tie.close
     (tie.spec
     Inv-loop
