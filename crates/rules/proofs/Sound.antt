@@ -35,10 +35,6 @@ pub rows-most : (k : Kind) (n : ℕ) → n ≤ greatestN k → rowsOf k n ≤ ro
 rows-most OneD n h = omega arith
 rows-most ThreeD n h = mul-le-mul (mul-le-mul h h) h
 
-pub greatest-most : (k : Kind) → greatestN k ≤ 65_536
-greatest-most OneD = omega arith
-greatest-most ThreeD = omega arith
-
 -- ---- a domain by itself
 
 module _ (dom : Domain) where
