@@ -2,7 +2,7 @@
 use codes::cube_codes;
 use codes::line_codes;
 use judge::could_be_read;
-use plan::Plan;
+pub use plan::Plan;
 pub use plan::plan_of;
 pub use rows::den_of;
 pub use rows::row_code;

@@ -10,8 +10,7 @@ ghost use Prim.Native.Nat.{_≤_};
 ghost use lib.IntN.{pos, natAbs, _*ℤ_};
 ghost use Rattle.rules.specs.Units.{sampleLimit};
 ghost use Rattle.rules.specs.Descriptions.{width, DomainFits};
-ghost use Rattle.colour.specs.Plans.{Readable};
-ghost use Rattle.colour.specs.Plans.{axisOf, planOf};
+ghost use Rattle.colour.specs.Plans.{axisOf, planOf, Readable};
 
 // One colour's axis.
 pub struct Axis {

@@ -16,14 +16,14 @@ abbrev μ-loop : tie.MeasureT-loop
 loop-holds : tie.Need-loop-holds Inv-loop μ-loop
 loop-holds c = (search needs, none-passed _)
 
-mul-greater : tie.Need-mul-greater Inv-loop μ-loop
-mul-greater c = search needs
+mul-greater-code : tie.Need-mul-greater-code Inv-loop μ-loop
+mul-greater-code c = search needs
 
-shared-slice-read-greater : tie.Need-shared-slice-read-greater Inv-loop μ-loop
-shared-slice-read-greater c = search needs
+shared-slice-read-greater-code : tie.Need-shared-slice-read-greater-code Inv-loop μ-loop
+shared-slice-read-greater-code c = search needs
 
-greater-requires : tie.Need-greater-requires Inv-loop μ-loop
-greater-requires c κs = search needs
+greater-code-requires : tie.Need-greater-code-requires Inv-loop μ-loop
+greater-code-requires c κs = search needs
 
 add-i : tie.Need-add-i Inv-loop μ-loop
 add-i c = search needs
@@ -34,7 +34,7 @@ loop-less c = search needs
 loop-again : tie.Need-loop-again Inv-loop μ-loop
 loop-again c =
     let l = c .before .before .before in
-    (search needs, rw (c .greater .ensures) (one-more (l .before .before .args .codes .now) (l .loop .i) (l .loop .most) (omega arith) (l .loop .inv .1)))
+    (search needs, rw (c .greater-code .ensures) (one-more (l .before .before .args .codes .now) (l .loop .i) (l .loop .most) (omega arith) (l .loop .inv .1)))
 
 returns : tie.Need-returns Inv-loop μ-loop
 returns c = let l = c .before .loop in all-passed _ (l .i) (l .most) (omega arith) (l .inv .1)
@@ -46,9 +46,9 @@ greatest-spec =
     Inv-loop
     μ-loop
     loop-holds
-    mul-greater
-    shared-slice-read-greater
-    greater-requires
+    mul-greater-code
+    shared-slice-read-greater-code
+    greater-code-requires
     add-i
     loop-less
     loop-again

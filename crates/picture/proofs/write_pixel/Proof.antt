@@ -4,9 +4,8 @@ use Prim.Native.Nat.{suc, _+_}
 use native.Mathlib.Omega.{arith}
 use borrow.Author.Needs.{needs}
 use lib.ListN.{length-set}
-use lib.Seq.{sets-eq}
 use Rattle.rules.specs.Answers.{codesOf}
-use Rattle.picture.specs.Filling.{written}
+use Rattle.rules.proofs.Memory.{stores-splice}
 use Rattle.picture.proofs.write_pixel.Statement.{statement}
 use Rattle.picture.proofs.write_pixel.Tie as tie
 
@@ -38,12 +37,11 @@ same-length : tie.Need-same-length
 same-length c = search needs
 
 returns : tie.Need-returns
-unfolding written
 returns c =
     let at = c .args .at in
     let one : at + 1 ≡ suc at = omega arith in
     let two : at + 2 ≡ suc (suc at) = omega arith in
-    rw (one, two) (sets-eq (codesOf (c .args .pixel)) (c .args .dst .now) at (omega arith))
+    rw (one, two) (stores-splice (c .args .dst .now) at (codesOf (c .args .pixel)) (omega arith))
 
 pub write-pixel-spec : {M : Type 1} → statement M
 write-pixel-spec =
