@@ -67,9 +67,9 @@ module _ (codeOf : ℕ → ℕ) (m : ℕ) where
       let w = wider s (spanOf codeOf m ss) in
       (λ p. omega (arith, w .own-high (carrying s p)), greatest-above a ss (omega (arith, w .higher)))
 
-right-between : {d : Description} {table : List ℤ} {depth : Depth} {pixel codes : Codes} {shares : Shares} {c : Colour} → LookRight d table (sameDepth depth) pixel codes shares c
+right-between : (d : Description) (table : List ℤ) (depth : Depth) (pixel codes : Codes) (shares : Shares) (c : Colour) → LookRight d table (sameDepth depth) pixel codes shares c
     → let span = shownSpan d table (depth .greatest) shares c in (span .least ≤ codeIn codes c) × (codeIn codes c ≤ span .greatest)
-right-between {d} {table} {depth} {pixel} {codes} {shares} {c} r =
+right-between d table depth pixel codes shares c r =
     let m = depth .greatest in
     let f = rowCode m (denOf d m c) table c in
     let ss = used (d .kind) c shares in
@@ -109,4 +109,4 @@ module _ {d : Description} {table : List ℤ} {bits : ℕ} {pixel : Codes} {r : 
 
   -- no colour's code lies outside the codes that are shown beside it
   pub code-between : (c : Colour) → let span = shownSpan d table (depth .greatest) shares c in (span .least ≤ codeIn codes c) × (codeIn codes c ≤ span .greatest)
-  code-between c = right-between (right c)
+  code-between c = right-between d table depth pixel codes shares c (right c)
