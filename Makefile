@@ -3,13 +3,13 @@
 .PHONY: test demo fuzz bench
 
 test:
-	@bash tests/run
+	@tests/run
 
 demo:
-	@bash tests/demo
+	@tests/demo
 
 fuzz:
-	@bash tests/fuzz $(SECONDS)
+	@tests/fuzz $(SECONDS)
 
 bench:
-	@bash tests/bench/run
+	@tests/bench/run

@@ -13,26 +13,23 @@ use Rattle.rules.specs.Reading.Contents.{sizeOf}
 use Rattle.rules.specs.declared.Content.the-variants.{Says, Wrong}
 use Rattle.rules.specs.declared.Item.the-variants.{OfSize}
 use Rattle.rules.specs.declared.Kind.{Kind}
-use Rattle.rules.specs.declared.Kind.the-variants.{OneD, ThreeD}
+use Rattle.rules.specs.declared.Kind.the-variants.{OneD}
 use Rattle.rules.specs.declared.Refusal.the-variants.{ParametersWrong, SizeOutOfRange}
+use Rattle.rules.proofs.Sound.{greatest-most}
 use Rattle.rules.proofs.Tests.{and-both}
 use Rattle.numbers.specs.Cuts.{kept}
-
-greatest-most : (k : Kind) → greatestN k ≤ 65_536
-greatest-most OneD = omega arith
-greatest-most ThreeD = omega arith
 
 module _ (k : Kind) (w : List ℕ) where
   pub no-digits : digits w ≡ false → sizeOf k (w ∷ []) ≡ Wrong ParametersWrong
   unfolding sizeOf
   no-digits d = rw d
 
-  module _ (d : digits w ≡ true) (n : ℕ) (e : n ≡ kept 65_536 (spell 0 w)) where
+  module _ (d : digits w ≡ true) (n : ℕ) (e : n ≡ kept (greatestN OneD) (spell 0 w)) where
     -- N is in range as what is kept of it is
     same-range : inRange k n ≡ inRange k (spell 0 w)
-    same-range = by (decLe (spell 0 w) 65_536)
+    same-range = by (decLe (spell 0 w) (greatestN OneD))
       where
-        by : Dec (spell 0 w ≤ 65_536) → inRange k n ≡ inRange k (spell 0 w)
+        by : Dec (spell 0 w ≤ greatestN OneD) → inRange k n ≡ inRange k (spell 0 w)
         by (yes h) = let s : n ≡ spell 0 w = omega arith in ap (inRange k) s
         by (no h) =
             rw (lt-leb n (greatestN k) (omega (arith, greatest-most k)), lt-leb (spell 0 w) (greatestN k) (omega (arith, greatest-most k)), and-false, and-false)

@@ -1,41 +1,32 @@
--- What the words from a place on say as three numbers, by where they were found: none where they are too few or too many, else the three that the words say.
-use Prim.Native.Nat.{ℕ, _-_}
+-- What the words from a place on say as three numbers, by those found one after another: none where they are too few or too many, else the three.
+use Prim.Native.Nat.{ℕ}
 use mathlib.Core.Path.{_≡_}
 use mathlib.Core.Bool.{cond, _&&_}
 use mathlib.Core.List.{List, []}
-use mathlib.Core.Option.{Option, none, some}
-use lib.ListN.{take, drop}
+use mathlib.Core.Option.{none, some}
+use lib.ListN.{drop}
 use Rattle.rules.specs.Reading.Lines.{wordsOf}
-use Rattle.rules.specs.Reading.Numbers.{numberOf}
 use Rattle.rules.specs.Reading.Contents.{formed, threeOf}
 use Rattle.rules.specs.declared.Number.{Number}
-use Rattle.rules.specs.declared.Three.{Three}
 use Rattle.text.proofs.WordsFrom.{WordFound}
+use Rattle.content.specs.Found.{NumberFrom}
 
-module _ (places limit : ℕ) where
-  pub no-word : (ws : List (List ℕ)) → ws ≡ [] → threeOf places limit ws ≡ none
+module _ {places limit : ℕ} {l : List ℕ} {from a : ℕ} {x : Number} (first : NumberFrom places limit l from x a) where
+  pub one-word : wordsOf (drop a l) ≡ [] → none ≡ threeOf places limit (wordsOf (drop from l))
   unfolding threeOf
-  no-word ws n = rw n
+  one-word end = rw (first .words, end)
 
-  pub one-word : {l : List ℕ} {from a b : ℕ} → WordFound l from a b → wordsOf (drop b l) ≡ [] → threeOf places limit (wordsOf (drop from l)) ≡ none
-  unfolding threeOf
-  one-word u n = rw (u .words, n)
-
-  module _ {l : List ℕ} {from a b c d : ℕ} (u : WordFound l from a b) (v : WordFound l b c d) where
-    pub two-words : wordsOf (drop d l) ≡ [] → threeOf places limit (wordsOf (drop from l)) ≡ none
+  module _ {b : ℕ} {y : Number} (second : NumberFrom places limit l a y b) where
+    pub two-words : wordsOf (drop b l) ≡ [] → none ≡ threeOf places limit (wordsOf (drop from l))
     unfolding threeOf
-    two-words n = rw (u .words, v .words, n)
+    two-words end = rw (first .words, second .words, end)
 
-    module _ {e f : ℕ} (w : WordFound l d e f) where
-      pub more-words : {g h : ℕ} → WordFound l f g h → threeOf places limit (wordsOf (drop from l)) ≡ none
+    module _ {c : ℕ} {z : Number} (third : NumberFrom places limit l b z c) where
+      pub more-words : {d e : ℕ} → WordFound l c d e → none ≡ threeOf places limit (wordsOf (drop from l))
       unfolding threeOf
-      more-words x = rw (u .words, v .words, w .words, x .words)
+      more-words fourth = rw (first .words, second .words, third .words, fourth .words)
 
-      pub three-words : wordsOf (drop f l) ≡ [] → (x y z : Number)
-          → x ≡ numberOf places limit (take (b - a) (drop a l))
-          → y ≡ numberOf places limit (take (d - c) (drop c l))
-          → z ≡ numberOf places limit (take (f - e) (drop e l))
-          → (found : Option Three) → found ≡ cond (formed x && (formed y && formed z)) (some (record { first = x; second = y; third = z })) none
-          → threeOf places limit (wordsOf (drop from l)) ≡ found
+      pub three-words : wordsOf (drop c l) ≡ []
+          → cond (formed x && (formed y && formed z)) (some (record { first = x; second = y; third = z })) none ≡ threeOf places limit (wordsOf (drop from l))
       unfolding threeOf
-      three-words n x y z p q r found g = rw (u .words, v .words, w .words, n, ← p, ← q, ← r, g)
+      three-words end = rw (first .words, second .words, third .words, end, first .says, second .says, third .says)

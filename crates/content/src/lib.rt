@@ -29,12 +29,9 @@ ghost use lib.ListN.{length, drop};
 ghost use Rattle.numbers.specs.Cuts.{mostLimit, mostPlaces};
 ghost use Rattle.rules.specs.Reading.Lines.{lineLimit, wordsOf};
 ghost use Rattle.rules.specs.Reading.Contents.{formed, threeOf, values, boundsOf, samplesOn, sizeOf, parameters, contentBy};
-ghost use Rattle.rules.specs.declared.Bounds.{Bounds};
 ghost use Rattle.rules.specs.declared.Content.{Content};
 ghost use Rattle.rules.specs.declared.Form.the-variants.{Keyed};
-ghost use Rattle.rules.specs.declared.Item.{Item};
-ghost use Rattle.rules.specs.declared.Item.the-variants.{OfLower, OfUpper};
-ghost use Rattle.content.specs.Found.{complaintOf, foundThree, sayValues, sayBounds, sayRow};
+ghost use Rattle.content.specs.Found.{NextFrom, complaintOf, foundThree, itemOf, sayRow, sayValues};
 
 // ---- three numbers
 
@@ -76,27 +73,43 @@ fn three_formed(first: Number, second: Number, third: Number) -> ThreeFound
     })
 }
 
+// What a word says as a number, and where the word ends.
+enum NextNumber {
+    ANumber(Number, usize),
+    Nothing,
+}
+
+// The first word from a place on as a number.
+fn next_number(l: &[u8], from: usize, places: usize, limit: u64) -> NextNumber
+    requires { ⌜ (length (now l) ≤ lineLimit) × (from ≤ length (now l)) ⌝ }
+    requires { ⌜ (places ≤ mostPlaces) × (limit ≤ mostLimit) ⌝ }
+    ensures { λ r. ⌜ NextFrom places limit (now (l .entry)) from r ⌝ }
+{
+    let Word::At { start, end } = next_word(l, from) else {
+        return NextNumber::Nothing;
+    };
+    let number = number_of(&l[start..end], places, limit);
+    NextNumber::ANumber(number, end)
+}
+
 // Three words from a place on, each a number, and no word more.
 fn three_numbers(l: &[u8], from: usize, places: usize, limit: u64) -> ThreeFound
     requires { ⌜ (length (now l) ≤ lineLimit) × (from ≤ length (now l)) ⌝ }
     requires { ⌜ (places ≤ mostPlaces) × (limit ≤ mostLimit) ⌝ }
     ensures { λ r. ⌜ foundThree r ≡ threeOf places limit (wordsOf (drop from (now (l .entry)))) ⌝ }
 {
-    let Word::At { start: a, end: b } = next_word(l, from) else {
+    let NextNumber::ANumber(first, a) = next_number(l, from, places, limit) else {
         return ThreeFound::NotThree;
     };
-    let Word::At { start: c, end: d } = next_word(l, b) else {
+    let NextNumber::ANumber(second, b) = next_number(l, a, places, limit) else {
         return ThreeFound::NotThree;
     };
-    let Word::At { start: e, end: f } = next_word(l, d) else {
+    let NextNumber::ANumber(third, c) = next_number(l, b, places, limit) else {
         return ThreeFound::NotThree;
     };
-    let Word::Nothing = next_word(l, f) else {
+    let Word::Nothing = next_word(l, c) else {
         return ThreeFound::NotThree;
     };
-    let first = number_of(&l[a..b], places, limit);
-    let second = number_of(&l[c..d], places, limit);
-    let third = number_of(&l[e..f], places, limit);
     three_formed(first, second, third)
 }
 
@@ -156,22 +169,55 @@ fn values_of(three: ThreeFound, complaints: Complaints) -> Values
     Values::All(Triple { x, y, z })
 }
 
+// The values of the three numbers that stand from a place on.
+fn values_on(l: &[u8], from: usize, places: usize, limit: u64, complaints: Complaints) -> Values
+    requires { ⌜ (length (now l) ≤ lineLimit) × (from ≤ length (now l)) ⌝ }
+    requires { ⌜ (places ≤ mostPlaces) × (limit ≤ mostLimit) ⌝ }
+    ensures { λ r. ⌜ ((next : ℤ → ℤ → ℤ → Content) → sayValues r next ≡ values (complaints .unformed) (complaints .beyond) (complaints .finer) (threeOf places limit (wordsOf (drop from (now (l .entry))))) next) ⌝ }
+{
+    values_of(three_numbers(l, from, places, limit), complaints)
+}
+
 // ---- bounds and samples
 
-// Domain bounds are kept in thousandths and lie from -10 to 10.
-const BOUND_PLACES: usize = 3;
+// Which of the bounds a line gives.
+enum Side {
+    Lower,
+    Upper,
+}
 
-const BOUND_LIMIT: u64 = 10_000;
+// Bounds as a line gives them.
+fn bounds_item(side: Side, bounds: Bounds) -> Item
+    ensures { λ r. ⌜ r ≡ itemOf side bounds ⌝ }
+{
+    match side {
+        Side::Lower => Item::OfLower(bounds),
+        Side::Upper => Item::OfUpper(bounds),
+    }
+}
 
-// Samples are kept in ten-millionths and lie from -1000 to 1000.
-const SAMPLE_PLACES: usize = 7;
-
-const SAMPLE_LIMIT: u64 = 10_000_000_000;
-
-// Three bounds, or why there are none.
-pub enum BoundsFound {
-    AllBounds(Bounds),
-    NoBounds(Refusal),
+// The three bounds that stand from a place on.
+fn bounds_on(side: Side, l: &[u8], from: usize) -> Content
+    requires { ⌜ (length (now l) ≤ lineLimit) × (from ≤ length (now l)) ⌝ }
+    ensures { λ r. ⌜ r ≡ boundsOf (itemOf side) (wordsOf (drop from (now (l .entry)))) ⌝ }
+{
+    let complaints = Complaints {
+        unformed: Refusal::ParametersWrong,
+        beyond: Refusal::DomainNumberWrong,
+        finer: Refusal::DomainNumberWrong,
+    };
+    let limit = Thousandths::GREATEST as u64;
+    match values_on(l, from, Thousandths::PLACES, limit, complaints) {
+        Values::All(t) => Content::Says(bounds_item(
+            side,
+            Bounds {
+                red: Thousandths(t.x),
+                green: Thousandths(t.y),
+                blue: Thousandths(t.z),
+            },
+        )),
+        Values::Fault(r) => Content::Wrong(r),
+    }
 }
 
 // A row, or why there is none.
@@ -180,39 +226,18 @@ pub enum RowFound {
     NoRow(Refusal),
 }
 
-// The three bounds that stand from a place on.
-fn bounds_on(l: &[u8], from: usize) -> BoundsFound
-    requires { ⌜ (length (now l) ≤ lineLimit) × (from ≤ length (now l)) ⌝ }
-    ensures { λ r. ⌜ ((side : Bounds → Item) → sayBounds r side ≡ boundsOf side (wordsOf (drop from (now (l .entry))))) ⌝ }
-{
-    let three = three_numbers(l, from, BOUND_PLACES, BOUND_LIMIT);
-    let complaints = Complaints {
-        unformed: Refusal::ParametersWrong,
-        beyond: Refusal::DomainNumberWrong,
-        finer: Refusal::DomainNumberWrong,
-    };
-    match values_of(three, complaints) {
-        Values::All(t) => BoundsFound::AllBounds(Bounds {
-            red: Thousandths(t.x),
-            green: Thousandths(t.y),
-            blue: Thousandths(t.z),
-        }),
-        Values::Fault(r) => BoundsFound::NoBounds(r),
-    }
-}
-
 // The row of a data line.
 pub fn row_on(l: &[u8]) -> RowFound
     requires { ⌜ length (now l) ≤ lineLimit ⌝ }
     ensures { λ r. ⌜ sayRow r ≡ samplesOn (wordsOf (now (l .entry))) ⌝ }
 {
-    let three = three_numbers(l, 0, SAMPLE_PLACES, SAMPLE_LIMIT);
     let complaints = Complaints {
         unformed: Refusal::NotThreeNumbers,
         beyond: Refusal::SampleBeyond,
         finer: Refusal::SampleTooFine,
     };
-    match values_of(three, complaints) {
+    let limit = TenMillionths::GREATEST as u64;
+    match values_on(l, 0, TenMillionths::PLACES, limit, complaints) {
         Values::All(t) => RowFound::ARow(Row {
             red: TenMillionths(t.x),
             green: TenMillionths(t.y),
@@ -224,17 +249,15 @@ pub fn row_on(l: &[u8]) -> RowFound
 
 // ---- a size
 
-// No N is greater, of either kind.
-const GREATEST_N: u64 = 65536;
-
-// The size that a word gives: digits alone, in range. Digits of any length are kept at one past the greatest N, which is as far out of range as they are.
+// The size that a word gives: digits alone, in range. Digits of any length are kept at one past the greatest N of either kind, which is as far out of
+// range as they are.
 fn size_in(kind: Kind, w: &[u8]) -> Content
     ensures { λ r. ⌜ r ≡ sizeOf kind (now (w .entry) ∷ []) ⌝ }
 {
     if !is_digits(w) {
         return Content::Wrong(Refusal::ParametersWrong);
     }
-    let n = spelt(w, 0, GREATEST_N) as usize;
+    let n = spelt(w, 0, Kind::MOST_1D as u64) as usize;
     if !in_range(kind, n) {
         return Content::Wrong(Refusal::SizeOutOfRange);
     }
@@ -268,26 +291,6 @@ fn after_first_word(l: &[u8]) -> usize
     end
 }
 
-// What bounds say as the lower ones.
-fn as_lower(found: BoundsFound) -> Content
-    ensures { λ r. ⌜ r ≡ sayBounds found OfLower ⌝ }
-{
-    match found {
-        BoundsFound::AllBounds(b) => Content::Says(Item::OfLower(b)),
-        BoundsFound::NoBounds(r) => Content::Wrong(r),
-    }
-}
-
-// What bounds say as the upper ones.
-fn as_upper(found: BoundsFound) -> Content
-    ensures { λ r. ⌜ r ≡ sayBounds found OfUpper ⌝ }
-{
-    match found {
-        BoundsFound::AllBounds(b) => Content::Says(Item::OfUpper(b)),
-        BoundsFound::NoBounds(r) => Content::Wrong(r),
-    }
-}
-
 // What a row says.
 fn as_row(found: RowFound) -> Content
     ensures { λ r. ⌜ r ≡ sayRow found ⌝ }
@@ -306,8 +309,8 @@ fn keyed_content(keyword: Keyword, l: &[u8], place: usize) -> Content
     let rest = after_first_word(l);
     match keyword {
         Keyword::ATitle => title_of(l, place),
-        Keyword::ALower => as_lower(bounds_on(l, rest)),
-        Keyword::AnUpper => as_upper(bounds_on(l, rest)),
+        Keyword::ALower => bounds_on(Side::Lower, l, rest),
+        Keyword::AnUpper => bounds_on(Side::Upper, l, rest),
         Keyword::ASize(kind) => size_on(kind, l, rest),
     }
 }

@@ -10,11 +10,16 @@ use lib.IntN.{ℤ}
 use lib.ListN.{length, take, length-take}
 use lib.Seq.{length-take-le, take-at, take-take}
 use Rattle.rules.specs.Reading.Lines.{every, run}
+use Rattle.rules.specs.Units.{sameBits, sameDepth}
+use Rattle.rules.specs.Looking.{look}
+use Rattle.rules.specs.Answers.{codesIn}
 use Rattle.rules.specs.Picturing.{corrected, outputAfter}
 use Rattle.rules.specs.Promises.{Pictures}
+use Rattle.rules.specs.declared.Depth.{Depth}
 use Rattle.rules.specs.declared.Description.{Description}
 use Rattle.rules.specs.declared.Picture.{Picture}
-use Rattle.rules.proofs.Picturing.Checks.{corrected-length, picture-0}
+use Rattle.rules.proofs.KnownDepths.{same-known}
+use Rattle.rules.proofs.Picturing.Checks.{each-length, picture-0}
 use Rattle.rules.proofs.Tests.{both-and}
 use Rattle.scan.proofs.Runs.{run-le}
 use Rattle.ppm.specs.Raster.{bytesOf, byteCount, codeCount, codesOf, Copied}
@@ -58,15 +63,17 @@ module _ (d : Description) (table : List ℤ) (s : Scale) (able : Readable d tab
   first-length = length-take-le q codes (omega (arith, run-le (λ c. leb c (s .greatest)) codes))
 
   -- whole pixels before the first code that is too great are a picture that is accepted
-  accepted : {r : Picture} {dst dst′ : List ℕ} → q ≤ length dst → Pictures d table (s .bits) (take q codes) dst r dst′
-      → take q dst′ ≡ corrected d table (s .bits) (take q codes)
+  accepted : {r : Picture} {dst dst′ : List ℕ} → q ≤ length dst → Pictures d table (sameBits (s .bits)) (take q codes) dst r dst′
+      → take q dst′ ≡ corrected d table (sameBits (s .bits)) (take q codes)
   unfolding outputAfter
   accepted {r} {dst} {dst′} room p =
       let pixels : length (take q codes) % 3 ≡ 0 = omega (arith, first-length) in
-      let is = picture-0 d table (s .bits) (take q codes) (length dst) (record { greatest = s .greatest }) (able .could) (able .known) pixels (omega (arith, first-length))
+      let bits = sameBits (s .bits) in
+      let depth : Depth = record { greatest = s .greatest } in
+      let is = picture-0 d table bits (take q codes) (length dst) (sameDepth depth) (able .could) (same-known (s .bits) depth (able .known)) pixels (omega (arith, first-length))
       (every-first (λ c. leb c (s .greatest)) codes q first) in
-      ap (take q) (p .memory ∙ ap (outputAfter d table (s .bits) (take q codes) dst) is)
-      ∙ take-at (corrected d table (s .bits) (take q codes)) _ q (corrected-length d table (s .bits) (take q codes) pixels ∙ first-length)
+      ap (take q) (p .memory ∙ ap (outputAfter d table bits (take q codes) dst) is)
+      ∙ take-at (corrected d table bits (take q codes)) _ q (each-length (λ pixel. codesIn (look d table bits pixel)) (take q codes) pixels ∙ first-length)
 
 -- ---- from bytes to bytes
 
@@ -75,7 +82,7 @@ pub piece-corrects : (d : Description) (table : List ℤ) (s : Scale) (input raw
     → {n count made : ℕ} {r : Picture} {raw′ dst′ bytes′ : List ℕ}
     → Copied (codesOf (s .wide) input) raw n raw′
     → count ≡ length (run (λ c. leb c (s .greatest)) (take n raw′))
-    → Pictures d table (s .bits) (take (count / 3 * 3) raw′) dst r dst′
+    → Pictures d table (sameBits (s .bits)) (take (count / 3 * 3) raw′) dst r dst′
     → Copied (bytesOf (s .wide) (take (count / 3 * 3) dst′)) bytes made bytes′
     → Corrects d table s input (record { pixels = count / 3; bytes = made }) bytes′
 piece-corrects d table s input raw dst bytes able for-raw for-dst for-bytes {n} {count} {made} {r} {raw′} {dst′} {bytes′} read counted pictured wrote =
@@ -86,7 +93,7 @@ piece-corrects d table s input raw dst bytes able for-raw for-dst for-bytes {n} 
     let is : count ≡ length (run (λ c. leb c (s .greatest)) codes) = counted ∙ ap (λ l. length (run (λ c. leb c (s .greatest)) l)) (put .1) in
     let few = run-le (λ c. leb c (s .greatest)) codes in
     let same : take q raw′ ≡ take q codes = sym (take-take q n raw′ (omega (arith, put .0))) ∙ ap (take q) (put .1) in
-    let fixed = accepted d table s able codes q (omega arith) (omega arith) (omega (arith, long)) (subst (λ l. Pictures d table (s .bits) l dst r dst′) same pictured) in
+    let fixed = accepted d table s able codes q (omega arith) (omega arith) (omega (arith, long)) (subst (λ l. Pictures d table (sameBits (s .bits)) l dst r dst′) same pictured) in
     let room : length (bytesOf (s .wide) (take q dst′)) ≤ length bytes =
     le-trans (le-trans (le-of-eq (bytes-length (s .wide) (take q dst′))) (byte-mono (s .wide) (omega (arith, length-take q dst′)))) (le-trans (byte-room (s .wide) q (length input) (omega (arith, long))) for-bytes) in
     record {

@@ -9,7 +9,7 @@ use lib.ListN.{length, take}
 use Rattle.rules.specs.Descriptions.{couldBeRead}
 use Rattle.rules.specs.Reading.Lines.{run}
 use Rattle.rules.specs.Picturing.{corrected}
-use Rattle.rules.specs.Units.{depthOf}
+use Rattle.rules.specs.Units.{depthOf, sameBits}
 use Rattle.rules.specs.declared.Description.{Description}
 use Rattle.ppm.specs.Header.{mostSize}
 use Rattle.ppm.specs.Raster.{bytesOf, codeCount, codesOf}
@@ -42,7 +42,7 @@ pub record Corrects (d : Description) (table : List ℤ) (s : Scale) (input : Li
   pub pixels : r .pixels ≡ pixelsWithin (s .greatest) (codesOf (s .wide) input)
   pub few : r .pixels ≤ length input
   pub inside : r .bytes ≤ length bytes
-  pub made : take (r .bytes) bytes ≡ bytesOf (s .wide) (corrected d table (s .bits) (take (r .pixels * 3) (codesOf (s .wide) input)))
+  pub made : take (r .bytes) bytes ≡ bytesOf (s .wide) (corrected d table (sameBits (s .bits)) (take (r .pixels * 3) (codesOf (s .wide) input)))
 
 -- ---- sizes
 

@@ -7,6 +7,7 @@ use lib.IntN.{ℤ}
 use Rattle.rules.specs.Answers.{lookNumber, lookCodes, lookRows, lookWeights, pictureNumber}
 use Rattle.rules.specs.Boundary.{describedIn, pixelIn, lookIn, LooksC, PicturesC}
 use Rattle.rules.specs.Promises.{Looks, Pictures}
+use Rattle.rules.specs.declared.Bits.{Bits}
 use Rattle.rules.specs.declared.Codes.{Codes}
 use Rattle.rules.specs.declared.Description.{Description}
 use Rattle.rules.specs.declared.Look.{Look}
@@ -26,7 +27,7 @@ unknown : (o : Option Description) → crossed o ≡ Unknown → o ≡ none
 unknown none e = refl
 unknown (some x) e = cc
 
-module _ {eleven table : List ℤ} {bits : ℕ} where
+module _ {eleven table : List ℤ} {bits : Bits} where
   -- ---- look
 
   answers-as : {pixel : Codes} {r : Look} → r ≡ lookIn eleven table bits pixel → LooksIn eleven table bits pixel r

@@ -12,7 +12,7 @@ ghost use mathlib.Core.Path.{_≡_};
 ghost use mathlib.Core.List.{map};
 ghost use Prim.Native.Nat.{_<_};
 ghost use Rattle.rules.specs.Answers.{codesOf, sharesOf};
-ghost use Rattle.rules.specs.Boundary.{Crossable, RowsFit, elevenOf, descriptionIn, describedIn, domainIn, pixelIn, kindNumber, markNumber};
+ghost use Rattle.rules.specs.Boundary.{Crossable, RowsFit, elevenOf, descriptionIn, describedIn, domainIn, countIn, titleAt, pixelIn, kindNumber, markNumber};
 ghost use Rattle.erythmoda.specs.Layout.{crossed};
 
 // ---- a description as eleven numbers
@@ -90,22 +90,37 @@ fn domain_at(eleven: &[i64; 11], colour: usize) -> Domain
     }
 }
 
-// An N below 0 counts as 0; the title is not looked at.
+// A number that counts; one below 0 counts as 0.
+fn count_at(eleven: &[i64; 11], at: usize) -> usize
+    requires { ⌜ at < 11 ⌝ }
+    ensures { λ r. ⌜ r ≡ countIn (now (eleven .entry)) at ⌝ }
+{
+    let number = Whole(eleven[at]);
+    number.above() as usize
+}
+
+// 0 is without a title, and any other number with one.
+fn title_at(eleven: &[i64; 11]) -> Title
+    ensures { λ r. ⌜ r ≡ titleAt (now (eleven .entry)) ⌝ }
+{
+    let mark = Whole(eleven[8]);
+    Title {
+        there: mark.size() != 0,
+        place: count_at(eleven, 9),
+        length: count_at(eleven, 10),
+    }
+}
+
 fn description_in(eleven: &[i64; 11], kind: Kind) -> Description
     ensures { λ r. ⌜ r ≡ descriptionIn (now (eleven .entry)) kind ⌝ }
 {
-    let n = Whole(eleven[1]);
     Description {
         kind,
-        n: n.above() as usize,
+        n: count_at(eleven, 1),
         red: domain_at(eleven, 0),
         green: domain_at(eleven, 1),
         blue: domain_at(eleven, 2),
-        title: Title {
-            there: false,
-            place: 0,
-            length: 0,
-        },
+        title: title_at(eleven),
     }
 }
 

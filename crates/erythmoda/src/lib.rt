@@ -20,6 +20,7 @@ use rules::Codes;
 use rules::Look;
 use rules::Picture;
 use rules::Refusal;
+ghost use Rattle.rules.specs.Units.{sameBits};
 ghost use Rattle.rules.specs.Boundary.{ReadsC, LooksC, PicturesC};
 ghost use Rattle.erythmoda.specs.Layout.{LooksIn};
 
@@ -44,7 +45,7 @@ pub extern "C" fn erythmoda_read(
 
 // Look, of a description as eleven numbers.
 fn look_in(description: &[i64; 11], table: &[i64], bits: u32, pixel: Codes) -> Look
-    ensures { λ r. ⌜ LooksIn (now (description .entry)) (now (table .entry)) bits pixel r ⌝ }
+    ensures { λ r. ⌜ LooksIn (now (description .entry)) (now (table .entry)) (sameBits bits) pixel r ⌝ }
 {
     let DescriptionFound::Known(d) = described(description) else {
         return Look::Refused(Refusal::CouldNotBeRead);
@@ -63,7 +64,7 @@ pub extern "C" fn erythmoda_look(
     rows: &mut [u32; 6],
     weights: &mut [i64; 6],
 ) -> u32
-    ensures { λ r. ⌜ LooksC (now (description .entry)) (now (table .entry)) bits (now (pixel .entry)) r (now (codes .exit)) (now (rows .exit)) (now (weights .exit)) ⌝ }
+    ensures { λ r. ⌜ LooksC (now (description .entry)) (now (table .entry)) (sameBits bits) (now (pixel .entry)) r (now (codes .exit)) (now (rows .exit)) (now (weights .exit)) ⌝ }
 {
     let answer = look_in(description, table, bits, pixel_of(pixel));
     let shares = look_shares(answer);
@@ -82,7 +83,7 @@ pub extern "C" fn erythmoda_picture(
     src: &[u16],
     dst: &mut [u16],
 ) -> u32
-    ensures { λ r. ⌜ PicturesC (now (description .entry)) (now (table .entry)) bits (now (src .entry)) (now (dst .entry)) r (now (dst .exit)) ⌝ }
+    ensures { λ r. ⌜ PicturesC (now (description .entry)) (now (table .entry)) (sameBits bits) (now (src .entry)) (now (dst .entry)) r (now (dst .exit)) ⌝ }
 {
     let DescriptionFound::Known(d) = described(description) else {
         return picture_number(Picture::Refused(Refusal::CouldNotBeRead));

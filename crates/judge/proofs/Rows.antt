@@ -5,7 +5,7 @@ use mathlib.Core.Bool.{true}
 use native.Mathlib.Nat.{mul-le-mul}
 use borrow.Author.Tests.{leb-true}
 use lib.Dec.{leb}
-use Rattle.rules.specs.Units.{greatestN, inRange, rowsOf}
+use Rattle.rules.specs.Units.{greatestN, inRange, rowsOf, rowLimit}
 use Rattle.rules.specs.declared.Kind.{Kind}
 use Rattle.rules.proofs.Sound.{rows-most as most-rows}
 use Rattle.rules.proofs.Tests.{and-both}
@@ -13,8 +13,8 @@ use Rattle.rules.proofs.Tests.{and-both}
 pub at-most : (k : Kind) (n : ℕ) → inRange k n ≡ true → n ≤ greatestN k
 at-most k n e = leb-true _ _ (and-both (leb 2 n) _ e .1)
 
-pub cubed : (n : ℕ) → n ≤ 256 → (n * n ≤ 65536) × (n * n * n ≤ 16_777_216)
+pub cubed : (n : ℕ) → n ≤ 256 → (n * n ≤ 65536) × (n * n * n ≤ rowLimit)
 cubed n h = let square : n * n ≤ 65536 = mul-le-mul h h in (square, mul-le-mul square h)
 
-pub rows-most : (k : Kind) (n : ℕ) → inRange k n ≡ true → rowsOf k n ≤ 16_777_216
+pub rows-most : (k : Kind) (n : ℕ) → inRange k n ≡ true → rowsOf k n ≤ rowLimit
 rows-most k n e = most-rows k n (at-most k n e)

@@ -4,29 +4,15 @@ use rules::Domain;
 use rules::Kind;
 use rules::TenMillionths;
 use rules::Thousandths;
+use whole::Whole;
 ghost use mathlib.Core.Path.{_≡_};
 ghost use mathlib.Core.Bool.{true, _&&_};
-ghost use Prim.Native.Nat.{max};
 ghost use lib.Dec.{leb};
 ghost use lib.IntN.{natAbs};
 ghost use lib.Signed.{leZ};
-ghost use Rattle.whole.specs.Integers.{up, dn};
 ghost use Rattle.rules.specs.Units.{boundLimit, greatestN, inRange, rowsOf};
 ghost use Rattle.rules.specs.Descriptions.{everyColour, boundsFit, ordered, narrow, sameDomain, agree, samplesFit, couldBeRead};
 ghost use Rattle.judge.specs.Rules.{test, Asked};
-
-// Domain bounds lie from -10 to 10, in thousandths.
-const LEAST_BOUND: i64 = -10_000;
-
-const GREATEST_BOUND: i64 = 10_000;
-
-// A domain is at most 10 wide, in thousandths.
-const GREATEST_WIDTH: i64 = 10_000;
-
-// Samples lie from -1000 to 1000, in ten-millionths.
-const LEAST_SAMPLE: i64 = -10_000_000_000;
-
-const GREATEST_SAMPLE: i64 = 10_000_000_000;
 
 // ---- N and the rows
 
@@ -34,8 +20,8 @@ fn greatest_n(kind: Kind) -> usize
     ensures { λ r. ⌜ r ≡ greatestN kind ⌝ }
 {
     match kind {
-        Kind::OneD => 65536,
-        Kind::ThreeD => 256,
+        Kind::OneD => Kind::MOST_1D,
+        Kind::ThreeD => Kind::MOST_3D,
     }
 }
 
@@ -73,10 +59,10 @@ fn bound_fits(bound: Thousandths) -> bool
     ensures { λ r. ⌜ r ≡ leb (natAbs (bound .0)) boundLimit ⌝ }
 {
     let z = bound.0;
-    if z < LEAST_BOUND {
+    if z < Thousandths::LEAST {
         return false;
     }
-    z <= GREATEST_BOUND
+    z <= Thousandths::GREATEST
 }
 
 // Both bounds lie from -10 to 10.
@@ -111,7 +97,7 @@ fn narrow(dom: Domain) -> bool
     let upper = dom.upper;
     let lo = lower.0;
     let hi = upper.0;
-    hi - lo <= GREATEST_WIDTH
+    hi - lo <= Thousandths::WIDEST
 }
 
 fn domain_keeps(rule: Rule, dom: Domain) -> bool
@@ -183,47 +169,25 @@ pub fn agree(kind: Kind, d: Description) -> bool
 
 // ---- the samples
 
-fn lesser(a: TenMillionths, b: TenMillionths) -> TenMillionths
-    ensures { λ r. ⌜ dn (r .0) ≡ max (dn (a .0)) (dn (b .0)) ⌝ }
-{
-    let x = a.0;
-    let y = b.0;
-    if x < y {
-        return a;
-    }
-    b
-}
-
-fn greater(a: TenMillionths, b: TenMillionths) -> TenMillionths
-    ensures { λ r. ⌜ up (r .0) ≡ max (up (a .0)) (up (b .0)) ⌝ }
-{
-    let x = a.0;
-    let y = b.0;
-    if y < x {
-        return a;
-    }
-    b
-}
-
 // All samples lie from -1000 to 1000 if the least and the greatest of them do.
 fn samples_fit(samples: &[i64]) -> bool
     ensures { λ r. ⌜ r ≡ samplesFit (now (samples .entry)) ⌝ }
 {
-    let mut least = TenMillionths(0);
-    let mut greatest = TenMillionths(0);
+    let mut least = Whole(0);
+    let mut greatest = Whole(0);
     let mut i = 0;
     while i < samples.len() {
-        let s = TenMillionths(samples[i]);
-        least = lesser(s, least);
-        greatest = greater(s, greatest);
+        let s = Whole(samples[i]);
+        least = s.lesser(least);
+        greatest = s.greater(greatest);
         i += 1;
     }
     let low = least.0;
-    if low < LEAST_SAMPLE {
+    if low < TenMillionths::LEAST {
         return false;
     }
     let high = greatest.0;
-    high <= GREATEST_SAMPLE
+    high <= TenMillionths::GREATEST
 }
 
 // ---- 24

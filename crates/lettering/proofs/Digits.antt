@@ -1,4 +1,4 @@
--- The fewest digits that hold a number are its decimal digits; a number below 0 has its sign before those of its size.
+-- The fewest digits that hold a number are its decimal digits; a sign stands before a number below 0 alone.
 use Prim.Native.Nat.{ℕ, zero, suc, _-_, _/_, _%_, _^_, _≤_, _<_}
 use mathlib.Core.Path.{_≡_, refl, sym, ap, ap₂, _∙_}
 use mathlib.Core.Bool.{true, false, true≢false}
@@ -6,11 +6,11 @@ use mathlib.Core.List.{[], _∷_, _++_}
 use native.Mathlib.Nat.{pow-succ', one-le-pow}
 use native.Mathlib.Omega.{arith}
 use borrow.Author.Tests.{ltb-true, lt-ltb}
-use lib.IntN.{ℤ, pos, negsuc, natAbs}
+use lib.IntN.{ℤ, pos, negsuc}
 use lib.Signed.{ltZ}
 use Rattle.io.specs.Digits.{digits, glyph, Fewest}
-use Rattle.rules.specs.Reporting.{digitByte, decimalIn, decimal, signedDecimal}
-use Rattle.rules.proofs.Reporting.Decimals.{one-digit, more-digits}
+use Rattle.rules.specs.Decimals.{digitByte, decimalIn, decimal, sign}
+use Rattle.rules.proofs.Decimals.{one-digit, more-digits}
 
 -- a digit's byte
 glyph-digit : (d : ℕ) → d < 10 → glyph d ≡ digitByte d
@@ -40,14 +40,14 @@ fewest-decimal (suc k) n f =
     let e : suc k - 1 ≡ k = omega arith in
     fewest-in n k n (omega arith) (f .1) (λ p. rw e at (f .2 (omega arith)))
 
--- ---- with a sign
+-- ---- the sign, by the test
 
-pub signed-below : (z : ℤ) → ltZ z (pos 0) ≡ true → signedDecimal z ≡ 45 ∷ decimal (natAbs z)
-unfolding signedDecimal
-signed-below (pos n) e = absurd (omega (arith, ltb-true n 0 e))
-signed-below (negsuc n) e = refl
+pub sign-below : (z : ℤ) → ltZ z (pos 0) ≡ true → sign z ≡ 45 ∷ []
+unfolding sign
+sign-below (pos n) e = absurd (omega (arith, ltb-true n 0 e))
+sign-below (negsuc n) e = refl
 
-pub signed-other : (z : ℤ) → ltZ z (pos 0) ≡ false → signedDecimal z ≡ decimal (natAbs z)
-unfolding signedDecimal
-signed-other (pos n) e = refl
-signed-other (negsuc n) e = absurd (true≢false e)
+pub sign-other : (z : ℤ) → ltZ z (pos 0) ≡ false → sign z ≡ []
+unfolding sign
+sign-other (pos n) e = refl
+sign-other (negsuc n) e = absurd (true≢false e)

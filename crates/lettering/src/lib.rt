@@ -1,6 +1,7 @@
 // Text put into lent bytes from a place on: bytes, and numbers in decimal digits. Each call answers the place after what it put.
 use whole::Whole;
-ghost use Rattle.rules.specs.Reporting.{decimal, signedDecimal};
+ghost use mathlib.Core.List.{[], _∷_};
+ghost use Rattle.rules.specs.Decimals.{decimal, sign, signedDecimal};
 ghost use Rattle.lettering.specs.Putting.{Room, Puts};
 
 // Bytes as they are; all others stay.
@@ -16,6 +17,14 @@ pub fn put(out: &mut [u8], at: usize, text: &[u8]) -> usize
     at + text.len()
 }
 
+pub fn put_byte(out: &mut [u8], at: usize, byte: u8) -> usize
+    requires { ⌜ Room (now out) at (byte ∷ []) ⌝ }
+    ensures { λ r. ⌜ Puts (now (out .entry)) at (byte ∷ []) r (now (out .exit)) ⌝ }
+{
+    out[at] = byte;
+    at + 1
+}
+
 // A number, without leading zeros.
 pub fn put_decimal(out: &mut [u8], at: usize, n: u64) -> usize
     requires { ⌜ Room (now out) at (decimal n) ⌝ }
@@ -26,15 +35,23 @@ pub fn put_decimal(out: &mut [u8], at: usize, n: u64) -> usize
     put(out, at, &digits[..count])
 }
 
+// The sign of a number below 0, and nothing of another.
+fn put_sign(out: &mut [u8], at: usize, n: Whole) -> usize
+    requires { ⌜ Room (now out) at (sign (n .0)) ⌝ }
+    ensures { λ r. ⌜ Puts (now (out .entry)) at (sign (n .0)) r (now (out .exit)) ⌝ }
+{
+    let z = n.0;
+    if z < 0 {
+        return put_byte(out, at, b'-');
+    }
+    at
+}
+
 // A number that may be below 0, the least of 64 bits too.
 pub fn put_signed(out: &mut [u8], at: usize, n: Whole) -> usize
     requires { ⌜ Room (now out) at (signedDecimal (n .0)) ⌝ }
     ensures { λ r. ⌜ Puts (now (out .entry)) at (signedDecimal (n .0)) r (now (out .exit)) ⌝ }
 {
-    let z = n.0;
-    if z < 0 {
-        let after_sign = put(out, at, b"-");
-        return put_decimal(out, after_sign, n.size());
-    }
-    put_decimal(out, at, n.size())
+    let after_sign = put_sign(out, at, n);
+    put_decimal(out, after_sign, n.size())
 }

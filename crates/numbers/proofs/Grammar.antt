@@ -1,14 +1,12 @@
 -- The grammar by places: what stands between the places that the code finds is what the definitions read off the word.
-use Prim.Native.Nat.{ℕ, _+_, _-_, _≤_}
-use mathlib.Core.Path.{_≡_, refl, sym, ap, _∙_}
+use Prim.Native.Nat.{ℕ, _+_}
+use mathlib.Core.Path.{_≡_, refl, sym}
 use mathlib.Core.Bool.{Bool, true, false, cond, _&&_}
 use mathlib.Core.List.{List, [], _∷_}
 use mathlib.Core.Option.{Option, none, some}
-use native.Mathlib.Decide.{decLe}
 use native.Mathlib.Omega.{arith}
-use borrow.Author.Tests.{lt-ltb, le-ltb}
 use lib.Dec.{ltb}
-use lib.ListN.{length, getD, drop, length-drop}
+use lib.ListN.{length, getD, drop}
 use lib.Seq.{drop-drop}
 use mir.Val.{boolByte}
 use Rattle.rules.specs.Reading.Lines.{after, digit, eByte, every, minusByte, pointByte, run, starts}
@@ -16,9 +14,9 @@ use Rattle.rules.specs.Reading.Numerals.{Exponent, Mantissa, Numeral, digits, p
 use Rattle.rules.specs.Reading.Numbers.{assemble, exponentOf, numeralWith, numeralOf, unsigned}
 use Rattle.rules.proofs.Reading.Numbers.{digits-parts, spells-of}
 use Rattle.rules.proofs.Reading.Runs.{after-stops, run-starts}
-use Rattle.scan.proofs.Runs.{run-le, drop-run, take-run}
-use Rattle.numbers.specs.Parts.{DigitsTo, part}
-use Rattle.numbers.proofs.Words.{run-there}
+use Rattle.scan.specs.RunEnds.{runEnd}
+use Rattle.scan.proofs.Runs.{drop-to-end, end-further, take-to-end}
+use Rattle.numbers.specs.Parts.{part}
 
 -- ---- the exponent
 
@@ -40,20 +38,14 @@ exponent-by e marked down whole n h m d u w = rw (exponent-there e h, m, d, w, �
 
 -- ---- the mantissa
 
-pub digits-to : (w : List ℕ) (a n : ℕ) → a ≤ length w → n ≡ length (run digit (drop a w)) → DigitsTo w a (a + n)
-digits-to w a n h e =
-    let x : a + n - a ≡ n = omega arith in
-    record {
-      stand = rw (x, e) (take-run digit (drop a w));
-      then = sym (drop-drop n a w) ∙ ap (λ k. drop k (drop a w)) e ∙ drop-run digit (drop a w);
-      there = above (decLe n 0) ∙ ap (ltb 0) e ∙ sym (run-there digit (drop a w));
-      ordered = omega arith;
-      inside = omega (arith, run-le digit (drop a w), length-drop a w);
-    }
-  where
-    above : Dec (n ≤ 0) → ltb a (a + n) ≡ ltb 0 n
-    above (yes h) = rw (le-ltb a (a + n) (omega arith), le-ltb 0 n h)
-    above (no h) = rw (lt-ltb a (a + n) (omega arith), lt-ltb 0 n (omega arith))
+-- the longest run of digits from place a ends at e
+record DigitsTo (w : List ℕ) (a e : ℕ) : Type 0 where
+  pub stand : part w a e ≡ run digit (drop a w)
+  pub then : drop e w ≡ after digit (drop a w)
+  pub there : ltb a e ≡ starts digit (drop a w)
+
+digits-to : (w : List ℕ) (a e : ℕ) → e ≡ runEnd digit w a → DigitsTo w a e
+digits-to w a e h = record { stand = rw h (take-to-end digit w a); then = rw h (drop-to-end digit w a); there = rw h (end-further digit w a) }
 
 -- the digits that must be there are asked first
 assemble-first : (there negative : Bool) (whole fraction : List ℕ) (x : Option Exponent)
@@ -78,10 +70,12 @@ fraction-by negative whole (b ∷ rest) h = by (pointByte b)
     by false = rw h (assemble-first (starts digit whole) negative whole [] (exponentOf (b ∷ rest)))
 
 -- an optional sign up to a, whole digits up to b, a point or none, and digits up to d
-pub numeral-by : (w : List ℕ) (negative : Bool) (a b d : ℕ) (p : Bool) → negative ≡ starts minusByte w → drop a w ≡ unsigned w → DigitsTo w a b → p ≡ starts pointByte (drop b w) → DigitsTo w (b + boolByte p) d
+pub numeral-by : (w : List ℕ) (negative : Bool) (a b d : ℕ) (p : Bool) → negative ≡ starts minusByte w → drop a w ≡ unsigned w → b ≡ runEnd digit w a → p ≡ starts pointByte (drop b w) → d ≡ runEnd digit w (b + boolByte p)
     → cond (cond p (ltb (b + boolByte p) d) (ltb a b)) (assemble true negative (part w a b) (part w (b + boolByte p) d) (exponentOf (drop d w))) none ≡ numeralOf w
 unfolding numeralOf
-numeral-by w negative a b d p sign skip f e g =
+numeral-by w negative a b d p sign skip whole-end e end =
+    let f = digits-to w a b whole-end in
+    let g = digits-to w (b + boolByte p) d end in
     let q : drop (boolByte p) (drop b w) ≡ drop (b + boolByte p) w = drop-drop (boolByte p) b w in
     let stops : starts digit (drop b w) ≡ false = rw (f .then) (after-stops digit (drop a w)) in
     rw (sign, f .there, f .stand, g .there, g .stand, g .then, ← skip, ← f .then, ← q, e, ← run-starts digit (drop a w))

@@ -1,12 +1,9 @@
 -- What stands where the grammar found a number's parts.
 use Prim.Native.Nat.{ℕ, _-_, _≤_}
-use mathlib.Core.Path.{_≡_}
 use mathlib.Core.Bool.{Bool}
 use mathlib.Core.List.{List}
 use mathlib.Core.Option.{Option, none, some}
-use lib.Dec.{ltb}
 use lib.ListN.{length, take, drop}
-use Rattle.rules.specs.Reading.Lines.{after, digit, run, starts}
 use Rattle.rules.specs.Reading.Numerals.{Exponent, Numeral}
 use Rattle.numbers.specs.declared.Parts.{Parts}
 use Rattle.numbers.specs.declared.NumeralFound.{NumeralFound}
@@ -17,14 +14,6 @@ use Rattle.numbers.specs.declared.PowerFound.the-variants.{Power, NoPowe
 -- the bytes from place a up to place e
 abbrev pub part : List ℕ → ℕ → ℕ → List ℕ
 part w a e = take (e - a) (drop a w)
-
--- the longest run of digits from place a ends at e
-pub record DigitsTo (w : List ℕ) (a e : ℕ) : Type 0 where
-  pub stand : part w a e ≡ run digit (drop a w)
-  pub then : drop e w ≡ after digit (drop a w)
-  pub there : ltb a e ≡ starts digit (drop a w)
-  pub ordered : a ≤ e
-  pub inside : e ≤ length w
 
 abbrev pub numeral : Bool → List ℕ → List ℕ → Bool → List ℕ → Numeral
 numeral negative whole fraction down power =

@@ -1,17 +1,20 @@
 // Document 01, "Lines": a word as a number. The grammar finds where its parts stand, and their digits, cut at the unit's point, give its exact value.
 use rules::Number;
 use scan::ByteKind;
+use scan::run_end;
+use whole::lesser;
+use whole::lesser_count;
 ghost use mathlib.Core.Path.{_≡_};
 ghost use mathlib.Core.List.{_++_};
 ghost use mathlib.Core.Option.{some};
-ghost use Prim.Native.Nat.{_+_, _-_, _*_, _^_, _≤_, min};
+ghost use Prim.Native.Nat.{_+_, _-_, _*_, _^_, _≤_};
 ghost use lib.Dec.{eqb};
 ghost use lib.ListN.{length, drop};
 ghost use Rattle.rules.specs.Reading.Lines.{lineLimit, eByte, starts};
 ghost use Rattle.rules.specs.Reading.Numerals.{digits, spell};
 ghost use Rattle.rules.specs.Reading.Numbers.{exponentOf, numberOf, numeralOf, unsigned, valueOf};
 ghost use Rattle.numbers.specs.Cuts.{Served, answer, cutOf, exponentCap, kept, mostLimit, mostPlaces};
-ghost use Rattle.numbers.specs.Parts.{DigitsTo, Inside, PowerInside, exponentAt, numeral, numeralAt};
+ghost use Rattle.numbers.specs.Parts.{Inside, PowerInside, exponentAt, numeral, numeralAt};
 
 // ---- digits
 
@@ -40,7 +43,7 @@ fn one_more(m: u64, b: u8, limit: u64) -> u64
 {
     let n = m * 10 + digit_value(b);
     let past = limit + 1;
-    if n < past { n } else { past }
+    lesser(past, n)
 }
 
 // The number that digits spell after m, kept at limit + 1 once it is past the limit.
@@ -121,14 +124,6 @@ fn sign_length(w: &[u8]) -> usize
     0
 }
 
-// The end of the digits that stand from a place on.
-fn digits_end(w: &[u8], from: usize) -> usize
-    requires { ⌜ from ≤ length (now w) ⌝ }
-    ensures { λ r. ⌜ DigitsTo (now (w .entry)) from r ⌝ }
-{
-    from + scan::run_length(&w[from..], ByteKind::Digit)
-}
-
 // Nothing; or e or E, an optional sign, digits.
 fn power_in(e: &[u8]) -> PowerFound
     ensures says { λ r. ⌜ exponentAt (now (e .entry)) r ≡ exponentOf (now (e .entry)) ⌝ }
@@ -162,10 +157,10 @@ fn numeral_in(w: &[u8]) -> NumeralFound
 {
     let negative = starts_with(w, b'-');
     let whole = sign_length(w);
-    let point = digits_end(w, whole);
+    let point = run_end(w, whole, ByteKind::Digit);
     let pointed = starts_with(&w[point..], b'.');
     let fraction = point + pointed as usize;
-    let end = digits_end(w, fraction);
+    let end = run_end(w, fraction, ByteKind::Digit);
     // a point has at least one digit after it; without a point there is a whole digit
     let there = if pointed {
         fraction < end
@@ -180,6 +175,7 @@ fn numeral_in(w: &[u8]) -> NumeralFound
     };
     let down = p.down;
     let start = p.start;
+    let power = end + start;
     NumeralFound::Stands(Parts {
         negative,
         whole,
@@ -187,7 +183,7 @@ fn numeral_in(w: &[u8]) -> NumeralFound
         fraction,
         end,
         down,
-        power: end + start,
+        power,
     })
 }
 
@@ -195,12 +191,6 @@ fn numeral_in(w: &[u8]) -> NumeralFound
 
 // Past it a greater exponent changes no answer.
 const EXPONENT_CAP: u64 = 2000;
-
-fn smaller(a: usize, b: usize) -> usize
-    ensures { λ r. ⌜ r ≡ min a b ⌝ }
-{
-    if a < b { a } else { b }
-}
 
 // How many digits stand before the unit's point.
 fn cut_at(whole: usize, places: usize, down: bool, x: usize) -> usize
@@ -277,8 +267,8 @@ fn value(
 {
     let x = spelt(power, 0, EXPONENT_CAP);
     let cut = cut_at(whole.len(), places, down, x as usize);
-    let a = smaller(cut, whole.len());
-    let b = smaller(cut - a, fraction.len());
+    let a = lesser_count(cut, whole.len());
+    let b = lesser_count(cut - a, fraction.len());
     let front = spelt_both(&whole[..a], &fraction[..b], limit);
     let quotient = padded(front, cut - a - b, limit);
     let rest = spelt_both(&whole[a..], &fraction[b..], limit);

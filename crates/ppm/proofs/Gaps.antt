@@ -5,23 +5,19 @@ use mathlib.Core.Bool.{Bool, true, false}
 use mathlib.Core.List.{List}
 use native.Mathlib.Numerals.{add-one}
 use native.Mathlib.Omega.{arith}
-use lib.ListN.{length, getD, drop, drop-of-length-le}
+use lib.ListN.{length, getD, drop-of-length-le}
 use lib.Seq.{drop-cons}
-use Rattle.ppm.specs.Header.{goesOn, commentAfter, gapLength}
-
--- the gap's length, where its first i bytes are passed
-abbrev pub gapFrom : Bool → List ℕ → ℕ → ℕ
-gapFrom comment s i = i + gapLength comment (drop i s)
+use Rattle.ppm.specs.Header.{goesOn, commentAfter, gapEnd, gapLength}
 
 module _ (comment : Bool) (s : List ℕ) (i : ℕ) where
-  pub gap-more : i < length s → goesOn comment (getD s i 0) ≡ true → gapFrom comment s i ≡ gapFrom (commentAfter comment (getD s i 0)) s (i + 1)
+  pub gap-more : i < length s → goesOn comment (getD s i 0) ≡ true → gapEnd comment s i ≡ gapEnd (commentAfter comment (getD s i 0)) s (i + 1)
   unfolding gapLength
   gap-more h e = rw (drop-cons s i 0, e, add-one) (omega arith)
 
-  pub gap-stop : i < length s → goesOn comment (getD s i 0) ≡ false → gapFrom comment s i ≡ i
+  pub gap-stop : i < length s → goesOn comment (getD s i 0) ≡ false → gapEnd comment s i ≡ i
   unfolding gapLength
   gap-stop h e = rw (drop-cons s i 0, e) (omega arith)
 
-  pub gap-over : length s ≤ i → gapFrom comment s i ≡ i
+  pub gap-over : length s ≤ i → gapEnd comment s i ≡ i
   unfolding gapLength
   gap-over h = rw (drop-of-length-le s h) (omega arith)

@@ -12,7 +12,8 @@ use lib.ListN.{length, take, drop, getD, length-take}
 use lib.Seq.{length-take-le, take-all, take-take, take-nil, getD-take}
 use Rattle.rules.specs.Reading.Lines.{digit, run}
 use Rattle.rules.specs.Reading.Numerals.{spell}
-use Rattle.ppm.specs.Header.{whitespace, goesOn, commentAfter, gapLength, gapEnd, digitsEnd, fieldBetween, fieldAt, withMaxval, afterHeight, withHeight, afterWidth, withWidth, startsP6, mostSize, mostMaxval, headerOf}
+use Rattle.scan.specs.RunEnds.{runEnd}
+use Rattle.ppm.specs.Header.{whitespace, goesOn, commentAfter, gapLength, gapEnd, fieldBetween, fieldAt, withMaxval, afterHeight, withHeight, afterWidth, withWidth, startsP6, mostSize, mostMaxval, headerOf}
 use Rattle.ppm.specs.declared.header.Count.{Count}
 use Rattle.ppm.specs.declared.header.Fault.{Fault}
 use Rattle.ppm.specs.declared.header.Fault.the-variants.{NotP6, EndsEarly}
@@ -60,11 +61,11 @@ run-first kind (b ∷ rest) (suc k) h = by (kind b) h (run-first kind rest k)
     by false h later = refl
 
 module _ (s : List ℕ) (p m : ℕ) where
-  gap-end-first : gapEnd s p < m → gapEnd (take m s) p ≡ gapEnd s p
+  gap-end-first : gapEnd false s p < m → gapEnd false (take m s) p ≡ gapEnd false s p
   gap-end-first h = ap (λ n. p + n) (ap (gapLength false) (drop-first m p s) ∙ gap-first false (drop p s) (m - p) (omega arith))
 
-  digits-end-first : digitsEnd s p < m → digitsEnd (take m s) p ≡ digitsEnd s p
-  digits-end-first h = ap (λ n. p + n) (ap (λ l. length (run digit l)) (drop-first m p s) ∙ run-first digit (drop p s) (m - p) (omega arith))
+  run-end-first : (kind : ℕ → Bool) → runEnd kind s p < m → runEnd kind (take m s) p ≡ runEnd kind s p
+  run-end-first kind h = ap (λ n. p + n) (ap (λ l. length (run kind l)) (drop-first m p s) ∙ run-first kind (drop p s) (m - p) (omega arith))
 
 -- ---- a number among the first bytes
 
@@ -90,16 +91,16 @@ module _ (part : Part) (limit : ℕ) (s : List ℕ) where
       rw (length-take-le m s there, ne-eqb end m (omega arith), ne-eqb end (length s) (omega arith), getD-take m s end 0 inside, same)
 
   -- nor in where it stands
-  number-first : (p m : ℕ) → digitsEnd s (gapEnd s p) < m → m ≤ length s → fieldAt part limit (take m s) p ≡ fieldAt part limit s p
+  number-first : (p m : ℕ) → runEnd digit s (gapEnd false s p) < m → m ≤ length s → fieldAt part limit (take m s) p ≡ fieldAt part limit s p
   unfolding fieldAt
   number-first p m h there =
-      let start = gapEnd s p in
-      ap₂ (fieldBetween part limit (take m s)) (gap-end-first s p m (omega arith)) (ap (digitsEnd (take m s)) (gap-end-first s p m (omega arith)) ∙ digits-end-first s start m h)
-      ∙ between-first start (digitsEnd s start) m (omega arith) h there
+      let start = gapEnd false s p in
+      ap₂ (fieldBetween part limit (take m s)) (gap-end-first s p m (omega arith)) (ap (runEnd digit (take m s)) (gap-end-first s p m (omega arith)) ∙ run-end-first s start m digit h)
+      ∙ between-first start (runEnd digit s start) m (omega arith) h there
 
-  field-ends : (p : ℕ) (number : Count) → fieldAt part limit s p ≡ Says number → number .next ≡ digitsEnd s (gapEnd s p) + 1
+  field-ends : (p : ℕ) (number : Count) → fieldAt part limit s p ≡ Says number → number .next ≡ runEnd digit s (gapEnd false s p) + 1
   unfolding fieldAt
-  field-ends p number e = subst (Ends (digitsEnd s (gapEnd s p))) e (between-ends (gapEnd s p) (digitsEnd s (gapEnd s p)))
+  field-ends p number e = subst (Ends (runEnd digit s (gapEnd false s p))) e (between-ends (gapEnd false s p) (runEnd digit s (gapEnd false s p)))
 
   -- a number that is found is found in the first bytes, up to where it ends or further
   pub field-first : (p m : ℕ) (number : Count) → fieldAt part limit s p ≡ Says number → number .next ≤ m → (p ≤ number .next) × (fieldAt part limit (take m s) p ≡ Says number)
@@ -119,44 +120,37 @@ abbrev StandsFrom : (List ℕ → Header) → List ℕ → ℕ → Frame → Typ
 StandsFrom says s p f = (p ≤ f .pixels) × ((m : ℕ) → f .pixels ≤ m → says (take m s) ≡ Stands f)
 
 module _ (s : List ℕ) (f : Frame) where
+  -- a number that is found, and what it is followed by
+  number-stands : (part : Part) (limit p : ℕ) (next : List ℕ → Field → Header) → ((fault : Fault) → next s (Lacks fault) ≡ Wrong fault)
+      → ((number : Count) → next s (Says number) ≡ Stands f → StandsFrom (λ l. next l (Says number)) s (number .next) f)
+      → next s (fieldAt part limit s p) ≡ Stands f → StandsFrom (λ l. next l (fieldAt part limit l p)) s p f
+  number-stands part limit p next lacks later e = by (fieldAt part limit s p) refl e
+    where
+      by : (found : Field) → fieldAt part limit s p ≡ found → next s found ≡ Stands f → StandsFrom (λ l. next l (fieldAt part limit l p)) s p f
+      by (Lacks fault) g e = absurd (never fault f (sym (lacks fault) ∙ e))
+      by (Says number) g e =
+          let rest = later number e in (
+            omega (arith, rest .0, field-first part limit s p (number .next) number g (omega arith) .0),
+            λ m h. ap (next (take m s)) (field-first part limit s p m number g (omega (arith, rest .0)) .1) ∙ rest .1 m h,
+          )
+
   height-first : (width : ℕ) (height : Count) → afterHeight s width height ≡ Stands f → StandsFrom (λ l. afterHeight l width height) s (height .next) f
   unfolding afterHeight withMaxval
-  height-first width height e = by (fieldAt Maxval mostMaxval s (height .next)) refl e
+  height-first width height = number-stands Maxval mostMaxval (height .next) (λ l. withMaxval width (height .value)) (λ fault. refl) pixels-next
     where
-      by : (found : Field) → fieldAt Maxval mostMaxval s (height .next) ≡ found → withMaxval width (height .value) found ≡ Stands f
-          → StandsFrom (λ l. withMaxval width (height .value) (fieldAt Maxval mostMaxval l (height .next))) s (height .next) f
-      by (Lacks fault) g e = absurd (never fault f e)
-      by (Says maxval) g e =
+      pixels-next : (maxval : Count) → withMaxval width (height .value) (Says maxval) ≡ Stands f → StandsFrom (λ l. withMaxval width (height .value) (Says maxval)) s (maxval .next) f
+      pixels-next maxval e =
           let frame : _≡_ {A = Frame} (record { width = width; height = height .value; maxval = maxval .value; pixels = maxval .next }) f = cc in
-          let pixels : maxval .next ≡ f .pixels = ap (λ x. x .pixels) frame in (
-            omega (arith, field-first Maxval mostMaxval s (height .next) (maxval .next) maxval g (omega arith) .0),
-            λ m h. ap (withMaxval width (height .value)) (field-first Maxval mostMaxval s (height .next) m maxval g (omega arith) .1) ∙ e,
-          )
+          let pixels : maxval .next ≡ f .pixels = ap (λ x. x .pixels) frame in
+          (omega arith, λ m h. e)
 
   width-first : (width : Count) → afterWidth s width ≡ Stands f → StandsFrom (λ l. afterWidth l width) s (width .next) f
   unfolding afterWidth withHeight
-  width-first width e = by (fieldAt Height mostSize s (width .next)) refl e
-    where
-      by : (found : Field) → fieldAt Height mostSize s (width .next) ≡ found → withHeight s (width .value) found ≡ Stands f
-          → StandsFrom (λ l. withHeight l (width .value) (fieldAt Height mostSize l (width .next))) s (width .next) f
-      by (Lacks fault) g e = absurd (never fault f e)
-      by (Says height) g e =
-          let later = height-first (width .value) height e in (
-            omega (arith, later .0, field-first Height mostSize s (width .next) (height .next) height g (omega arith) .0),
-            λ m h. ap (withHeight (take m s) (width .value)) (field-first Height mostSize s (width .next) m height g (omega (arith, later .0)) .1) ∙ later .1 m h,
-          )
+  width-first width = number-stands Height mostSize (width .next) (λ l. withHeight l (width .value)) (λ fault. refl) (height-first (width .value))
 
   fields-first : withWidth s (fieldAt Width mostSize s 3) ≡ Stands f → StandsFrom (λ l. withWidth l (fieldAt Width mostSize l 3)) s 3 f
   unfolding withWidth
-  fields-first e = by (fieldAt Width mostSize s 3) refl e
-    where
-      by : (found : Field) → fieldAt Width mostSize s 3 ≡ found → withWidth s found ≡ Stands f → StandsFrom (λ l. withWidth l (fieldAt Width mostSize l 3)) s 3 f
-      by (Lacks fault) g e = absurd (never fault f e)
-      by (Says width) g e =
-          let later = width-first width e in (
-            omega (arith, later .0, field-first Width mostSize s 3 (width .next) width g (omega arith) .0),
-            λ m h. ap (withWidth (take m s)) (field-first Width mostSize s 3 m width g (omega (arith, later .0)) .1) ∙ later .1 m h,
-          )
+  fields-first = number-stands Width mostSize 3 withWidth (λ fault. refl) width-first
 
   -- a header that stands, stands in the bytes before its pixels
   pub header-first : headerOf s ≡ Stands f → headerOf (take (f .pixels) s) ≡ Stands f

@@ -7,7 +7,7 @@ use borrow.Author.Tests.{leb-true}
 use lib.Dec.{eqb, leb, ltb}
 use lib.ListN.{length, getD, take, drop}
 use Rattle.rules.specs.Reading.Numerals.{spell}
-use Rattle.ppm.specs.Header.{Sized, mostSize, whitespace, counted, gapEnd, digitsEnd, fieldBetween, fieldAt, withMaxval, afterHeight, withHeight, afterWidth, withWidth, startsP6, headerOf}
+use Rattle.ppm.specs.Header.{Sized, mostSize, whitespace, counted, gapEnd, fieldBetween, fieldAt, withMaxval, afterHeight, withHeight, afterWidth, withWidth, startsP6, headerOf}
 use Rattle.ppm.specs.declared.header.Fault.{Fault}
 use Rattle.ppm.specs.declared.header.Fault.the-variants.{Beyond}
 use Rattle.ppm.specs.declared.header.Field.{Field}
@@ -39,7 +39,7 @@ module _ (part : Part) (limit : ℕ) (s : List ℕ) where
 
   field-up-to : (p : ℕ) → UpTo limit (fieldAt part limit s p)
   unfolding fieldAt
-  field-up-to p = between-up-to (gapEnd s p) (digitsEnd s (gapEnd s p))
+  field-up-to p = between-up-to (gapEnd false s p) _
 
 module _ (s : List ℕ) where
   maxval-sized : (width height : ℕ) → width ≤ mostSize → height ≤ mostSize → (f : Field) → Sized (withMaxval width height f)

@@ -6,8 +6,9 @@ use mathlib.Core.Bool.{Bool, false, cond, not, _&&_, _||_}
 use mathlib.Core.List.{List, [], _∷_}
 use lib.Dec.{eqb, leb, ltb}
 use lib.ListN.{length, take, drop, getD}
-use Rattle.rules.specs.Reading.Lines.{digit, hash, run}
+use Rattle.rules.specs.Reading.Lines.{digit, hash}
 use Rattle.rules.specs.Reading.Numerals.{spell}
+use Rattle.scan.specs.RunEnds.{runEnd}
 use Rattle.ppm.specs.declared.header.Part.{Part}
 use Rattle.ppm.specs.declared.header.Part.the-variants.{Width, Height, Maxval}
 use Rattle.ppm.specs.declared.header.Fault.the-variants.{NotP6, EndsEarly, Malformed, Beyond}
@@ -41,14 +42,10 @@ gapLength comment [] = 0
 gapLength comment (b ∷ rest) = cond (goesOn comment b) (1 + gapLength (commentAfter comment b) rest) 0
 
 -- where the gap from place p on ends
-abbrev pub gapEnd : List ℕ → ℕ → ℕ
-gapEnd s p = p + gapLength false (drop p s)
+abbrev pub gapEnd : Bool → List ℕ → ℕ → ℕ
+gapEnd comment s p = p + gapLength comment (drop p s)
 
 -- ---- a number of the header
-
--- where the digits from place p on end
-abbrev pub digitsEnd : List ℕ → ℕ → ℕ
-digitsEnd s p = p + length (run digit (drop p s))
 
 -- a value, and the place after the number
 abbrev pub counted : ℕ → ℕ → Count
@@ -67,7 +64,7 @@ fieldBetween part limit s start end =
 
 -- the number from place p on: a gap, if any, then all digits that follow it
 unfoldable pub fieldAt : Part → ℕ → List ℕ → ℕ → Field
-fieldAt part limit s p = fieldBetween part limit s (gapEnd s p) (digitsEnd s (gapEnd s p))
+fieldAt part limit s p = let start = gapEnd false s p in fieldBetween part limit s start (runEnd digit s start)
 
 -- a number that is found ends within the bytes
 abbrev pub EndsWithin : List ℕ → Field → Type 0

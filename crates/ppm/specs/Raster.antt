@@ -3,8 +3,8 @@ use Prim.Native.Nat.{ℕ, _+_, _*_, _/_, _%_, _≤_, min}
 use mathlib.Core.Path.{_≡_}
 use mathlib.Core.Bool.{Bool, true, false}
 use mathlib.Core.List.{List, [], _∷_}
-use lib.ListN.{length}
-use lib.Seq.{paste}
+use lib.ListN.{length, take}
+use Rattle.rules.specs.Memory.{spliced}
 
 -- the codes that bytes are; a last byte that is half a code is none
 unfoldable pub codesOf : Bool → List ℕ → List ℕ
@@ -32,4 +32,4 @@ byteCount true n = n * 2
 pub record Copied (src dst : List ℕ) (n : ℕ) (dst′ : List ℕ) : Type 0 where
   pub count : n ≡ min (length src) (length dst)
   pub within : n ≤ length dst′
-  pub made : dst′ ≡ paste dst 0 src n
+  pub made : dst′ ≡ spliced dst 0 (take n src)

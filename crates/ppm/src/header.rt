@@ -1,14 +1,15 @@
 // The header: P6 and a whitespace byte, then width, height and maxval. Each number stands after whitespace and comments, if any, and is ended by
 // one whitespace byte; the one after maxval is the last byte before the pixels.
 use numbers::spelt;
+use rules::Depth;
 use scan::ByteKind;
-use scan::run_length;
+use scan::run_end;
 ghost use mathlib.Core.Path.{_≡_};
 ghost use mathlib.Core.Bool.{false};
 ghost use Prim.Native.Nat.{_≤_};
 ghost use lib.ListN.{length};
 ghost use Rattle.numbers.specs.Cuts.{mostLimit};
-ghost use Rattle.ppm.specs.Header.{whitespace, goesOn, commentAfter, gapLength, gapEnd, digitsEnd, startsP6, fieldAt, EndsWithin, headerOf, afterWidth, afterHeight};
+ghost use Rattle.ppm.specs.Header.{whitespace, goesOn, commentAfter, gapEnd, startsP6, fieldBetween, fieldAt, EndsWithin, headerOf, afterWidth, afterHeight};
 
 // The numbers of a header, in their order.
 pub enum Part {
@@ -51,8 +52,6 @@ enum Field {
 
 const MOST_SIZE: u64 = 2_147_483_647;
 
-const MOST_MAXVAL: u64 = 65_535;
-
 // ---- whitespace and comments
 
 // Space, tab, newline, vertical tab, form feed or carriage return.
@@ -94,13 +93,14 @@ fn comment_after(comment: bool, b: u8) -> bool
     b != b'\r'
 }
 
-// How many bytes of whitespace and comments stand first.
-fn gap_length(s: &[u8]) -> usize
-    ensures counts { λ r. ⌜ r ≡ gapLength false (now (s .entry)) ⌝ }
+// Where the whitespace and comments from a place on end.
+fn gap_end(s: &[u8], from: usize) -> usize
+    requires { ⌜ from ≤ length (now s) ⌝ }
+    ensures ends { λ r. ⌜ r ≡ gapEnd false (now (s .entry)) from ⌝ }
     ensures within { λ r. ⌜ r ≤ length (now (s .entry)) ⌝ }
 {
     let mut comment = false;
-    let mut i = 0;
+    let mut i = from;
     while i < s.len() {
         let b = s[i];
         if !goes_on(comment, b) {
@@ -112,34 +112,14 @@ fn gap_length(s: &[u8]) -> usize
     i
 }
 
-// Where the whitespace and comments from a place on end.
-fn gap_end(s: &[u8], from: usize) -> usize
-    requires { ⌜ from ≤ length (now s) ⌝ }
-    ensures ends { λ r. ⌜ r ≡ gapEnd (now (s .entry)) from ⌝ }
-    ensures within { λ r. ⌜ r ≤ length (now (s .entry)) ⌝ }
-{
-    from + gap_length(&s[from..])
-}
-
 // ---- a number
 
-// Where the digits from a place on end.
-fn digits_end(s: &[u8], from: usize) -> usize
-    requires { ⌜ from ≤ length (now s) ⌝ }
-    ensures ends { λ r. ⌜ r ≡ digitsEnd (now (s .entry)) from ⌝ }
-    ensures within { λ r. ⌜ r ≤ length (now (s .entry)) ⌝ }
-{
-    from + run_length(&s[from..], ByteKind::Digit)
-}
-
-// The number from a place on.
-fn field_at(s: &[u8], from: usize, limit: u64, part: Part) -> Field
-    requires { ⌜ (from ≤ length (now s)) × (limit ≤ mostLimit) ⌝ }
-    ensures says { λ r. ⌜ r ≡ fieldAt part limit (now (s .entry)) from ⌝ }
+// The number whose digits stand from a start to an end: a whitespace byte ends it, and it is within the limit.
+fn field_between(s: &[u8], start: usize, end: usize, limit: u64, part: Part) -> Field
+    requires { ⌜ (start ≤ end) × (end ≤ length (now s)) × (limit ≤ mostLimit) ⌝ }
+    ensures says { λ r. ⌜ r ≡ fieldBetween part limit (now (s .entry)) start end ⌝ }
     ensures within { λ r. ⌜ EndsWithin (now (s .entry)) r ⌝ }
 {
-    let start = gap_end(s, from);
-    let end = digits_end(s, start);
     if end == s.len() {
         return Field::Lacks(Fault::EndsEarly);
     }
@@ -153,10 +133,19 @@ fn field_at(s: &[u8], from: usize, limit: u64, part: Part) -> Field
     if limit < value {
         return Field::Lacks(Fault::Beyond(part));
     }
-    Field::Says(Count {
-        value,
-        next: end + 1,
-    })
+    let next = end + 1;
+    Field::Says(Count { value, next })
+}
+
+// The number from a place on.
+fn field_at(s: &[u8], from: usize, limit: u64, part: Part) -> Field
+    requires { ⌜ (from ≤ length (now s)) × (limit ≤ mostLimit) ⌝ }
+    ensures says { λ r. ⌜ r ≡ fieldAt part limit (now (s .entry)) from ⌝ }
+    ensures within { λ r. ⌜ EndsWithin (now (s .entry)) r ⌝ }
+{
+    let start = gap_end(s, from);
+    let end = run_end(s, start, ByteKind::Digit);
+    field_between(s, start, end, limit, part)
 }
 
 // ---- the header
@@ -181,7 +170,7 @@ fn after_height(s: &[u8], width: u64, height: Count) -> Header
     ensures { λ r. ⌜ r ≡ afterHeight (now (s .entry)) width height ⌝ }
 {
     let at = height.next;
-    let field = field_at(s, at, MOST_MAXVAL, Part::Maxval);
+    let field = field_at(s, at, Depth::BITS_16 as u64, Part::Maxval);
     match field {
         Field::Lacks(fault) => Header::Wrong(fault),
         Field::Says(maxval) => Header::Stands(Frame {

@@ -1,16 +1,11 @@
 // The pixels: codes of one byte, or of two, the greater first.
+use whole::lesser_count;
 ghost use mathlib.Core.Path.{_≡_};
-ghost use Prim.Native.Nat.{_+_, _*_, _/_, _%_, _<_, _≤_, min};
+ghost use Prim.Native.Nat.{_+_, _*_, _/_, _%_, _<_, _≤_};
 ghost use lib.Dec.{leb};
 ghost use lib.ListN.{length, getD};
 ghost use Rattle.rules.specs.Reading.Lines.{run};
 ghost use Rattle.ppm.specs.Raster.{Copied, byteCount, bytesOf, codeCount, codesOf};
-
-fn smaller(a: usize, b: usize) -> usize
-    ensures { λ r. ⌜ r ≡ min a b ⌝ }
-{
-    if a < b { a } else { b }
-}
 
 // ---- bytes to codes
 
@@ -33,17 +28,18 @@ fn code_at(bytes: &[u8], wide: bool, i: usize) -> u16
     requires { ⌜ i < codeCount wide (length (now bytes)) ⌝ }
     ensures { λ r. ⌜ r ≡ getD (codesOf wide (now (bytes .entry))) i 0 ⌝ }
 {
-    if wide {
-        return joined(bytes[i * 2], bytes[i * 2 + 1]);
+    if !wide {
+        return joined(0, bytes[i]);
     }
-    joined(0, bytes[i])
+    let first = i * 2;
+    joined(bytes[first], bytes[first + 1])
 }
 
 // Puts the codes that bytes are at the start of `codes`, as many as there are and fit, and answers how many.
 pub fn codes_from(bytes: &[u8], wide: bool, codes: &mut [u16]) -> usize
     ensures { λ r. ⌜ Copied (codesOf wide (now (bytes .entry))) (now (codes .entry)) r (now (codes .exit)) ⌝ }
 {
-    let n = smaller(code_count(bytes.len(), wide), codes.len());
+    let n = lesser_count(code_count(bytes.len(), wide), codes.len());
     let mut i = 0;
     while i < n {
         codes[i] = code_at(bytes, wide, i);
@@ -82,17 +78,18 @@ fn byte_at(codes: &[u16], wide: bool, i: usize) -> u8
     if !wide {
         return lesser_byte(codes[i]);
     }
+    let code = codes[i / 2];
     if i % 2 == 0 {
-        return greater_byte(codes[i / 2]);
+        return greater_byte(code);
     }
-    lesser_byte(codes[i / 2])
+    lesser_byte(code)
 }
 
 // Puts the bytes that codes are at the start of `bytes`, as many as there are and fit, and answers how many.
 pub fn bytes_from(codes: &[u16], wide: bool, bytes: &mut [u8]) -> usize
     ensures { λ r. ⌜ Copied (bytesOf wide (now (codes .entry))) (now (bytes .entry)) r (now (bytes .exit)) ⌝ }
 {
-    let n = smaller(byte_count(codes.len(), wide), bytes.len());
+    let n = lesser_count(byte_count(codes.len(), wide), bytes.len());
     let mut i = 0;
     while i < n {
         bytes[i] = byte_at(codes, wide, i);

@@ -2,14 +2,13 @@
 use Prim.Native.Nat.{ℕ, suc, _+_, _≤_}
 use mathlib.Core.Path.{_≡_, refl, sym, ap, subst, _∙_}
 use mathlib.Core.Logic.{⊎-elim}
-use mathlib.Core.List.{List, [], _∷_, append-assoc, append-nil, flatten, map}
-use native.Mathlib.Nat.{add-zero}
+use mathlib.Core.List.{List, [], _∷_, append-nil, flatten, map}
 use native.Mathlib.Omega.{arith}
 use lib.IntN.{ℤ}
-use lib.ListN.{length, set, take-append-drop}
-use lib.Seq.{sets-eq}
+use lib.ListN.{length, set}
 use denote.Enum.Declared.{tagOf}
 use types.Run.{OneOf}
+use Rattle.rules.specs.Memory.{spliced}
 use Rattle.rules.specs.Reading.Lines.{wordsOf}
 use Rattle.rules.specs.Reading.Items.{numbersOf, rowIn}
 use Rattle.rules.specs.Reading.Grammar.{Line, gather, put}
@@ -22,13 +21,14 @@ use Rattle.rules.specs.declared.Item.the-variants.{Nothing, OfTitle, OfLower, O
 use Rattle.rules.specs.declared.Refusal.{Refusal}
 use Rattle.rules.specs.declared.Row.{Row}
 use Rattle.rules.proofs.Form.{the-type}
+use Rattle.rules.proofs.Memory.{stores-splice}
 use Rattle.rules.proofs.Reading.Acceptance.{lines-samples}
 use Rattle.rules.proofs.Reading.OneLine.{found}
 use Rattle.rules.proofs.Reading.Order.{formFor}
 use Rattle.content.specs.Found.{sayRow}
 use Rattle.content.specs.declared.RowFound.{RowFound}
 use Rattle.content.specs.declared.RowFound.the-variants.{ARow, NoRow}
-use Rattle.reading.specs.Tables.{LineKeeps, written}
+use Rattle.reading.specs.Tables.{LineKeeps}
 
 -- ---- what the samples are
 
@@ -69,14 +69,10 @@ module _ (l : List ℕ) (answer : RowFound) (data-line : formOf l ≡ Data) (say
 
 -- ---- how they are written
 
--- a table with no other numbers is as it was
-pub none-written : (table : List ℤ) (at : ℕ) → table ≡ written table at []
-none-written table at = sym (rw add-zero (take-append-drop at table))
-
 -- three stores one after the other
 pub three-written : (table : List ℤ) (at : ℕ) (x y z : ℤ) → at + 3 ≤ length table
-    → set (set (set table at x) (at + 1) y) (at + 2) z ≡ written table at (x ∷ y ∷ z ∷ [])
+    → set (set (set table at x) (at + 1) y) (at + 2) z ≡ spliced table at (x ∷ y ∷ z ∷ [])
 three-written table at x y z h =
     let one : at + 1 ≡ suc at = omega arith in
     let two : at + 2 ≡ suc (suc at) = omega arith in
-    rw (one, two, sets-eq (x ∷ y ∷ z ∷ []) table at h, append-assoc)
+    rw (one, two) (stores-splice table at (x ∷ y ∷ z ∷ []) h)

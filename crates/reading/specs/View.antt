@@ -4,7 +4,7 @@ use mathlib.Core.Path.{_≡_}
 use mathlib.Core.Bool.{Bool, true, false, cond}
 use mathlib.Core.Option.{Option, none, some}
 use lib.IntN.{natAbs}
-use Rattle.rules.specs.Units.{boundLimit, inRange}
+use Rattle.rules.specs.Units.{boundLimit, inRange, rowLimit}
 use Rattle.rules.specs.Descriptions.{lowest, highest, noTitle}
 use Rattle.rules.specs.Reading.Judge.{noSize, State as Given}
 use Rattle.rules.specs.declared.Bounds.{Bounds}
@@ -41,12 +41,12 @@ pub record Fit (st : State) : Type 0 where
   pub upper-within : BoundsWithin (st .upper)
   pub size-within : st .sized ≡ true → inRange (st .size .kind) (st .size .n) ≡ true
   pub after-size : 0 < st .rows → st .sized ≡ true
-  pub few : st .rows ≤ 16_777_216
+  pub few : st .rows ≤ rowLimit
 
 -- a row may be counted: there is a size, and room for one more
 pub record RowWelcome (st : State) : Type 0 where
   pub sized-so : st .sized ≡ true
-  pub room : st .rows < 16_777_216
+  pub room : st .rows < rowLimit
 
 -- an item that the state can take in: within the limits, and a row only where one may be counted
 abbrev pub Welcome : State → Item → Type 0

@@ -6,20 +6,20 @@ use text::Cursor;
 use text::Step;
 use text::form_of;
 ghost use mathlib.Core.Path.{_≡_};
-ghost use mathlib.Core.List.{_++_};
 ghost use Prim.Native.Nat.{_+_, _≤_};
-ghost use lib.ListN.{length, drop};
+ghost use lib.ListN.{length};
+ghost use Rattle.rules.specs.Memory.{spliced};
 ghost use Rattle.rules.specs.Reading.Lines.{linesOf};
 ghost use Rattle.rules.specs.Reading.Contents.{contentOf};
 ghost use Rattle.rules.specs.Reading.{samplesIn, samplesOf};
-ghost use Rattle.reading.specs.Tables.{LineKeeps, Accepts, written};
+ghost use Rattle.reading.specs.Tables.{LineKeeps, Accepts};
 
 // The samples of a line from a place on; the place past them.
 fn put_line(l: &[u8], table: &mut [i64], at: usize) -> usize
     requires { ⌜ LineKeeps (now l) ⌝ }
     requires { ⌜ at + length (samplesIn (contentOf 0 (now l))) ≤ length (now table) ⌝ }
     ensures next { λ r. ⌜ r ≡ at + length (samplesIn (contentOf 0 (now (l .entry)))) ⌝ }
-    ensures puts { λ r. ⌜ now (table .exit) ≡ written (now (table .entry)) at (samplesIn (contentOf 0 (now (l .entry)))) ⌝ }
+    ensures puts { λ r. ⌜ now (table .exit) ≡ spliced (now (table .entry)) at (samplesIn (contentOf 0 (now (l .entry)))) ⌝ }
 {
     let Form::Data = form_of(l) else {
         return at;
@@ -39,7 +39,7 @@ fn put_line(l: &[u8], table: &mut [i64], at: usize) -> usize
 // The samples of a file from the table's start on.
 pub fn fill(file: &[u8], table: &mut [i64])
     requires { ⌜ Accepts (now file) (length (now table)) ⌝ }
-    ensures { λ _. ⌜ now (table .exit) ≡ samplesOf (linesOf (now (file .entry))) ++ drop (length (samplesOf (linesOf (now (file .entry))))) (now (table .entry)) ⌝ }
+    ensures { λ _. ⌜ now (table .exit) ≡ spliced (now (table .entry)) 0 (samplesOf (linesOf (now (file .entry)))) ⌝ }
 {
     let mut c = Cursor::new();
     let mut at = 0;

@@ -1,3 +1,3 @@
--- Laws that the proofs of the functions cite: of the last line, and of the text as a whole.
-pub mod TitleLines
+-- Laws that the proofs of the functions cite: of lines by their parts, and of the text as a whole.
+pub mod Lines
 pub mod Answered

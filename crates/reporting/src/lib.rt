@@ -1,10 +1,10 @@
 // What the report program prints: five lines of an accepted file, or one of a refusal.
 use judge::count_rows;
 use lettering::put;
+use lettering::put_byte;
 use lettering::put_decimal;
 use lettering::put_signed;
 use reading::read;
-use rules::Colour;
 use rules::Description;
 use rules::Domain;
 use rules::Kind;
@@ -15,10 +15,11 @@ use rules::Title;
 use whole::Whole;
 ghost use mathlib.Core.Path.{_≡_};
 ghost use mathlib.Core.Bool.{true};
-ghost use mathlib.Core.List.{_∷_};
+ghost use mathlib.Core.List.{[], _∷_, _++_};
 ghost use Rattle.rules.specs.Units.{inRange};
 ghost use Rattle.rules.specs.Answers.{refusalNumber};
-ghost use Rattle.rules.specs.Reporting.{decimal, signedDecimal, kindName, colourName, cubeLine, domainLine, titleLine, refusedLine, answerText, Reports};
+ghost use Rattle.rules.specs.Decimals.{decimal, signedDecimal};
+ghost use Rattle.rules.specs.Reporting.{lineOf, cubeLine, domainLines, titleLine, refusedLine, answerText, Reports};
 ghost use Rattle.rules.specs.declared.Read.the-variants.{Accepted};
 ghost use Rattle.lettering.specs.Putting.{Room, Puts};
 ghost use Rattle.reporting.specs.Telling.{TitleInside, Tellable};
@@ -26,54 +27,47 @@ ghost use Rattle.reporting.specs.Telling.{TitleInside, Tellable};
 // The longest input, in bytes.
 const MOST_BYTES: usize = 65_536;
 
-// ---- fields, each with the tab before it
+// ---- fields, each with the byte that ends it: a tab, or a newline after the last
 
-fn put_field(out: &mut [u8], at: usize, text: &[u8]) -> usize
-    requires { ⌜ Room (now out) at (9 ∷ now text) ⌝ }
-    ensures { λ r. ⌜ Puts (now (out .entry)) at (9 ∷ now (text .entry)) r (now (out .exit)) ⌝ }
+fn put_count(out: &mut [u8], at: usize, n: u64, end: u8) -> usize
+    requires { ⌜ Room (now out) at (decimal n ++ (end ∷ [])) ⌝ }
+    ensures { λ r. ⌜ Puts (now (out .entry)) at (decimal n ++ (end ∷ [])) r (now (out .exit)) ⌝ }
 {
-    let after_tab = put(out, at, b"\t");
-    put(out, after_tab, text)
+    let after_digits = put_decimal(out, at, n);
+    put_byte(out, after_digits, end)
 }
 
-fn put_count(out: &mut [u8], at: usize, n: u64) -> usize
-    requires { ⌜ Room (now out) at (9 ∷ decimal n) ⌝ }
-    ensures { λ r. ⌜ Puts (now (out .entry)) at (9 ∷ decimal n) r (now (out .exit)) ⌝ }
+fn put_bound(out: &mut [u8], at: usize, bound: Thousandths, end: u8) -> usize
+    requires { ⌜ Room (now out) at (signedDecimal (bound .0) ++ (end ∷ [])) ⌝ }
+    ensures { λ r. ⌜ Puts (now (out .entry)) at (signedDecimal (bound .0) ++ (end ∷ [])) r (now (out .exit)) ⌝ }
 {
-    let after_tab = put(out, at, b"\t");
-    put_decimal(out, after_tab, n)
+    let after_digits = put_signed(out, at, Whole(bound.0));
+    put_byte(out, after_digits, end)
 }
 
-fn put_bound(out: &mut [u8], at: usize, bound: Thousandths) -> usize
-    requires { ⌜ Room (now out) at (9 ∷ signedDecimal (bound .0)) ⌝ }
-    ensures { λ r. ⌜ Puts (now (out .entry)) at (9 ∷ signedDecimal (bound .0)) r (now (out .exit)) ⌝ }
+// ---- lines, of which the first fields are given as they stand
+
+// Two counts.
+fn put_counts(out: &mut [u8], at: usize, start: &[u8], first: u64, second: u64) -> usize
+    requires { ⌜ Room (now out) at (now start ++ lineOf (decimal first ∷ decimal second ∷ [])) ⌝ }
+    ensures { λ r. ⌜ Puts (now (out .entry)) at (now (start .entry) ++ lineOf (decimal first ∷ decimal second ∷ [])) r (now (out .exit)) ⌝ }
 {
-    let after_tab = put(out, at, b"\t");
-    put_signed(out, after_tab, Whole(bound.0))
+    let after_start = put(out, at, start);
+    let after_first = put_count(out, after_start, first, b'\t');
+    put_count(out, after_first, second, b'\n')
 }
 
-fn put_kind(out: &mut [u8], at: usize, kind: Kind) -> usize
-    requires { ⌜ Room (now out) at (9 ∷ kindName kind) ⌝ }
-    ensures { λ r. ⌜ Puts (now (out .entry)) at (9 ∷ kindName kind) r (now (out .exit)) ⌝ }
+// Lower, upper.
+fn put_domain(out: &mut [u8], at: usize, start: &[u8], domain: Domain) -> usize
+    requires { ⌜ Room (now out) at (now start ++ lineOf (signedDecimal (domain .lower .0) ∷ signedDecimal (domain .upper .0) ∷ [])) ⌝ }
+    ensures { λ r. ⌜ Puts (now (out .entry)) at (now (start .entry) ++ lineOf (signedDecimal (domain .lower .0) ∷ signedDecimal (domain .upper .0) ∷ [])) r (now (out .exit)) ⌝ }
 {
-    match kind {
-        Kind::OneD => put_field(out, at, b"1D"),
-        Kind::ThreeD => put_field(out, at, b"3D"),
-    }
+    let lower = domain.lower;
+    let upper = domain.upper;
+    let after_start = put(out, at, start);
+    let after_lower = put_bound(out, after_start, lower, b'\t');
+    put_bound(out, after_lower, upper, b'\n')
 }
-
-fn put_colour(out: &mut [u8], at: usize, colour: Colour) -> usize
-    requires { ⌜ Room (now out) at (9 ∷ colourName colour) ⌝ }
-    ensures { λ r. ⌜ Puts (now (out .entry)) at (9 ∷ colourName colour) r (now (out .exit)) ⌝ }
-{
-    match colour {
-        Colour::Red => put_field(out, at, b"red"),
-        Colour::Green => put_field(out, at, b"green"),
-        Colour::Blue => put_field(out, at, b"blue"),
-    }
-}
-
-// ---- lines
 
 // Kind, N, rows.
 fn put_cube(out: &mut [u8], at: usize, kind: Kind, n: usize) -> usize
@@ -82,25 +76,20 @@ fn put_cube(out: &mut [u8], at: usize, kind: Kind, n: usize) -> usize
     ensures { λ r. ⌜ Puts (now (out .entry)) at (cubeLine kind n) r (now (out .exit)) ⌝ }
 {
     let rows = count_rows(kind, n);
-    let after_name = put(out, at, b"cube");
-    let after_kind = put_kind(out, after_name, kind);
-    let after_n = put_count(out, after_kind, n as u64);
-    let after_rows = put_count(out, after_n, rows as u64);
-    put(out, after_rows, b"\n")
+    match kind {
+        Kind::OneD => put_counts(out, at, b"cube\t1D\t", n as u64, rows as u64),
+        Kind::ThreeD => put_counts(out, at, b"cube\t3D\t", n as u64, rows as u64),
+    }
 }
 
-// Colour, lower, upper.
-fn put_domain(out: &mut [u8], at: usize, colour: Colour, domain: Domain) -> usize
-    requires { ⌜ Room (now out) at (domainLine colour domain) ⌝ }
-    ensures { λ r. ⌜ Puts (now (out .entry)) at (domainLine colour domain) r (now (out .exit)) ⌝ }
+// One text.
+fn put_text(out: &mut [u8], at: usize, start: &[u8], text: &[u8]) -> usize
+    requires { ⌜ Room (now out) at (now start ++ (now text ++ (10 ∷ []))) ⌝ }
+    ensures { λ r. ⌜ Puts (now (out .entry)) at (now (start .entry) ++ (now (text .entry) ++ (10 ∷ []))) r (now (out .exit)) ⌝ }
 {
-    let lower = domain.lower;
-    let upper = domain.upper;
-    let after_name = put(out, at, b"domain");
-    let after_colour = put_colour(out, after_name, colour);
-    let after_lower = put_bound(out, after_colour, lower);
-    let after_upper = put_bound(out, after_lower, upper);
-    put(out, after_upper, b"\n")
+    let after_start = put(out, at, start);
+    let after_text = put(out, after_start, text);
+    put_byte(out, after_text, b'\n')
 }
 
 // Yes and the text, or no.
@@ -114,10 +103,7 @@ fn put_title(out: &mut [u8], at: usize, input: &[u8], title: Title) -> usize
     }
     let first = title.place;
     let count = title.length;
-    let end = first + count;
-    let after_yes = put(out, at, b"title\tyes\t");
-    let after_text = put(out, after_yes, &input[first..end]);
-    put(out, after_text, b"\n")
+    put_text(out, at, b"title\tyes\t", &input[first..first + count])
 }
 
 // Number, line.
@@ -125,13 +111,22 @@ fn put_refused(out: &mut [u8], reason: Refusal, line: usize) -> usize
     requires { ⌜ Room (now out) 0 (refusedLine (refusalNumber reason) line) ⌝ }
     ensures { λ r. ⌜ Puts (now (out .entry)) 0 (refusedLine (refusalNumber reason) line) r (now (out .exit)) ⌝ }
 {
-    let after_name = put(out, 0, b"refused");
-    let after_number = put_count(out, after_name, reason.number() as u64);
-    let after_line = put_count(out, after_number, line as u64);
-    put(out, after_line, b"\n")
+    put_counts(out, 0, b"refused\t", reason.number() as u64, line as u64)
 }
 
 // ---- the text
+
+fn put_domains(out: &mut [u8], at: usize, d: Description) -> usize
+    requires { ⌜ Room (now out) at (domainLines d) ⌝ }
+    ensures { λ r. ⌜ Puts (now (out .entry)) at (domainLines d) r (now (out .exit)) ⌝ }
+{
+    let red = d.red;
+    let green = d.green;
+    let blue = d.blue;
+    let after_red = put_domain(out, at, b"domain\tred\t", red);
+    let after_green = put_domain(out, after_red, b"domain\tgreen\t", green);
+    put_domain(out, after_green, b"domain\tblue\t", blue)
+}
 
 fn put_accepted(out: &mut [u8], input: &[u8], d: Description) -> usize
     requires { ⌜ Tellable (now input) d ⌝ }
@@ -139,15 +134,10 @@ fn put_accepted(out: &mut [u8], input: &[u8], d: Description) -> usize
     ensures { λ r. ⌜ Puts (now (out .entry)) 0 (answerText (now (input .entry)) (Accepted d)) r (now (out .exit)) ⌝ }
 {
     let kind = d.kind;
-    let red = d.red;
-    let green = d.green;
-    let blue = d.blue;
     let title = d.title;
     let after_cube = put_cube(out, 0, kind, d.n);
-    let after_red = put_domain(out, after_cube, Colour::Red, red);
-    let after_green = put_domain(out, after_red, Colour::Green, green);
-    let after_blue = put_domain(out, after_green, Colour::Blue, blue);
-    put_title(out, after_blue, input, title)
+    let after_domains = put_domains(out, after_cube, d);
+    put_title(out, after_domains, input, title)
 }
 
 // The text of the answer to `input`, from the first of the lent bytes on; answers its length, which is never more than theirs.

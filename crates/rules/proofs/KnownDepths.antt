@@ -1,10 +1,10 @@
 -- A known depth's greatest code M is from 1 to 65535: each of the four is, whichever test finds it; and two depths are known where each is.
 use Prim.Native.Nat.{ℕ, _≤_, _<_}
-use mathlib.Core.Path.{_≡_, refl, ap, subst, _∙_}
+use mathlib.Core.Path.{_≡_, refl, sym, ap, ap₂, subst, _∙_}
 use mathlib.Core.Bool.{Bool, true, false, cond}
 use native.Mathlib.Omega.{arith}
 use lib.Dec.{eqb, lit<, lit≤}
-use Rattle.rules.specs.Units.{depthOf, depthsOf, together, rawM, correctedM}
+use Rattle.rules.specs.Units.{depthOf, depthsOf, together, sameBits, sameDepth, rawM, correctedM}
 use Rattle.rules.specs.declared.Bits.{Bits}
 use Rattle.rules.specs.declared.Depth.{Depth}
 use Rattle.rules.specs.declared.Depths.{Depths}
@@ -57,3 +57,12 @@ pub depths-bounds : (bits : Bits) (depths : Depths) → depthsOf bits ≡ Both d
 depths-bounds bits depths e =
     let k = each-known bits depths e in
     (depth-bounds (bits .raw) (depths .raw) (k .raw), depth-bounds (bits .corrected) (depths .corrected) (k .corrected))
+
+-- ---- one width for both
+
+pub same-known : (width : ℕ) (m : Depth) → depthOf width ≡ Known m → depthsOf (sameBits width) ≡ Both (sameDepth m)
+same-known width m e = ap₂ together e e
+
+-- both depths of one width are one
+pub same-depths : (width : ℕ) (depths : Depths) → depthsOf (sameBits width) ≡ Both depths → depths .raw ≡ depths .corrected
+same-depths width depths e = let k = each-known (sameBits width) depths e in let q = sym (k .raw) ∙ k .corrected in cc

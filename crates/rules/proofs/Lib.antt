@@ -5,8 +5,9 @@ pub mod Tests
 pub mod Colours
 pub mod KnownDepths
 pub mod Sound
--- lent memory with some places replaced
+-- lent memory with some places replaced; numbers as text
 pub mod Memory
+pub mod Decimals
 -- a word, a line and the lines in their order; acceptance is the grammar; the first refused line decides; what is accepted is not 24
 pub mod Reading
 -- either reading of a position, the rule's own, weights and rows, and that an accepted look is right

@@ -6,8 +6,8 @@ use mathlib.Core.List.{List, [], _∷_, _++_, append-assoc}
 use native.Mathlib.Nat.{add-zero}
 use native.Mathlib.Numerals.{add-one}
 use native.Mathlib.Omega.{arith}
-use lib.ListN.{length, take, drop, set, length-append, length-drop, take-append-drop}
-use lib.Seq.{take-at, drop-at, drop-drop, take-append-seam, length-take-le, set-split, sets, sets-eq}
+use lib.ListN.{length, take, drop, getD, set, length-append, length-drop, take-append-drop}
+use lib.Seq.{take-at, drop-at, drop-drop, take-append-seam, take-suc, length-take-le, set-split, sets, sets-eq}
 use Rattle.rules.specs.Memory.{spliced}
 
 module _ {A : Type 0} where
@@ -72,3 +72,12 @@ module _ {A : Type 0} where
   -- some stores in a row
   pub stores-splice : (old : List A) (at : ℕ) (new : List A) → at + length new ≤ length old → sets old at new ≡ spliced old at new
   stores-splice old at new fits = sets-eq new old at fits ∙ append-assoc (take at old) new _
+
+  -- a turn of a loop that copies: one more of the values that are to stand there
+  pub splice-more : (old : List A) (at : ℕ) (new : List A) (i : ℕ) (d : A) → at + length new ≤ length old → i < length new
+      → set (spliced old at (take i new)) (at + i) (getD new i d) ≡ spliced old at (take (i + 1) new)
+  splice-more old at new i d fits h =
+      let i-long : length (take i new) ≡ i = length-take-le i new (omega arith) in
+      ap (λ n. set (spliced old at (take i new)) (at + n) (getD new i d)) (sym i-long)
+      ∙ splice-store old at (take i new) (getD new i d) (omega (arith, i-long))
+      ∙ ap (spliced old at) (sym (take-suc new i d h) ∙ ap (λ n. take n new) (sym (add-one i)))

@@ -1,3 +1,2 @@
 -- Laws of the report's text.
-pub mod Decimals
 pub mod Lengths

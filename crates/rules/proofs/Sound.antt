@@ -25,14 +25,15 @@ use Rattle.rules.proofs.Tests.{and-both, both-and}
 
 -- ---- rows
 
+-- no N is greater than the greatest of 1D
+pub greatest-most : (k : Kind) → greatestN k ≤ greatestN OneD
+greatest-most OneD = omega arith
+greatest-most ThreeD = omega arith
+
 -- a table has at most 256·256·256 rows
 pub rows-most : (k : Kind) (n : ℕ) → n ≤ greatestN k → rowsOf k n ≤ rowLimit
 rows-most OneD n h = omega arith
 rows-most ThreeD n h = mul-le-mul (mul-le-mul h h) h
-
-pub greatest-most : (k : Kind) → greatestN k ≤ 65_536
-greatest-most OneD = omega arith
-greatest-most ThreeD = omega arith
 
 -- ---- a domain by itself
 

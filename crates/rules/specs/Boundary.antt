@@ -23,6 +23,7 @@ use Rattle.rules.specs.declared.Look.the-variants as L
 use Rattle.rules.specs.declared.Picture.{Picture}
 use Rattle.rules.specs.declared.Picture.the-variants as P
 use Rattle.rules.specs.declared.Refusal.the-variants.{CouldNotBeRead}
+use Rattle.rules.specs.declared.Title.{Title}
 
 -- ---- a description as eleven numbers
 
@@ -64,19 +65,23 @@ kindIn eleven =
 abbrev pub domainIn : List ℤ → ℕ → Domain
 domainIn eleven c = record { lower = record { 0 = numberAt eleven (2 + c) }; upper = record { 0 = numberAt eleven (5 + c) } }
 
--- 0 is without a title, and any other number with one
-abbrev pub markIn : List ℤ → Bool
-markIn eleven = not (eqb (natAbs (numberAt eleven 8)) 0)
+-- a number below 0 counts as 0
+abbrev pub countIn : List ℤ → ℕ → ℕ
+countIn eleven k = up (numberAt eleven k)
 
--- a number below 0 counts as 0: an N of 0 is out of range too
+-- 0 is without a title, and any other number with one
+abbrev pub titleAt : List ℤ → Title
+titleAt eleven = record { there = not (eqb (natAbs (numberAt eleven 8)) 0); place = countIn eleven 9; length = countIn eleven 10 }
+
+-- an N of 0 is out of range too
 abbrev pub descriptionIn : List ℤ → Kind → Description
 descriptionIn eleven k = record {
   kind = k;
-  n = up (numberAt eleven 1);
+  n = countIn eleven 1;
   red = domainIn eleven 0;
   green = domainIn eleven 1;
   blue = domainIn eleven 2;
-  title = record { there = markIn eleven; place = up (numberAt eleven 9); length = up (numberAt eleven 10) };
+  title = titleAt eleven;
 }
 
 abbrev describedBy : List ℤ → Option Kind → Option Description

@@ -1,8 +1,9 @@
 -- Documents 000 and 01 as definitions. A reader who believes these files, and whole's, knows what is promised.
 
--- units, depths, rows and places; lent memory; the description, the rules on its domains, and 24
+-- units, depths, rows and places; lent memory; numbers as text; the description, the rules on its domains, and 24
 pub mod Units
 pub mod Memory
+pub mod Decimals
 pub mod Descriptions
 -- reading: bytes, lines and words; a file that keeps the specification, as a property; reading, as a function, in the order of the checks
 pub mod Reading

@@ -1,17 +1,18 @@
 -- Document 01, "Checked by hand": what the report program answers on its standard input, and the bytes that it prints.
-use Prim.Native.Nat.{ℕ, zero, suc, _+_, _/_, _%_}
+use Prim.Native.Nat.{ℕ}
 use mathlib.Core.Path.{_≡_}
 use mathlib.Core.Bool.{cond}
 use mathlib.Core.List.{List, [], _∷_, _++_}
-use lib.Dec.{ltb, leb}
-use lib.IntN.{ℤ, pos, negsuc}
+use lib.Dec.{leb}
 use lib.ListN.{length, take, drop}
 use Rattle.rules.specs.Units.{rowsOf}
+use Rattle.rules.specs.Decimals.{decimal, signedDecimal}
 use Rattle.rules.specs.Reading.Lines.{bytes}
 use Rattle.rules.specs.Reading.{read}
 use Rattle.rules.specs.Answers.{readNumber, readLine}
 use Rattle.rules.specs.declared.Colour.{Colour}
 use Rattle.rules.specs.declared.Colour.the-variants.{Red, Green, Blue}
+use Rattle.rules.specs.declared.Description.{Description}
 use Rattle.rules.specs.declared.Domain.{Domain}
 use Rattle.rules.specs.declared.Kind.{Kind}
 use Rattle.rules.specs.declared.Kind.the-variants.{OneD, ThreeD}
@@ -33,26 +34,6 @@ reportPlaces = 8_190
 -- longer input is 30 on line 0
 unfoldable pub report : List ℕ → Read
 report input = cond (leb (length input) reportBytes) (read input reportPlaces) (Refused InputTooLong 0)
-
--- ---- numbers as text
-
--- the byte of a digit
-abbrev pub digitByte : ℕ → ℕ
-digitByte d = 48 + d
-
--- the digits of n, with at most `more` before the last
-unfoldable pub decimalIn : ℕ → ℕ → List ℕ
-decimalIn zero n = digitByte n ∷ []
-decimalIn (suc more) n = cond (ltb n 10) (digitByte n ∷ []) (decimalIn more (n / 10) ++ (digitByte (n % 10) ∷ []))
-
--- a natural number in decimal digits, without leading zeros; it has at most n before the last
-unfoldable pub decimal : ℕ → List ℕ
-decimal n = decimalIn n n
-
--- a number below 0 has - before it
-unfoldable pub signedDecimal : ℤ → List ℕ
-signedDecimal (pos n) = decimal n
-signedDecimal (negsuc n) = 45 ∷ decimal (suc n)
 
 -- ---- lines
 
@@ -79,6 +60,10 @@ cubeLine k n = lineOf (bytes "cube" ∷ kindName k ∷ decimal n ∷ decimal (ro
 unfoldable pub domainLine : Colour → Domain → List ℕ
 domainLine c dom = lineOf (bytes "domain" ∷ colourName c ∷ signedDecimal (dom .lower .0) ∷ signedDecimal (dom .upper .0) ∷ [])
 
+-- a line for each colour
+unfoldable pub domainLines : Description → List ℕ
+domainLines d = domainLine Red (d .red) ++ (domainLine Green (d .green) ++ domainLine Blue (d .blue))
+
 -- with a title: yes, the text
 unfoldable pub titleLine : List ℕ → Title → List ℕ
 titleLine input t =
@@ -93,12 +78,7 @@ refusedLine number line = lineOf (bytes "refused" ∷ decimal number ∷ decimal
 -- ---- the bytes printed
 
 unfoldable pub answerText : List ℕ → Read → List ℕ
-answerText input (Accepted d) =
-    cubeLine (d .kind) (d .n)
-    ++ (domainLine Red (d .red)
-    ++ (domainLine Green (d .green)
-    ++ (domainLine Blue (d .blue)
-    ++ titleLine input (d .title))))
+answerText input (Accepted d) = cubeLine (d .kind) (d .n) ++ (domainLines d ++ titleLine input (d .title))
 answerText input (Refused r n) = refusedLine (readNumber (Refused r n)) (readLine (Refused r n))
 
 unfoldable pub reportText : List ℕ → List ℕ

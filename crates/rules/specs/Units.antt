@@ -11,6 +11,7 @@ use Rattle.rules.specs.declared.Colour.{Colour}
 use Rattle.rules.specs.declared.Colour.the-variants.{Red, Green, Blue}
 use Rattle.rules.specs.declared.DepthFound.{DepthFound}
 use Rattle.rules.specs.declared.DepthFound.the-variants.{Known, Unknown}
+use Rattle.rules.specs.declared.Depth.{Depth}
 use Rattle.rules.specs.declared.Depths.{Depths}
 use Rattle.rules.specs.declared.DepthsFound.{DepthsFound}
 use Rattle.rules.specs.declared.DepthsFound.the-variants.{Both, NotBoth}
@@ -73,6 +74,9 @@ depthsOf bits = together (depthOf (bits .raw)) (depthOf (bits .corrected))
 -- one width for both
 abbrev pub sameBits : ℕ → Bits
 sameBits width = record { raw = width; corrected = width }
+
+abbrev pub sameDepth : Depth → Depths
+sameDepth m = record { raw = m; corrected = m }
 
 -- the M of raw codes, and that of corrected codes
 abbrev pub rawM : Depths → ℕ

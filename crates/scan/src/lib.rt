@@ -1,9 +1,10 @@
-// Kinds of bytes, and the longest first run of one kind: blanks, words, digits, a line, a title's text. One loop serves them all.
+// Kinds of bytes, and where a run of one kind ends: blanks, words, digits, a line, a title's text. One loop serves them all.
 ghost use mathlib.Core.Path.{_≡_};
 ghost use Prim.Native.Nat.{_≤_};
 ghost use lib.ListN.{length};
 ghost use Rattle.rules.specs.Reading.Lines.{permitted, blank, digit, inTitle, numberByte, run};
 ghost use Rattle.scan.specs.Kinds.{kindOf};
+ghost use Rattle.scan.specs.RunEnds.{runEnd};
 
 // The kinds of bytes that runs are made of.
 pub enum ByteKind {
@@ -88,12 +89,13 @@ fn is_kind(k: ByteKind, b: u8) -> bool
     }
 }
 
-// How long the longest first run of bytes of a kind is.
-pub fn run_length(s: &[u8], k: ByteKind) -> usize
-    ensures counts { λ r. ⌜ r ≡ length (run (kindOf k) (now (s .entry))) ⌝ }
+// Where the run of bytes of a kind from a place on ends.
+pub fn run_end(s: &[u8], from: usize, k: ByteKind) -> usize
+    requires { ⌜ from ≤ length (now s) ⌝ }
+    ensures ends { λ r. ⌜ r ≡ runEnd (kindOf k) (now (s .entry)) from ⌝ }
     ensures within { λ r. ⌜ r ≤ length (now (s .entry)) ⌝ }
 {
-    let mut i = 0;
+    let mut i = from;
     while i < s.len() {
         if !is_kind(k, s[i]) {
             return i;
@@ -101,4 +103,12 @@ pub fn run_length(s: &[u8], k: ByteKind) -> usize
         i += 1;
     }
     i
+}
+
+// How long the longest first run of bytes of a kind is.
+pub fn run_length(s: &[u8], k: ByteKind) -> usize
+    ensures counts { λ r. ⌜ r ≡ length (run (kindOf k) (now (s .entry))) ⌝ }
+    ensures within { λ r. ⌜ r ≤ length (now (s .entry)) ⌝ }
+{
+    run_end(s, 0, k)
 }

@@ -1,7 +1,14 @@
 -- Theorems of the C boundary.
 
--- what crosses it; the demands, of the C calls themselves
+-- what crosses it, and the numbers that the C calls answer
 pub mod Crossing
-pub mod Calls
+pub mod Numbers
+-- the demands, of each call itself, and of one after another
+pub mod Reads
+pub mod Looks
+pub mod Pictures
+pub mod Together
 -- wrong calls that the promises rule out
-pub mod WrongCalls
+pub mod WrongReads
+pub mod WrongLooks
+pub mod WrongPictures

@@ -1,10 +1,11 @@
 -- What the signature covers: theorems about the rules that no code needs. docs/PROMISES.md has them by the demands' sentences.
 
--- demand 1: each promise decides its answer; the numbers that each call can answer; titles change no answer
+-- demand 1: each promise decides its answer; titles change no answer
 pub mod Unique
-pub mod AnswerNumbers
 pub mod Untitled
--- demands 2 and 3, of reading, look and picture
+-- a law of tests that several of them use
+pub mod Either
+-- the demands, of reading, look and picture, and the wrong programs that their promises rule out
 pub mod Reading
 pub mod Looking
 pub mod Picturing
@@ -12,6 +13,5 @@ pub mod Picturing
 pub mod Boundary
 -- the bytes that the report program prints
 pub mod Reporting
--- document 01's cases, and the wrong programs that the promises rule out
+-- document 01's cases
 pub mod Cases
-pub mod WrongPrograms

@@ -2,5 +2,7 @@
 
 -- the ends of the domain
 pub mod DomainEnds
--- what could be read is never 24
-pub mod Never24
+-- the numbers that it answers
+pub mod Numbers
+-- wrong programs that its promise rules out
+pub mod WrongPrograms

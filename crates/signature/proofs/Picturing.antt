@@ -2,5 +2,8 @@
 
 -- its pixels are those of look
 pub mod Codes
--- what picture's promise decides
+-- the numbers that it answers, and what its promise decides
+pub mod Numbers
 pub mod Promised
+-- wrong programs that it rules out
+pub mod WrongPrograms

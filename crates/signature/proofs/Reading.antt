@@ -6,5 +6,8 @@ pub mod Nines
 -- where numbers stand, and the lines by their numbers
 pub mod Places
 pub mod LineNumbers
--- what reading's promise decides
+-- the numbers that it answers, and what its promise decides
+pub mod Numbers
 pub mod Promised
+-- wrong readers that it rules out
+pub mod WrongPrograms

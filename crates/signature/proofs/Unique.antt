@@ -4,6 +4,7 @@ use mathlib.Core.Path.{_≡_, sym, _∙_}
 use mathlib.Core.List.{List}
 use lib.IntN.{ℤ}
 use Rattle.rules.specs.Promises.{Reads, Looks, Pictures}
+use Rattle.rules.specs.declared.Bits.{Bits}
 use Rattle.rules.specs.declared.Codes.{Codes}
 use Rattle.rules.specs.declared.Description.{Description}
 use Rattle.rules.specs.declared.Look.{Look}
@@ -11,11 +12,11 @@ use Rattle.rules.specs.declared.Picture.{Picture}
 use Rattle.rules.specs.declared.Read.{Read}
 use Rattle.rules.proofs.Answers.{looks-is, pictures-is, reads-is}
 
-module _ {d : Description} {table : List ℤ} {bits : ℕ} {pixel : Codes} where
+module _ {d : Description} {table : List ℤ} {bits : Bits} {pixel : Codes} where
   pub looks-one : {r s : Look} → Looks d table bits pixel r → Looks d table bits pixel s → r ≡ s
   looks-one p q = looks-is p ∙ sym (looks-is q)
 
-module _ {d : Description} {table : List ℤ} {bits : ℕ} {src dst : List ℕ} where
+module _ {d : Description} {table : List ℤ} {bits : Bits} {src dst : List ℕ} where
   pub pictures-one : {r s : Picture} {dst′ dst″ : List ℕ} → Pictures d table bits src dst r dst′ → Pictures d table bits src dst s dst″ → (r ≡ s) × (dst′ ≡ dst″)
   pictures-one p q = (pictures-is p .0 ∙ sym (pictures-is q .0), p .memory ∙ sym (q .memory))
 

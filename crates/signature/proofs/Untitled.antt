@@ -2,20 +2,23 @@
 use Prim.Native.Nat.{ℕ}
 use mathlib.Core.Path.{_≡_, refl, ap, ap₂, fun-ext}
 use mathlib.Core.Bool.{cond}
-use mathlib.Core.List.{List, [], _∷_, _++_}
+use mathlib.Core.List.{List, _++_}
 use lib.IntN.{ℤ}
 use lib.ListN.{length, drop}
-use Rattle.rules.specs.Units.{depthOf, codeIn}
+use Rattle.rules.specs.Units.{rawM, correctedM, depthsOf, codeIn}
 use Rattle.rules.specs.Descriptions.{domain, agree, roomy, couldBeRead}
 use Rattle.rules.specs.Looking.Interpolation.{den, index, fraction, order, pairBy, pathBy, pair, path, sharesFor, codeBy}
 use Rattle.rules.specs.Looking.{within, shown, six, codeOf, correct, lookAt, look}
-use Rattle.rules.specs.Answers.{lookCodes}
-use Rattle.rules.specs.Picturing.{pixelOf, corrected, picture, outputAfter}
+use Rattle.rules.specs.Answers.{codesIn}
+use Rattle.rules.specs.Demands.{pixelAt}
+use Rattle.rules.specs.Picturing.{corrected, picture, outputAfter}
+use Rattle.rules.specs.declared.Bits.{Bits}
+use Rattle.rules.specs.declared.Depths.{Depths}
+use Rattle.rules.specs.declared.DepthsFound.{DepthsFound}
+use Rattle.rules.specs.declared.DepthsFound.the-variants.{Both, NotBoth}
 use Rattle.rules.specs.declared.Codes.{Codes}
 use Rattle.rules.specs.declared.Colour.{Colour}
 use Rattle.rules.specs.declared.Colour.the-variants.{Red, Green, Blue}
-use Rattle.rules.specs.declared.DepthFound.{DepthFound}
-use Rattle.rules.specs.declared.DepthFound.the-variants.{Known, Unknown}
 use Rattle.rules.specs.declared.Description.{Description}
 use Rattle.rules.specs.declared.Domain.{Domain}
 use Rattle.rules.specs.declared.Kind.{Kind}
@@ -25,6 +28,7 @@ use Rattle.rules.specs.declared.Picture.{Picture}
 use Rattle.rules.specs.declared.Picture.the-variants as P
 use Rattle.rules.specs.declared.Refusal.the-variants.{CodeTooGreat, CouldNotBeRead}
 use Rattle.rules.specs.declared.Title.{Title}
+use Rattle.rules.proofs.Picturing.Checks.{each-same}
 
 -- the same description with another title
 abbrev pub retitled : Description → Title → Description
@@ -73,38 +77,33 @@ module _ (d : Description) (t : Title) where
       same-shown OneD = rw (same-pair Red, same-pair Green, same-pair Blue)
       same-shown ThreeD = ap six same-path
 
-      same-code : (corrected : ℕ) (c : Colour) → codeOf e table m corrected pixel c ≡ codeOf d table m corrected pixel c
-      same-code corrected c = ap₂ (λ ss (dom : Domain). codeBy corrected (den m dom) table c ss) (same-shares (d .kind) c) (same-domain c)
+    same-code : (depths : Depths) (c : Colour) → codeOf e table depths pixel c ≡ codeOf d table depths pixel c
+    same-code depths c =
+        ap₂ (λ ss (dom : Domain). codeBy (correctedM depths) (den (rawM depths) dom) table c ss) (same-shares (rawM depths) (d .kind) c) (same-domain c)
 
-      same-correct : (corrected : ℕ) → correct e table m corrected pixel ≡ correct d table m corrected pixel
-      same-correct corrected i = record { red = same-code corrected Red i; green = same-code corrected Green i; blue = same-code corrected Blue i }
+    same-correct : (depths : Depths) → correct e table depths pixel ≡ correct d table depths pixel
+    same-correct depths i = record { red = same-code depths Red i; green = same-code depths Green i; blue = same-code depths Blue i }
 
-    same-at : (x : DepthFound) → lookAt e table pixel x ≡ lookAt d table pixel x
+    same-at : (x : DepthsFound) → lookAt e table pixel x ≡ lookAt d table pixel x
     unfolding lookAt
-    same-at Unknown = refl
-    same-at (Known m) =
-        let m = m .greatest in
-        ap₂ (λ codes shares. cond (within m pixel) (Accepted codes shares) (Refused CodeTooGreat)) (same-correct m m) (same-shown m (d .kind))
+    same-at NotBoth = refl
+    same-at (Both depths) =
+        ap₂ (λ codes shares. cond (within (rawM depths) pixel) (Accepted codes shares) (Refused CodeTooGreat)) (same-correct depths) (same-shown (rawM depths) (d .kind))
 
-    pub untitled-look : (bits : ℕ) → look e table bits pixel ≡ look d table bits pixel
+    pub untitled-look : (bits : Bits) → look e table bits pixel ≡ look d table bits pixel
     unfolding look
-    untitled-look bits = ap₂ (λ could x. cond could x (Refused CouldNotBeRead)) (same-24 table) (same-at (depthOf bits))
+    untitled-look bits = ap₂ (λ could x. cond could x (Refused CouldNotBeRead)) (same-24 table) (same-at (depthsOf bits))
 
   -- ---- picture
 
-  pub untitled-picture : (table : List ℤ) (bits : ℕ) (src : List ℕ) (places : ℕ) → picture e table bits src places ≡ picture d table bits src places
+  pub untitled-picture : (table : List ℤ) (bits : Bits) (src : List ℕ) (places : ℕ) → picture e table bits src places ≡ picture d table bits src places
   unfolding picture
   untitled-picture table bits src places = rw (same-24 table)
 
-  same-corrected : (table : List ℤ) (bits : ℕ) (src : List ℕ) → corrected e table bits src ≡ corrected d table bits src
-  unfolding corrected
-  same-corrected table bits [] = refl
-  same-corrected table bits (r ∷ []) = refl
-  same-corrected table bits (r ∷ g ∷ []) = refl
-  same-corrected table bits (r ∷ g ∷ b ∷ rest) =
-      ap₂ (λ x y. lookCodes x ++ y) (untitled-look table (pixelOf r g b) bits) (same-corrected table bits rest)
+  same-corrected : (table : List ℤ) (bits : Bits) (src : List ℕ) → corrected e table bits src ≡ corrected d table bits src
+  same-corrected table bits src = each-same _ _ src (λ k h. ap codesIn (untitled-look table (pixelAt src k) bits))
 
-  pub untitled-output : (table : List ℤ) (bits : ℕ) (src dst : List ℕ) (r : Picture) → outputAfter e table bits src dst r ≡ outputAfter d table bits src dst r
+  pub untitled-output : (table : List ℤ) (bits : Bits) (src dst : List ℕ) (r : Picture) → outputAfter e table bits src dst r ≡ outputAfter d table bits src dst r
   unfolding outputAfter
   untitled-output table bits src dst P.Accepted = ap (λ x. x ++ drop (length src) dst) (same-corrected table bits src)
   untitled-output table bits src dst (P.Refused r) = refl

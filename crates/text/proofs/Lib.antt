@@ -1,5 +1,4 @@
--- Laws of runs, lines, words and first bytes, and the cursor's invariant.
-pub mod RunLaws
+-- Laws of lines, words and first bytes, and the cursor's invariant.
 pub mod LinesFrom
 pub mod Newlines
 pub mod Standing

@@ -11,8 +11,7 @@ use lib.Seq.{drop-drop, length-take-le}
 use Rattle.rules.specs.Reading.Lines.{linesOf, onFirst, run}
 use Rattle.scan.specs.Kinds.{inLine}
 use Rattle.text.specs.LinesFrom.{endOf, linesFrom}
-use Rattle.text.proofs.RunLaws.{end-within}
-use Rattle.scan.proofs.Runs.{take-run}
+use Rattle.scan.proofs.Runs.{end-within, take-to-end}
 
 -- the bytes of the line that starts at place p
 abbrev pub lineFrom : List ℕ → ℕ → List ℕ
@@ -49,9 +48,8 @@ lines-of-part s p k h = split (ltb (length s) (p + suc k)) refl
 pub lines-cut : (s : List ℕ) (p : ℕ) → p ≤ length s → linesOf (drop p s) ≡ lineFrom s p ∷ linesFrom s (endOf s p + 1)
 lines-cut s p h =
     let k : ℕ = length (run inLine (drop p s)) in
-    let e : p + k - p ≡ k = omega arith in
-    let f : p + k + 1 ≡ p + suc k = omega arith in
-    rw (e, f, take-run inLine (drop p s), ← lines-of-part s p k h) (first-line (drop p s))
+    let f : endOf s p + 1 ≡ p + suc k = omega arith in
+    rw (f, take-to-end inLine s p, ← lines-of-part s p k h) (first-line (drop p s))
 
 pub lines-next : (s : List ℕ) (p : ℕ) → p ≤ length s → linesFrom s p ≡ lineFrom s p ∷ linesFrom s (endOf s p + 1)
 lines-next s p h = lines-inside s p h ∙ lines-cut s p h

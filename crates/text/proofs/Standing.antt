@@ -13,7 +13,7 @@ use Rattle.scan.specs.Kinds.{inLine}
 use Rattle.text.specs.LinesFrom.{endOf, linesFrom, stepAt}
 use Rattle.text.specs.declared.cursor.Cursor.{Cursor}
 use Rattle.text.specs.declared.cursor.Step.the-variants.{Line, End}
-use Rattle.text.proofs.RunLaws.{end-within}
+use Rattle.scan.proofs.Runs.{end-within}
 use Rattle.text.proofs.Newlines.{newlines-before, newlines-next}
 use Rattle.text.proofs.LinesFrom.{lines-all, lines-next, lines-past, next-start}
 

@@ -1,5 +1,5 @@
 -- The words from a place on are the word that stands next and the words past it: what is left of the line is blanks, the word, and what does not go on with it.
-use Prim.Native.Nat.{ℕ, _+_, _-_, _≤_, _<_}
+use Prim.Native.Nat.{ℕ, _-_, _≤_, _<_}
 use mathlib.Core.Path.{_≡_, refl, sym, ap, _∙_}
 use mathlib.Core.Bool.{Bool, true, false, cond, not}
 use mathlib.Core.List.{List, [], _∷_, _++_}
@@ -7,15 +7,13 @@ use native.Mathlib.Omega.{arith}
 use borrow.Author.Tests.{eqb-false, eqb-true}
 use lib.Dec.{eqb}
 use lib.ListN.{length, drop, take, drop-of-length-le, length-drop}
-use lib.Seq.{drop-drop}
 use Rattle.rules.specs.Reading.Lines.{after, blank, inWord, run, starts, wordsOf}
 use Rattle.rules.proofs.Tests.{no-true}
 use Rattle.rules.proofs.Reading.Runs.{after-stops, run-after, run-every, run-starts}
 use Rattle.rules.proofs.Reading.Wordings.{words-first}
 use Rattle.text.specs.WordsFrom.{wordAt, wordEnd, wordStart}
 use Rattle.text.specs.declared.words.Word.the-variants.{At, Nothing}
-use Rattle.text.proofs.RunLaws.{end-within}
-use Rattle.scan.proofs.Runs.{take-run, drop-run}
+use Rattle.scan.proofs.Runs.{drop-to-end, end-within, take-to-end}
 
 -- ---- the first word of a list
 
@@ -59,7 +57,7 @@ pub record WordFound (l : List ℕ) (from start end : ℕ) : Type 0 where
 
 module _ (l : List ℕ) (from : ℕ) where
   past-blanks : after blank (drop from l) ≡ drop (wordStart l from) l
-  past-blanks = sym (drop-run blank (drop from l)) ∙ drop-drop (length (run blank (drop from l))) from l
+  past-blanks = sym (drop-to-end blank l from)
 
   pub words-none : wordAt l from ≡ Nothing → wordsOf (drop from l) ≡ []
   words-none = split (eqb (wordStart l from) (length l)) refl
@@ -72,15 +70,13 @@ module _ (l : List ℕ) (from : ℕ) where
   word-there h n =
       let a : ℕ = wordStart l from in
       let x : List ℕ = drop a l in
-      let k : ℕ = length (run inWord x) in
       let i : a ≤ length l = end-within blank l from h in
       let s : starts inWord x ≡ true = rw past-blanks at (word-starts (drop from l) (λ e. n (omega (arith, length-drop a l, ap length (sym past-blanks ∙ e))))) in
-      let e : a + k - a ≡ k = omega arith in
       record {
         onward = omega arith;
         nonempty = omega (arith, word-some x s);
         inside = end-within inWord l a i;
-        words = rw (e, ← drop-drop k a l, take-run inWord x, drop-run inWord x) (first-word (drop from l) x past-blanks s);
+        words = rw (take-to-end inWord l a, drop-to-end inWord l a) (first-word (drop from l) x past-blanks s);
       }
 
   pub words-next : (start end : ℕ) → from ≤ length l → wordAt l from ≡ At start end → WordFound l from start end

@@ -1,5 +1,4 @@
--- Places in text: where runs end, what a cursor finds, where words stand; and what the answers say.
-pub mod RunEnds
+-- Places in text: what a cursor finds, where words stand; and what the answers say.
 pub mod LinesFrom
 pub mod WordsFrom
 pub mod Answers

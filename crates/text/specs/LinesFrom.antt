@@ -6,7 +6,7 @@ use lib.Dec.{ltb}
 use lib.ListN.{length, drop}
 use Rattle.rules.specs.Reading.Lines.{linesOf}
 use Rattle.scan.specs.Kinds.{inLine}
-use Rattle.text.specs.RunEnds.{runEnd}
+use Rattle.scan.specs.RunEnds.{runEnd}
 use Rattle.text.specs.declared.cursor.Step.{Step}
 use Rattle.text.specs.declared.cursor.Step.the-variants.{Line, End}
 

@@ -5,7 +5,7 @@ use mathlib.Core.List.{List}
 use lib.Dec.{eqb}
 use lib.ListN.{length}
 use Rattle.rules.specs.Reading.Lines.{blank, inWord}
-use Rattle.text.specs.RunEnds.{runEnd}
+use Rattle.scan.specs.RunEnds.{runEnd}
 use Rattle.text.specs.declared.words.Word.{Word}
 use Rattle.text.specs.declared.words.Word.the-variants.{At, Nothing}
 

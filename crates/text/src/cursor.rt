@@ -1,6 +1,6 @@
 // A line cursor by value: each step hands back the next cursor, place and line number together.
-use crate::runs::run_end;
 use scan::ByteKind;
+use scan::run_end;
 ghost use mathlib.Core.Path.{_≡_};
 ghost use Prim.Native.Nat.{_+_, _≤_};
 ghost use Rattle.text.specs.LinesFrom.{stepAt};

@@ -1,4 +1,4 @@
-// Runs of bytes of one kind: where one from a place ends, what stands after it, and whether it is all.
+// The longest first run of bytes of one kind: what stands after it, and whether it is all.
 use scan::ByteKind;
 use scan::run_length;
 ghost use mathlib.Core.Path.{_≡_};
@@ -6,16 +6,6 @@ ghost use Prim.Native.Nat.{_≤_};
 ghost use lib.ListN.{length};
 ghost use Rattle.rules.specs.Reading.Lines.{after, every};
 ghost use Rattle.scan.specs.Kinds.{kindOf};
-ghost use Rattle.text.specs.RunEnds.{runEnd};
-
-// Where the run of a kind from a place on ends.
-pub fn run_end(s: &[u8], from: usize, k: ByteKind) -> usize
-    requires { ⌜ from ≤ length (now s) ⌝ }
-    ensures ends { λ r. ⌜ r ≡ runEnd (kindOf k) (now (s .entry)) from ⌝ }
-    ensures within { λ r. ⌜ r ≤ length (now (s .entry)) ⌝ }
-{
-    from + run_length(&s[from..], k)
-}
 
 // What stands after the longest first run of a kind.
 pub fn after(s: &[u8], k: ByteKind) -> &[u8]

@@ -1,6 +1,6 @@
 // The words of a line, one at a time, by their places.
-use crate::runs::run_end;
 use scan::ByteKind;
+use scan::run_end;
 ghost use mathlib.Core.Path.{_≡_};
 ghost use Prim.Native.Nat.{_≤_};
 ghost use lib.ListN.{length};

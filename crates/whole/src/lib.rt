@@ -4,9 +4,9 @@ pub use order::lesser;
 pub use order::lesser_code;
 pub use order::lesser_count;
 ghost use mathlib.Core.Path.{_≡_};
-ghost use Prim.Native.Nat.{_+_, _*_, _≤_, _<_};
+ghost use Prim.Native.Nat.{_+_, _*_, _≤_, _<_, max};
 ghost use lib.IntN.{pos, natAbs, _+ℤ_, _*ℤ_};
-ghost use Rattle.whole.specs.Integers.{up};
+ghost use Rattle.whole.specs.Integers.{up, dn};
 ghost use Rattle.whole.specs.Nearest.{code};
 
 mod order;
@@ -57,6 +57,30 @@ impl Whole {
         s as u64
     }
 
+    // The lesser of two is as far below 0 as the farther of them.
+    pub fn lesser(self, other: Whole) -> Whole
+        ensures { λ r. ⌜ dn (r .0) ≡ max (dn (self .0)) (dn (other .0)) ⌝ }
+    {
+        let x = self.0;
+        let y = other.0;
+        if x < y {
+            return self;
+        }
+        other
+    }
+
+    // The greater of two is as far above 0 as the farther of them.
+    pub fn greater(self, other: Whole) -> Whole
+        ensures { λ r. ⌜ up (r .0) ≡ max (up (self .0)) (up (other .0)) ⌝ }
+    {
+        let x = self.0;
+        let y = other.0;
+        if y < x {
+            return self;
+        }
+        other
+    }
+
     // The code from 0 to m that is nearest to self / den, the greater of two equally near.
     pub fn nearest(self, den: u64, m: u64) -> u64
         requires { ⌜ 0 < den ⌝ }
@@ -65,6 +89,6 @@ impl Whole {
     {
         let n = self.above();
         let q = (2 * n + den) / (2 * den);
-        if q < m { q } else { m }
+        lesser(m, q)
     }
 }

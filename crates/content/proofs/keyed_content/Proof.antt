@@ -21,17 +21,11 @@ enum-told-2 c = search needs
 bounds-on-requires : tie.Need-bounds-on-requires
 bounds-on-requires c κs = search needs
 
-as-lower-requires : tie.Need-as-lower-requires
-as-lower-requires c κs = search needs
-
 enum-told-3 : tie.Need-enum-told-3
 enum-told-3 c = search needs
 
 bounds-on-requires-2 : tie.Need-bounds-on-requires-2
 bounds-on-requires-2 c κs = search needs
-
-as-upper-requires : tie.Need-as-upper-requires
-as-upper-requires c κs = search needs
 
 enum-known-keyword : tie.Need-enum-known-keyword
 enum-known-keyword c = search needs
@@ -46,18 +40,16 @@ returns c = rw (c .before .enum-told .given .1) (c .title-of .ensures)
 returns-2 : tie.Need-returns-2
 unfolding contentBy
 returns-2 c =
-    let b = c .before in
-    let k = b .before in
+    let k = c .before in
     let w = k .before .before in
-    rw (k .enum-told2 .given .1) (c .as-lower .ensures ∙ b .bounds-on .ensures OfLower ∙ ap (boundsOf OfLower) (w .after-first-word .ensures .1))
+    rw (k .enum-told2 .given .1) (c .bounds-on .ensures ∙ ap (boundsOf OfLower) (w .after-first-word .ensures .1))
 
 returns-3 : tie.Need-returns-3
 unfolding contentBy
 returns-3 c =
-    let b = c .before in
-    let k = b .before in
+    let k = c .before in
     let w = k .before .before in
-    rw (k .enum-told3 .given .1) (c .as-upper .ensures ∙ b .bounds-on2 .ensures OfUpper ∙ ap (boundsOf OfUpper) (w .after-first-word .ensures .1))
+    rw (k .enum-told3 .given .1) (c .bounds-on2 .ensures ∙ ap (boundsOf OfUpper) (w .after-first-word .ensures .1))
 
 returns-4 : tie.Need-returns-4
 unfolding contentBy
@@ -75,10 +67,8 @@ keyed-content-spec =
     title-of-requires
     enum-told-2
     bounds-on-requires
-    as-lower-requires
     enum-told-3
     bounds-on-requires-2
-    as-upper-requires
     enum-known-keyword
     size-on-requires
     returns

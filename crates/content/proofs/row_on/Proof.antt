@@ -1,28 +1,24 @@
 -- What the values found say is what the definition says of the words; a value that an i64 holds is the sample handed on.
-use denote.Ref.{now}
-use mathlib.Core.Path.{_≡_, ap, _∙_}
-use borrow.Author.Needs.{needs}
-use Rattle.rules.specs.Reading.Lines.{wordsOf}
-use Rattle.rules.specs.Reading.Contents.{rowOf, samplesOn, values}
+use mathlib.Core.Path.{_∙_}
+use lib.IntN.{ℤ}
+use Rattle.rules.specs.Reading.Contents.{rowOf, samplesOn}
+use Rattle.rules.specs.declared.Content.{Content}
 use Rattle.rules.specs.declared.Content.the-variants.{Says}
 use Rattle.rules.specs.declared.Item.the-variants.{OfRow}
-use Rattle.rules.specs.declared.Refusal.the-variants.{NotThreeNumbers, SampleBeyond, SampleTooFine}
-use Rattle.content.specs.Found.{sayValues}
 use Rattle.content.proofs.InOrder.{held}
+use borrow.Author.Needs.{needs}
 use Rattle.content.proofs.row_on.Statement.{statement}
 use Rattle.content.proofs.row_on.Tie as tie
 
-said : (c : tie.After-values-of) → sayValues (c .values-of .result) (λ x y z. Says (OfRow (rowOf x y z))) ≡ samplesOn (wordsOf (now (c .before .before .before .args .l)))
-unfolding samplesOn
-said c =
-    c .values-of .ensures _
-    ∙ ap (λ o. values NotThreeNumbers SampleBeyond SampleTooFine o (λ x y z. Says (OfRow (rowOf x y z)))) (c .before .three-numbers .ensures)
+-- what three values say
+abbrev saying : ℤ → ℤ → ℤ → Content
+saying x y z = Says (OfRow (rowOf x y z))
 
-three-numbers-requires : tie.Need-three-numbers-requires
-three-numbers-requires c κs = search needs
+cast-limit : tie.Need-cast-limit
+cast-limit c = search needs
 
-values-of-requires : tie.Need-values-of-requires
-values-of-requires c κs = search needs
+values-on-requires : tie.Need-values-on-requires
+values-on-requires c κs = search needs
 
 enum-known-t : tie.Need-enum-known-t
 enum-known-t c = search needs
@@ -31,22 +27,17 @@ enum-known-r : tie.Need-enum-known-r
 enum-known-r c = search needs
 
 returns : tie.Need-returns
+unfolding samplesOn
 returns c =
-    let k = c .before .before .before in
-    let t = k .before .t .given in
+    let t = c .before .before .before .before in
+    let x = t .t .given .0 .0 in
     let f = c .struct-told3 .given in
-    held (λ x y z. Says (OfRow (rowOf x y z))) (t .0 .0 .x) (t .0 .0 .y) (t .0 .0 .z) (f .0 .1) (f .1 .0 .1) (f .1 .1 .0 .1) ∙ (rw (t .1) at (said (k .before .before .before)))
+    held saying (x .x) (x .y) (x .z) (f .0 .1) (f .1 .0 .1) (f .1 .1 .0 .1) ∙ (rw (t .t .given .1) at (t .before .before .values-on .ensures saying))
 
 returns-2 : tie.Need-returns-2
-returns-2 c = rw (c .before .r .given .1) at (said (c .before .before .before))
+unfolding samplesOn
+returns-2 c = rw (c .before .r .given .1) at (c .before .before .before .values-on .ensures saying)
 
 pub row-on-spec : {M : Type 1} → statement M
 row-on-spec =
-    tie.close
-    (tie.spec
-    three-numbers-requires
-    values-of-requires
-    enum-known-t
-    enum-known-r
-    returns
-    returns-2)
+    tie.close (tie.spec cast-limit values-on-requires enum-known-t enum-known-r returns returns-2)

@@ -8,7 +8,7 @@ use borrow.Author.Needs.{needs}
 use borrow.Author.Tests.{le-leb, not-true, not-false}
 use lib.ListN.{length, take}
 use lib.Seq.{length-take-le}
-use Rattle.rules.specs.Units.{inRange}
+use Rattle.rules.specs.Units.{inRange, rowLimit}
 use Rattle.rules.specs.Descriptions.{rows, everyColour, boundsFit, ordered, narrow, agree, roomy, samplesFit, couldBeRead}
 use Rattle.rules.specs.declared.Description.{Description}
 use Rattle.rules.proofs.Sound.{too-short}
@@ -48,7 +48,7 @@ narrow-enough c = sym (c .before .domains-keep3 .ensures) ∙ not-false _ (c .if
 agreed : (c : tie.Else5) → agree (d5 c .kind) (d5 c) ≡ true
 agreed c = sym (c .before .agree .ensures) ∙ not-false _ (c .if5 .left)
 
-small : (c : tie.After-count-rows) → c .count-rows .result ≤ 16_777_216
+small : (c : tie.After-count-rows) → c .count-rows .result ≤ rowLimit
 small c =
     let d = d5 (c .before) in
     rw (c .count-rows .ensures) (rows-most (d .kind) (d .n) (ranged (c .before .before .before .before .before .before .before .before .before)))

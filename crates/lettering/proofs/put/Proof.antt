@@ -45,7 +45,7 @@ same-length : tie.Need-same-length Inv-loop μ-loop
 same-length c = let l = c .before in part-length (l .loop .inv) (l .before .pre)
 
 returns : tie.Need-returns Inv-loop μ-loop
-returns c = all-put (c .before .loop .inv) (c .loop-test .left)
+returns c = let l = c .before in all-put (l .loop .inv) (l .before .pre) (c .loop-test .left)
 
 pub put-spec : {M : Type 1} → statement M
 put-spec =

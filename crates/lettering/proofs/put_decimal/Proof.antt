@@ -2,7 +2,7 @@
 use mathlib.Core.Path.{_≡_, _∙_}
 use borrow.Author.Needs.{needs}
 use lib.ListN.{take}
-use Rattle.rules.specs.Reporting.{decimal}
+use Rattle.rules.specs.Decimals.{decimal}
 use Rattle.lettering.proofs.Digits.{fewest-decimal}
 use Rattle.lettering.proofs.put_decimal.Statement.{statement}
 use Rattle.lettering.proofs.put_decimal.Tie as tie

@@ -8,8 +8,7 @@ use lib.Dec.{eqb}
 use lib.ListN.{length}
 use Rattle.rules.specs.Reading.Lines.{digit, run}
 use Rattle.rules.specs.Reading.Numerals.{digits}
-use Rattle.numbers.proofs.Words.{run-there}
-use Rattle.scan.proofs.Runs.{every-run}
+use Rattle.scan.proofs.Runs.{every-run, run-there}
 use Rattle.numbers.proofs.is_digits.Statement.{statement}
 use Rattle.numbers.proofs.is_digits.Tie as tie
 

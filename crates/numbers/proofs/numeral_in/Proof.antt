@@ -33,7 +33,7 @@ abbrev whole : tie.After-starts-with2 → ℕ
 whole c = c .before .before .before .sign-length .result
 
 abbrev point : tie.After-starts-with2 → ℕ
-point c = c .before .before .digits-end .result
+point c = c .before .before .run-end .result
 
 abbrev fraction : tie.After-starts-with2 → ℕ
 fraction c = point c + boolByte (c .starts-with2 .result)
@@ -43,42 +43,42 @@ is-pointed c = c .starts-with2 .ensures ∙ ap (starts pointByte) (part-to-end (
 
 fraction-in : (c : tie.After-starts-with2) → fraction c ≤ length (word c)
 fraction-in c =
-    omega (arith, c .before .before .digits-end .ensures .inside, ap boolByte (is-pointed c), starts-room pointByte (drop (point c) (word c)), length-drop (point c) (word c))
+    omega (arith, c .before .before .run-end .ensures .1, ap boolByte (is-pointed c), starts-room pointByte (drop (point c) (word c)), length-drop (point c) (word c))
 
 -- ---- up to the place where an exponent may stand
 
-abbrev end : tie.After-digits-end2 → ℕ
-end c = c .digits-end2 .result
+abbrev end : tie.After-run-end2 → ℕ
+end c = c .run-end2 .result
 
 -- whether the digits that must be there are
-abbrev enough : tie.After-digits-end2 → Bool → Bool
+abbrev enough : tie.After-run-end2 → Bool → Bool
 enough c pointed = cond pointed (ltb (fraction (c .before)) (end c)) (ltb (whole (c .before)) (point (c .before)))
 
 -- with an exponent, or none if that is wrong
-abbrev with : tie.After-digits-end2 → Option Exponent → Option Numeral
+abbrev with : tie.After-run-end2 → Option Exponent → Option Numeral
 with c x =
     let k = c .before in
     let w = word k in
     assemble true (k .before .before .before .before .starts-with .result) (part w (whole k) (point k)) (part w (fraction k) (end c)) x
 
-read : (c : tie.After-digits-end2) (t : Bool) → enough c (c .before .starts-with2 .result) ≡ t → cond t (with c (exponentOf (drop (end c) (word (c .before))))) none ≡ numeralOf (word (c .before))
+read : (c : tie.After-run-end2) (t : Bool) → enough c (c .before .starts-with2 .result) ≡ t → cond t (with c (exponentOf (drop (end c) (word (c .before))))) none ≡ numeralOf (word (c .before))
 read c t e =
     let k = c .before in
     let s = k .before .before .before in
     sym (ap (λ b. cond b (with c (exponentOf (drop (end c) (word k)))) none) e)
     ∙ numeral-by (word k) (s .before .starts-with .result) (whole k) (point k) (end c) (k .starts-with2 .result) (s .before .starts-with .ensures) (s .sign-length .ensures .0)
-    (k .before .before .digits-end .ensures) (is-pointed k) (c .digits-end2 .ensures)
+    (k .before .before .run-end .ensures .0) (is-pointed k) (c .run-end2 .ensures .0)
 
 tested : (c : tie.Joined1) → c .if1 .there ≡ enough (c .before) (c .before .before .starts-with2 .result)
 tested c = ⊎-elim (λ t. t .1 ∙ sym (ap (enough (c .before)) (t .0 .taken))) (λ t. t .1 ∙ sym (ap (enough (c .before)) (t .0 .left))) (c .if1 .came)
 
 -- ---- the exponent
 
-abbrev found : tie.After-power-in → tie.After-digits-end2
+abbrev found : tie.After-power-in → tie.After-run-end2
 found c = c .before .before .before .before
 
 -- what the answer on it says of the word
-abbrev Says : tie.After-digits-end2 → PowerFound → Type 0
+abbrev Says : tie.After-run-end2 → PowerFound → Type 0
 Says k r = (with k (exponentAt (drop (end k) (word (k .before))) r) ≡ numeralOf (word (k .before))) × PowerInside (drop (end k) (word (k .before))) r
 
 says : (c : tie.After-power-in) (r : PowerFound) → c .power-in .result ≡ r → Says (found c) r
@@ -91,7 +91,7 @@ says c r e =
 power-within : (c : tie.After-p) → let k = found (c .before .before) in end k + c .p .given .0 .0 .start ≤ length (word (k .before))
 power-within c =
     let k = found (c .before .before) in
-    omega (arith, says (c .before .before) _ (c .p .given .1) .1, k .digits-end2 .ensures .inside, length-drop (end k) (word (k .before)))
+    omega (arith, says (c .before .before) _ (c .p .given .1) .1, k .run-end2 .ensures .1, length-drop (end k) (word (k .before)))
 
 starts-with-requires : tie.Need-starts-with-requires
 starts-with-requires c κs = search needs
@@ -99,8 +99,8 @@ starts-with-requires c κs = search needs
 sign-length-requires : tie.Need-sign-length-requires
 sign-length-requires c κs = search needs
 
-digits-end-requires : tie.Need-digits-end-requires
-digits-end-requires c κs = search needs
+run-end-requires : tie.Need-run-end-requires
+run-end-requires c κs = search needs
 
 sub-starts-with : tie.Need-sub-starts-with
 sub-starts-with c = search needs
@@ -120,8 +120,8 @@ cast-fraction c = search needs
 add-fraction : tie.Need-add-fraction
 add-fraction c = omega (arith, fraction-in c)
 
-digits-end-requires-2 : tie.Need-digits-end-requires-2
-digits-end-requires-2 c κs = fraction-in c
+run-end-requires-2 : tie.Need-run-end-requires-2
+run-end-requires-2 c κs = fraction-in c
 
 returns : tie.Need-returns
 returns c =
@@ -149,8 +149,8 @@ enum-told c = search needs
 returns-2 : tie.Need-returns-2
 returns-2 c = (says (c .before .before) _ (c .enum-told .given .1) .0, tt)
 
-add-t13 : tie.Need-add-t13
-add-t13 c = omega (arith, power-within (c .before))
+add-power : tie.Need-add-power
+add-power c = omega (arith, power-within (c .before))
 
 returns-3 : tie.Need-returns-3
 returns-3 c =
@@ -166,14 +166,14 @@ numeral-in-spec =
     (tie.spec
     starts-with-requires
     sign-length-requires
-    digits-end-requires
+    run-end-requires
     sub-starts-with
     part-starts-with-start
     part-starts-with-end
     starts-with-requires-2
     cast-fraction
     add-fraction
-    digits-end-requires-2
+    run-end-requires-2
     returns
     sub-power-in
     part-power-in-start
@@ -182,5 +182,5 @@ numeral-in-spec =
     enum-known-p
     enum-told
     returns-2
-    add-t13
+    add-power
     returns-3)

@@ -3,8 +3,7 @@ use denote.Ref.{now}
 use mathlib.Core.Path.{sym}
 use borrow.Author.Needs.{needs}
 use lib.Dec.{eqb}
-use Rattle.numbers.proofs.Words.{starts-empty}
-use Rattle.scan.proofs.Runs.{starts-first}
+use Rattle.scan.proofs.Runs.{starts-empty, starts-first}
 use Rattle.numbers.proofs.starts_with.Statement.{statement}
 use Rattle.numbers.proofs.starts_with.Tie as tie
 

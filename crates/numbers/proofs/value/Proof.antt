@@ -20,20 +20,20 @@ spelt-requires c κs = search needs
 cut-at-requires : tie.Need-cut-at-requires
 cut-at-requires c κs = search needs
 
-smaller-requires : tie.Need-smaller-requires
-smaller-requires c κs = search needs
+lesser-count-requires : tie.Need-lesser-count-requires
+lesser-count-requires c κs = search needs
 
-sub-smaller : tie.Need-sub-smaller
-sub-smaller c = search needs
+sub-lesser-count : tie.Need-sub-lesser-count
+sub-lesser-count c = search needs
 
-smaller-requires-2 : tie.Need-smaller-requires-2
-smaller-requires-2 c κs = search needs
+lesser-count-requires-2 : tie.Need-lesser-count-requires-2
+lesser-count-requires-2 c κs = search needs
 
 slice-aggregate-spelt-both : tie.Need-slice-aggregate-spelt-both
-slice-aggregate-spelt-both c = sym (length-take-le _ _ (omega (arith, c .before .before .smaller .ensures)))
+slice-aggregate-spelt-both c = sym (length-take-le _ _ (omega (arith, c .before .before .lesser-count .ensures)))
 
 slice-aggregate-spelt-both-2 : tie.Need-slice-aggregate-spelt-both-2
-slice-aggregate-spelt-both-2 c = sym (length-take-le _ _ (omega (arith, c .before .before .smaller2 .ensures)))
+slice-aggregate-spelt-both-2 c = sym (length-take-le _ _ (omega (arith, c .before .before .lesser-count2 .ensures)))
 
 spelt-both-requires : tie.Need-spelt-both-requires
 spelt-both-requires c κs = search needs
@@ -83,13 +83,13 @@ returns c =
     let f = now (g .args .fraction) in
     let limit = g .args .limit in
     let cut = a .before .cut-at .result in
-    let m = a .smaller .result in
-    let n = b .smaller2 .result in
+    let m = a .lesser-count .result in
+    let n = b .lesser-count2 .result in
     c .conclude .ensures
     ∙ ap₂ (answer limit (g .args .negative)) (q .padded .ensures ∙ ap (λ k. kept limit (k * 10 ^ (cut - m - n))) (q .before .spelt-both .ensures))
     (r .spelt-both2 .ensures ∙ ap₂ (λ k l. kept limit (spell 0 (k ++ l))) (part-to-end w m) (part-to-end f n))
     ∙ exact (g .args .places) limit (g .args .negative) w f (now (g .args .power)) (g .pre) (g .args .down) cut m n
-    (a .before .cut-at .ensures ∙ ap (cutOf (length w) (g .args .places) (g .args .down)) (x .spelt .ensures)) (a .smaller .ensures) (b .smaller2 .ensures)
+    (a .before .cut-at .ensures ∙ ap (cutOf (length w) (g .args .places) (g .args .down)) (x .spelt .ensures)) (a .lesser-count .ensures) (b .lesser-count2 .ensures)
 
 pub value-spec : {M : Type 1} → statement M
 value-spec =
@@ -97,9 +97,9 @@ value-spec =
     (tie.spec
     spelt-requires
     cut-at-requires
-    smaller-requires
-    sub-smaller
-    smaller-requires-2
+    lesser-count-requires
+    sub-lesser-count
+    lesser-count-requires-2
     slice-aggregate-spelt-both
     slice-aggregate-spelt-both-2
     spelt-both-requires

@@ -8,6 +8,7 @@ use lib.ListN.{length, drop}
 use lib.IntN.{ℤ}
 use Rattle.rules.specs.Reading.Lines.{linesOf}
 use Rattle.rules.specs.Reading.{samplesOf, tableAfter}
+use Rattle.rules.proofs.Memory.{splice-front}
 use Rattle.rules.proofs.Answers.{is-reads}
 use Rattle.reading.specs.Tables.{Accepts}
 use Rattle.reading.proofs.SecondPass.{accepted-length}
@@ -53,6 +54,7 @@ returns-2 c =
     let s = told .before .before .before .before in
     is-reads (told .before .before .judge-file .ensures)
     (c .before .fill .ensures
+    ∙ splice-front (old s) (samplesOf (linesOf (bytes s)))
     ∙ ap (λ (n : ℕ). samplesOf (linesOf (bytes s)) ++ drop n (old s)) (accepted-length (accepts told))
     ∙ sym (ap (tableAfter (bytes s) (old s)) (accepts told .accepted)))
 

@@ -1,36 +1,33 @@
--- A tab, and the sign and digits after it.
-use mathlib.Core.List.{[], _∷_}
+-- The sign and the digits, and the byte that ends them.
+use mathlib.Core.Path.{_≡_}
 use borrow.Author.Needs.{needs}
 use mir.Syntax.{w64}
-use mir.Val.{SFits}
+use mir.Val.{toZ, ofZ}
 use mir.ValLaws.{toZ-ofZ}
 use Rattle.lettering.proofs.Texts.{first-room, next-room, puts-both}
 use Rattle.reporting.proofs.put_bound.Statement.{statement}
 use Rattle.reporting.proofs.put_bound.Tie as tie
 
-fits : (c : tie.After-struct-told) → SFits w64 (c .before .before .before .before .before .before .before .before .args .bound .0)
-fits c = record { sfits = c .struct-told .given .0 .1 }
-
-slice-aggregate-put : tie.Need-slice-aggregate-put
-slice-aggregate-put c = search needs
-
-put-requires : tie.Need-put-requires
-put-requires c κs = first-room (9 ∷ []) _ (c .before .before .before .pre)
+-- the bound comes through 64 bits as itself
+same : (c : tie.After-struct-told) → let z = c .before .before .before .args .bound .0 in toZ w64 (ofZ w64 z) ≡ z
+same c = toZ-ofZ w64 _ (record { sfits = c .struct-told .given .0 .1 })
 
 put-signed-requires : tie.Need-put-signed-requires
-put-signed-requires c κs =
-    let tabbed = c .before .before .before .before in
-    rw (toZ-ofZ w64 _ (fits c)) (next-room (9 ∷ []) _ (tabbed .before .before .before .before .pre) (tabbed .put .ensures))
+put-signed-requires c κs = rw (same c) (search first-room)
+
+put-byte-requires : tie.Need-put-byte-requires
+put-byte-requires c κs =
+    let digits = c .before .before .before in
+    next-room (rw (same (digits .before)) at (digits .put-signed .ensures)) _ (digits .before .before .before .before .pre)
 
 same-length : tie.Need-same-length
 same-length c = search needs
 
 returns : tie.Need-returns
 returns c =
-    let put = c .before .before in
-    let tabbed = put .before .before .before .before .before in
-    puts-both (9 ∷ []) _ (tabbed .before .before .before .before .pre) (tabbed .put .ensures) (rw (toZ-ofZ w64 _ (fits (put .before))) at (put .put-signed .ensures))
+    let ended = c .before .before in
+    let digits = ended .before .before .before .before in
+    puts-both (rw (same (digits .before)) at (digits .put-signed .ensures)) (ended .put-byte .ensures)
 
 pub put-bound-spec : {M : Type 1} → statement M
-put-bound-spec =
-    tie.close (tie.spec slice-aggregate-put put-requires put-signed-requires same-length returns)
+put-bound-spec = tie.close (tie.spec put-signed-requires put-byte-requires same-length returns)

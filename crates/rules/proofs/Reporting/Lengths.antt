@@ -9,6 +9,7 @@ use borrow.Author.Tests.{leb-true}
 use lib.Dec.{leb, eqb}
 use lib.ListN.{length, take, drop, length-append, length-take}
 use Rattle.rules.specs.Units.{greatestN, rowsOf}
+use Rattle.rules.specs.Decimals.{decimal, signedDecimal}
 use Rattle.rules.specs.Descriptions.{rows, domain, noTitle, boundsFit}
 use Rattle.rules.specs.Reading.Lines.{lineLimit, bytes, linesOf, newlines}
 use Rattle.rules.specs.Reading.Items.{titleIn}
@@ -16,7 +17,7 @@ use Rattle.rules.specs.Reading.Grammar.{Line, gather, Keeps}
 use Rattle.rules.specs.Reading.Judge.{start}
 use Rattle.rules.specs.Reading.{read, samplesOf}
 use Rattle.rules.specs.Answers.{refusalNumber}
-use Rattle.rules.specs.Reporting.{reportBytes, reportPlaces, report, decimal, signedDecimal, lineOf, cubeLine, domainLine, titleLine, refusedLine, answerText, reportText, Reports}
+use Rattle.rules.specs.Reporting.{reportBytes, reportPlaces, report, lineOf, cubeLine, domainLine, domainLines, titleLine, refusedLine, answerText, reportText, Reports}
 use Rattle.rules.specs.declared.Colour.{Colour}
 use Rattle.rules.specs.declared.Colour.the-variants.{Red, Green, Blue}
 use Rattle.rules.specs.declared.Description.{Description}
@@ -37,7 +38,7 @@ use Rattle.rules.proofs.Reading.Titles.{title-stands, titled-inside}
 use Rattle.rules.proofs.Sound.{bounds-within, every-each}
 use Rattle.rules.proofs.Reading.Bridge.{gathered, only-one, in-range, bounds-fit}
 use Rattle.rules.proofs.Answers.{number-below}
-use Rattle.rules.proofs.Reporting.Decimals.{decimal-within, signed-within}
+use Rattle.rules.proofs.Decimals.{decimal-within, signed-within}
 
 -- the text stands whole in the bytes
 pub text-inside : {input out out′ : List ℕ} {n : ℕ} → Reports input out n out′ → n ≤ length out′
@@ -109,7 +110,7 @@ module _ (file : List ℕ) (places : ℕ) (d : Description) (accepted : read fil
 
 -- at most five digits for N, and four for the rows, three times which are at most 8,190
 accepted-fits : (file : List ℕ) (d : Description) → read file reportPlaces ≡ Accepted d → length (answerText file (Accepted d)) ≤ 365
-unfolding answerText
+unfolding answerText domainLines
 accepted-fits file d e =
     let short = domain-short file reportPlaces d e in
     simp length-append

@@ -1,4 +1,4 @@
--- What an accepted picture has passed: each of its pixels is one that look accepts, with these codes; and of what could be read, picture is never 24.
+-- What an accepted picture has passed: each of its pixels is one that look accepts, with these codes.
 use Prim.Native.Nat.{ℕ, _+_, _*_, _%_, _≤_, _<_}
 use mathlib.Core.Path.{_≡_, refl, sym, ap, _∙_}
 use mathlib.Core.Bool.{Bool, true, false}
@@ -7,16 +7,13 @@ use native.Mathlib.Decide.{decLe, ℕ-discrete}
 use native.Mathlib.Omega.{arith}
 use lib.IntN.{ℤ}
 use lib.ListN.{length, drop, getD, length-append, length-drop}
-use Rattle.rules.specs.Units.{depthOf, colourPlace, codeIn}
+use Rattle.rules.specs.Units.{colourPlace, codeIn, depthsOf, rawM}
 use Rattle.rules.specs.Descriptions.{couldBeRead}
 use Rattle.rules.specs.Looking.{shown, correct, look}
-use Rattle.rules.specs.Answers.{refusalNumber, lookCodes, pictureNumber}
+use Rattle.rules.specs.Answers.{codesIn, lookCodes, pictureNumber}
 use Rattle.rules.specs.Picturing.{corrected, picture, outputAfter}
 use Rattle.rules.specs.Demands.{pixelAt}
 use Rattle.rules.specs.declared.Colour.{Colour}
-use Rattle.rules.specs.declared.Depth.{Depth}
-use Rattle.rules.specs.declared.DepthFound.{DepthFound}
-use Rattle.rules.specs.declared.DepthFound.the-variants.{Known, Unknown}
 use Rattle.rules.specs.declared.Description.{Description}
 use Rattle.rules.specs.declared.Look.the-variants as L
 use Rattle.rules.specs.declared.Picture.{Picture}
@@ -25,58 +22,44 @@ use Rattle.rules.specs.declared.Refusal.{Refusal}
 use Rattle.rules.proofs.Colours.{place-below, code-at-place}
 use Rattle.rules.proofs.Answers.{refused-not-0}
 use Rattle.rules.proofs.Looking.Checks.{look-0}
-use Rattle.rules.proofs.Picturing.Checks.{within-all, picture-24, picture-20, picture-21, picture-22, picture-23, picture-0, pixel-within, corrected-length, corrected-at}
+use Rattle.rules.proofs.Picturing.Checks.{within-all, picture-24, picture-20, picture-21, picture-22, picture-23, pixel-within, each-length, each-at}
+use Rattle.rules.specs.declared.Bits.{Bits}
+use Rattle.rules.specs.declared.Depths.{Depths}
+use Rattle.rules.specs.declared.DepthsFound.{DepthsFound}
+use Rattle.rules.specs.declared.DepthsFound.the-variants.{Both, NotBoth}
 
 -- what an accepted picture has passed
-pub record PicturePassed (d : Description) (table : List ℤ) (bits : ℕ) (src : List ℕ) (places : ℕ) : Type 0 where
-  pub depth : Depth
+pub record PicturePassed (d : Description) (table : List ℤ) (bits : Bits) (src : List ℕ) (places : ℕ) : Type 0 where
+  pub depths : Depths
   pub could : couldBeRead d table ≡ true
-  pub known : depthOf bits ≡ Known depth
+  pub known : depthsOf bits ≡ Both depths
   pub whole : length src % 3 ≡ 0
   pub room : length src ≤ places
-  pub inside : within-all (depth .greatest) src ≡ true
+  pub inside : within-all (rawM depths) src ≡ true
 
-module _ (d : Description) (table : List ℤ) (bits : ℕ) (src : List ℕ) (places : ℕ) where
+module _ (d : Description) (table : List ℤ) (bits : Bits) (src : List ℕ) (places : ℕ) where
   pub picture-passed : picture d table bits src places ≡ P.Accepted → PicturePassed d table bits src places
   picture-passed z = by-24 (couldBeRead d table) refl
     where
       not-refused : {r : Refusal} → picture d table bits src places ≡ P.Refused r → ⊥
       not-refused {r} e = refused-not-0 r (sym (ap pictureNumber e) ∙ ap pictureNumber z)
 
-      by-23 : (m : Depth) → couldBeRead d table ≡ true → depthOf bits ≡ Known m
-          → Dec (length src % 3 ≡ 0) → Dec (length src ≤ places) → (b : Bool) → within-all (m .greatest) src ≡ b → PicturePassed d table bits src places
-      by-23 m e k (no over) room b w = absurd (not-refused (picture-21 d table bits src places m e k over))
-      by-23 m e k (yes whole) (no short) b w = absurd (not-refused (picture-22 d table bits src places m e k whole (omega arith)))
-      by-23 m e k (yes whole) (yes room) false w = absurd (not-refused (picture-23 d table bits src places m e k whole room w))
-      by-23 m e k (yes whole) (yes room) true w = record { depth = m; could = e; known = k; whole = whole; room = room; inside = w }
+      by-23 : (depths : Depths) → couldBeRead d table ≡ true → depthsOf bits ≡ Both depths
+          → Dec (length src % 3 ≡ 0) → Dec (length src ≤ places) → (b : Bool) → within-all (rawM depths) src ≡ b → PicturePassed d table bits src places
+      by-23 depths e k (no over) room b w = absurd (not-refused (picture-21 d table bits src places depths e k over))
+      by-23 depths e k (yes whole) (no short) b w = absurd (not-refused (picture-22 d table bits src places depths e k whole (omega arith)))
+      by-23 depths e k (yes whole) (yes room) false w = absurd (not-refused (picture-23 d table bits src places depths e k whole room w))
+      by-23 depths e k (yes whole) (yes room) true w = record { depths = depths; could = e; known = k; whole = whole; room = room; inside = w }
 
-      by-20 : (x : DepthFound) → couldBeRead d table ≡ true → depthOf bits ≡ x → PicturePassed d table bits src places
-      by-20 Unknown e u = absurd (not-refused (picture-20 d table bits src places e u))
-      by-20 (Known m) e k = by-23 m e k (ℕ-discrete (length src % 3) 0) (decLe (length src) places) (within-all (m .greatest) src) refl
+      by-20 : (x : DepthsFound) → couldBeRead d table ≡ true → depthsOf bits ≡ x → PicturePassed d table bits src places
+      by-20 NotBoth e u = absurd (not-refused (picture-20 d table bits src places e u))
+      by-20 (Both depths) e k = by-23 depths e k (ℕ-discrete (length src % 3) 0) (decLe (length src) places) (within-all (rawM depths) src) refl
 
       by-24 : (b : Bool) → couldBeRead d table ≡ b → PicturePassed d table bits src places
-      by-24 true e = by-20 (depthOf bits) e refl
+      by-24 true e = by-20 (depthsOf bits) e refl
       by-24 false e = absurd (not-refused (picture-24 d table bits src places e))
 
-  -- what could be read is not 24
-  pub picture-not-24 : couldBeRead d table ≡ true → pictureNumber (picture d table bits src places) ≡ 24 → ⊥
-  unfolding refusalNumber
-  picture-not-24 could z = by-20 (depthOf bits) refl
-    where
-      other : {r : Picture} → picture d table bits src places ≡ r → pictureNumber r ≡ 24
-      other e = sym (ap pictureNumber e) ∙ z
-
-      by-23 : (m : Depth) → depthOf bits ≡ Known m → Dec (length src % 3 ≡ 0) → Dec (length src ≤ places) → (b : Bool) → within-all (m .greatest) src ≡ b → ⊥
-      by-23 m k (no over) room b w = let e : _≡_ {A = ℕ} 21 24 = other (picture-21 d table bits src places m could k over) in omega arith
-      by-23 m k (yes whole) (no short) b w = let e : _≡_ {A = ℕ} 22 24 = other (picture-22 d table bits src places m could k whole (omega arith)) in omega arith
-      by-23 m k (yes whole) (yes room) false w = let e : _≡_ {A = ℕ} 23 24 = other (picture-23 d table bits src places m could k whole room w) in omega arith
-      by-23 m k (yes whole) (yes room) true w = let e : _≡_ {A = ℕ} 0 24 = other (picture-0 d table bits src places m could k whole room w) in omega arith
-
-      by-20 : (x : DepthFound) → depthOf bits ≡ x → ⊥
-      by-20 Unknown u = let e : _≡_ {A = ℕ} 20 24 = other (picture-20 d table bits src places could u) in omega arith
-      by-20 (Known m) k = by-23 m k (ℕ-discrete (length src % 3) 0) (decLe (length src) places) (within-all (m .greatest) src) refl
-
-module _ (d : Description) (table : List ℤ) (bits : ℕ) where
+module _ (d : Description) (table : List ℤ) (bits : Bits) where
   -- the output keeps its length
   pub output-length : (src dst : List ℕ) → length (outputAfter d table bits src dst (picture d table bits src (length dst))) ≡ length dst
   unfolding outputAfter
@@ -86,38 +69,38 @@ module _ (d : Description) (table : List ℤ) (bits : ℕ) where
       by P.Accepted e =
           let p = picture-passed d table bits src (length dst) e in
           length-append (corrected d table bits src) (drop (length src) dst)
-          ∙ omega (arith, corrected-length d table bits src (p .whole), length-drop (length src) dst, p .room)
+          ∙ omega (arith, each-length (λ pixel. codesIn (look d table bits pixel)) src (p .whole), length-drop (length src) dst, p .room)
       by (P.Refused r) e = refl
 
   -- of an accepted picture look accepts every pixel, and the codes are those of look, pixel by pixel
   pub record PictureCodes (src : List ℕ) : Type 0 where
-    pub m : ℕ
-    pub known : depthOf bits ≡ Known (record { greatest = m })
+    pub depths : Depths
+    pub known : depthsOf bits ≡ Both depths
     pub accepts : (k : ℕ) → 3 * k < length src
-        → look d table bits (pixelAt src k) ≡ L.Accepted (correct d table m m (pixelAt src k)) (shown d m (pixelAt src k) (d .kind))
+        → look d table bits (pixelAt src k) ≡ L.Accepted (correct d table depths (pixelAt src k)) (shown d (rawM depths) (pixelAt src k) (d .kind))
     pub as-long : length (corrected d table bits src) ≡ length src
-    pub the-same : (k : ℕ) → 3 * k < length src → (c : Colour) → getD (corrected d table bits src) (3 * k + colourPlace c) 0 ≡ codeIn (correct d table m m (pixelAt src k)) c
+    pub the-same : (k : ℕ) → 3 * k < length src → (c : Colour) → getD (corrected d table bits src) (3 * k + colourPlace c) 0 ≡ codeIn (correct d table depths (pixelAt src k)) c
 
   pub picture-codes : (src : List ℕ) (places : ℕ) → picture d table bits src places ≡ P.Accepted → PictureCodes src
   picture-codes src places e =
-      record { m = m; known = p .known; accepts = accepts; as-long = corrected-length d table bits src (p .whole); the-same = the-same }
+      record { depths = depths; known = p .known; accepts = accepts; as-long = each-length (λ pixel. codesIn (look d table bits pixel)) src (p .whole); the-same = the-same }
     where
       p : PicturePassed d table bits src places
       p = picture-passed d table bits src places e
 
-      m : ℕ
-      m = p .depth .greatest
+      depths : Depths
+      depths = p .depths
 
       -- the length is a multiple of 3
       whole-pixel : (k : ℕ) → 3 * k < length src → 3 * k + 2 < length src
       whole-pixel k h = omega (arith, p .whole)
 
       accepts : (k : ℕ) → 3 * k < length src
-          → look d table bits (pixelAt src k) ≡ L.Accepted (correct d table m m (pixelAt src k)) (shown d m (pixelAt src k) (d .kind))
-      accepts k h = look-0 d table bits (pixelAt src k) (p .depth) (p .could) (p .known) (pixel-within m src (p .inside) k (whole-pixel k h))
+          → look d table bits (pixelAt src k) ≡ L.Accepted (correct d table depths (pixelAt src k)) (shown d (rawM depths) (pixelAt src k) (d .kind))
+      accepts k h = look-0 d table bits (pixelAt src k) depths (p .could) (p .known) (pixel-within (rawM depths) src (p .inside) k (whole-pixel k h))
 
-      the-same : (k : ℕ) → 3 * k < length src → (c : Colour) → getD (corrected d table bits src) (3 * k + colourPlace c) 0 ≡ codeIn (correct d table m m (pixelAt src k)) c
+      the-same : (k : ℕ) → 3 * k < length src → (c : Colour) → getD (corrected d table bits src) (3 * k + colourPlace c) 0 ≡ codeIn (correct d table depths (pixelAt src k)) c
       the-same k h c =
-          corrected-at d table bits src k (colourPlace c) (place-below c) (whole-pixel k h)
+          each-at (λ pixel. codesIn (look d table bits pixel)) src k (colourPlace c) (place-below c) (whole-pixel k h)
           ∙ ap (λ r. getD (lookCodes r) (colourPlace c) 0) (accepts k h)
-          ∙ code-at-place (correct d table m m (pixelAt src k)) c
+          ∙ code-at-place (correct d table depths (pixelAt src k)) c

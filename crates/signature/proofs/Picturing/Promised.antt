@@ -6,11 +6,12 @@ use native.Mathlib.Omega.{arith}
 use lib.ListN.{length, drop, getD, List·getD-append}
 use lib.Seq.{drop-at}
 use lib.IntN.{ℤ}
-use Rattle.rules.specs.Units.{colourPlace}
+use Rattle.rules.specs.Units.{rawM, colourPlace}
 use Rattle.rules.specs.Looking.{shown, correct}
 use Rattle.rules.specs.Picturing.{corrected, picture, outputAfter}
 use Rattle.rules.specs.Demands.{pixelAt, RightPicture}
 use Rattle.rules.specs.Promises.{Pictures}
+use Rattle.rules.specs.declared.Bits.{Bits}
 use Rattle.rules.specs.declared.Description.{Description}
 use Rattle.rules.specs.declared.Picture.{Picture}
 use Rattle.rules.specs.declared.Picture.the-variants as P
@@ -19,10 +20,10 @@ use Rattle.rules.specs.declared.Refusal.{Refusal}
 use Rattle.signature.proofs.Picturing.Codes.{PicturePassed, picture-passed, PictureCodes, picture-codes, output-length}
 use Rattle.rules.proofs.Colours.{place-below}
 use Rattle.rules.proofs.Looking.Demand3.{right}
-use Rattle.rules.proofs.KnownDepths.{depth-bounds}
+use Rattle.rules.proofs.KnownDepths.{depths-bounds}
 use Rattle.rules.proofs.Answers.{pictures-is}
 
-module _ {d : Description} {table : List ℤ} {bits : ℕ} {src dst dst′ : List ℕ} where
+module _ {d : Description} {table : List ℤ} {bits : Bits} {src dst dst′ : List ℕ} where
   -- a refusal leaves the output as it was
   pub picture-unchanged : {reason : Refusal} → Pictures d table bits src dst (P.Refused reason) dst′ → dst′ ≡ dst
   unfolding outputAfter
@@ -36,20 +37,20 @@ module _ {d : Description} {table : List ℤ} {bits : ℕ} {src dst dst′ : Lis
   unfolding outputAfter
   pictures-right h =
       record {
-        m = q .m;
+        depths = q .depths;
         known = q .known;
         whole = p .whole;
         room = p .room;
         as-long = pictures-length h;
         later = ap (drop (length src)) output ∙ drop-at codes rest (length src) (q .as-long);
         pixels = λ k inside. record {
-          codes = correct d table (q .m) (q .m) (pixelAt src k);
-          shares = shown d (q .m) (pixelAt src k) (d .kind);
+          codes = correct d table (q .depths) (pixelAt src k);
+          shares = shown d (rawM (q .depths)) (pixelAt src k) (d .kind);
           written = λ c.
               ap (λ x. getD x (3 * k + colourPlace c) 0) output
               ∙ List·getD-append codes rest 0 (3 * k + colourPlace c) (omega (arith, inside, place-below c, p .whole, q .as-long))
               ∙ q .the-same k inside c;
-          all-right = right d table (q .m) (q .m) (pixelAt src k) (p .could) (depth-bounds bits _ (q .known) .0);
+          all-right = right d table (q .depths) (pixelAt src k) (p .could) (depths-bounds bits (q .depths) (q .known) .0 .0);
         };
       }
     where

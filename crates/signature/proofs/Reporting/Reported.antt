@@ -11,12 +11,14 @@ use lib.Dec.{leb}
 use lib.ListN.{length, take, drop, getD, replicate}
 use lib.Seq.{take-all, length-take-le}
 use Rattle.rules.specs.Reading.Lines.{bytes}
-use Rattle.rules.specs.Reporting.{reportBytes, report, decimalIn, decimal, signedDecimal, lineOf, cubeLine, domainLine, titleLine, refusedLine, answerText, reportText, Reports}
-use Rattle.signature.proofs.Cases.{opened, sampleA3, corner}
+use Rattle.rules.specs.Decimals.{decimalIn, decimal, sign, signedDecimal}
+use Rattle.rules.specs.Reporting.{reportBytes, report, lineOf, cubeLine, domainLine, domainLines, titleLine, refusedLine, answerText, reportText, Reports}
+use Rattle.signature.specs.Cases.{sampleA3, corner, halfBelow, cornerReport, reportA3, halfBelowReport}
+use Rattle.signature.proofs.Cases.{opened}
 
 -- the definitions of what is printed, opened for computation
 unfoldable printed : ℕ
-unfolding report decimalIn decimal signedDecimal lineOf cubeLine domainLine titleLine refusedLine answerText reportText
+unfolding report decimalIn decimal sign signedDecimal lineOf cubeLine domainLine domainLines titleLine refusedLine answerText reportText
 printed = 0
 
 -- ---- the promise decides the count and every byte
@@ -29,20 +31,17 @@ reports-one {input} {out} p q =
 -- ---- what is printed of some inputs
 
 -- document 01's 3D file
-pub report-corner : reportText (bytes corner) ≡ bytes "cube\t3D\t2\t8\ndomain\tred\t0\t1000\ndomain\tgreen\t0\t1000\ndomain\tblue\t0\t1000\ntitle\tno\n"
+pub report-corner : reportText (bytes corner) ≡ bytes cornerReport
 unfolding opened printed
 report-corner = refl
 
 -- sample A.3, with a title
-pub report-a3 : reportText (bytes sampleA3) ≡ bytes "cube\t1D\t3\t3\ndomain\tred\t0\t1000\ndomain\tgreen\t0\t2000\ndomain\tblue\t0\t3000\ntitle\tyes\tDemo\n"
+pub report-a3 : reportText (bytes sampleA3) ≡ bytes reportA3
 unfolding opened printed
 report-a3 = refl
 
 -- an empty title, and a lower bound below 0
-abbrev pub halfBelow : String
-halfBelow = "TITLE \"\"\nLUT_1D_SIZE 2\nDOMAIN_MIN -0.5 0 0\n0 0 0\n1 1 1\n"
-
-pub report-half-below : reportText (bytes halfBelow) ≡ bytes "cube\t1D\t2\t2\ndomain\tred\t-500\t1000\ndomain\tgreen\t0\t1000\ndomain\tblue\t0\t1000\ntitle\tyes\t\n"
+pub report-half-below : reportText (bytes halfBelow) ≡ bytes halfBelowReport
 unfolding opened printed
 report-half-below = refl
 

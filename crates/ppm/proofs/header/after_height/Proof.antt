@@ -5,6 +5,9 @@ use borrow.Author.Needs.{needs}
 use Rattle.ppm.proofs.header.after_height.Statement.{statement}
 use Rattle.ppm.proofs.header.after_height.Tie as tie
 
+cast-field-at : tie.Need-cast-field-at
+cast-field-at c = search needs
+
 field-at-requires : tie.Need-field-at-requires
 field-at-requires c κs = search needs
 
@@ -24,4 +27,4 @@ returns-2 c = ap (withMaxval _ _) (sym (c .before .field2 .given .1) ∙ c .befo
 
 pub after-height-spec : {M : Type 1} → statement M
 after-height-spec =
-    tie.close (tie.spec field-at-requires enum-known-field enum-known-field-2 returns returns-2)
+    tie.close (tie.spec cast-field-at field-at-requires enum-known-field enum-known-field-2 returns returns-2)

@@ -1,13 +1,10 @@
 -- The invariant: the first i places are put. The measure is how many are left.
 use denote.Ref.{now}
-use Prim.Native.Nat.{_-_, min}
-use mathlib.Core.Path.{sym, ap, _∙_}
-use lib.ListN.{length}
+use Prim.Native.Nat.{_-_}
 use Rattle.ppm.specs.Raster.{bytesOf}
 use Rattle.ppm.proofs.Codes.{bytes-length}
-use Rattle.ppm.proofs.Putting.{Put, none-put, put-length, one-put, all-put}
+use Rattle.ppm.proofs.Putting.{Put, all-put, none-put, one-put, put-length, put-next, put-room}
 use borrow.Author.Needs.{needs}
-use native.Mathlib.Omega.{arith}
 use Rattle.ppm.proofs.raster.bytes_from.Statement.{statement}
 use Rattle.ppm.proofs.raster.bytes_from.Tie as tie
 
@@ -20,22 +17,22 @@ abbrev μ-loop : tie.MeasureT-loop
 byte-count-requires : tie.Need-byte-count-requires Inv-loop μ-loop
 byte-count-requires c κs = search needs
 
-smaller-requires : tie.Need-smaller-requires Inv-loop μ-loop
-smaller-requires c κs = search needs
+lesser-count-requires : tie.Need-lesser-count-requires Inv-loop μ-loop
+lesser-count-requires c κs = search needs
 
 loop-holds : tie.Need-loop-holds Inv-loop μ-loop
 loop-holds c =
     let a = c .before .before .before .before .args in
-    none-put _ _ _ (c .smaller .ensures ∙ ap (λ n. min n (length (now (a .bytes)))) (c .before .byte-count .ensures ∙ sym (bytes-length (a .wide) (now (a .codes)))))
+    none-put (c .before .byte-count .ensures) (bytes-length (a .wide) (now (a .codes))) (c .lesser-count .ensures)
 
 byte-at-requires : tie.Need-byte-at-requires Inv-loop μ-loop
 byte-at-requires c κs =
     let l = c .before in
     let a = l .before .before .before .before .before .args in
-    omega (arith, bytes-length (a .wide) (now (a .codes)), l .loop .inv .count, c .loop-test .taken)
+    rw (bytes-length (a .wide) (now (a .codes))) at (put-next (l .loop .inv) (c .loop-test .taken))
 
 slice-write-bytes : tie.Need-slice-write-bytes Inv-loop μ-loop
-slice-write-bytes c = let t = c .before in omega (arith, put-length (t .before .loop .inv), t .before .loop .inv .count, t .loop-test .taken)
+slice-write-bytes c = let t = c .before in put-room (t .before .loop .inv) (t .loop-test .taken)
 
 add-i : tie.Need-add-i Inv-loop μ-loop
 add-i c = search needs
@@ -59,7 +56,7 @@ bytes-from-spec =
     Inv-loop
     μ-loop
     byte-count-requires
-    smaller-requires
+    lesser-count-requires
     loop-holds
     byte-at-requires
     slice-write-bytes

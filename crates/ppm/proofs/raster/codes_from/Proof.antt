@@ -1,13 +1,10 @@
 -- The invariant: the first i places are put. The measure is how many are left.
 use denote.Ref.{now}
-use Prim.Native.Nat.{_-_, min}
-use mathlib.Core.Path.{sym, ap, _∙_}
-use lib.ListN.{length}
+use Prim.Native.Nat.{_-_}
 use Rattle.ppm.specs.Raster.{codesOf}
 use Rattle.ppm.proofs.Codes.{codes-length}
-use Rattle.ppm.proofs.Putting.{Put, none-put, put-length, one-put, all-put}
+use Rattle.ppm.proofs.Putting.{Put, all-put, none-put, one-put, put-length, put-next, put-room}
 use borrow.Author.Needs.{needs}
-use native.Mathlib.Omega.{arith}
 use Rattle.ppm.proofs.raster.codes_from.Statement.{statement}
 use Rattle.ppm.proofs.raster.codes_from.Tie as tie
 
@@ -20,25 +17,25 @@ abbrev μ-loop : tie.MeasureT-loop
 code-count-requires : tie.Need-code-count-requires Inv-loop μ-loop
 code-count-requires c κs = search needs
 
-smaller-requires : tie.Need-smaller-requires Inv-loop μ-loop
-smaller-requires c κs = search needs
+lesser-count-requires : tie.Need-lesser-count-requires Inv-loop μ-loop
+lesser-count-requires c κs = search needs
 
 loop-holds : tie.Need-loop-holds Inv-loop μ-loop
 loop-holds c =
     let a = c .before .before .before .before .args in
-    none-put _ _ _ (c .smaller .ensures ∙ ap (λ n. min n (length (now (a .codes)))) (c .before .code-count .ensures ∙ sym (codes-length (a .wide) (now (a .bytes)))))
+    none-put (c .before .code-count .ensures) (codes-length (a .wide) (now (a .bytes))) (c .lesser-count .ensures)
 
 code-at-requires : tie.Need-code-at-requires Inv-loop μ-loop
 code-at-requires c κs =
     let l = c .before in
     let a = l .before .before .before .before .before .args in
-    omega (arith, codes-length (a .wide) (now (a .bytes)), l .loop .inv .count, c .loop-test .taken)
+    rw (codes-length (a .wide) (now (a .bytes))) at (put-next (l .loop .inv) (c .loop-test .taken))
 
 mul-codes : tie.Need-mul-codes Inv-loop μ-loop
 mul-codes c = search needs
 
 slice-write-codes : tie.Need-slice-write-codes Inv-loop μ-loop
-slice-write-codes c = let t = c .before in omega (arith, put-length (t .before .loop .inv), t .before .loop .inv .count, t .loop-test .taken)
+slice-write-codes c = let t = c .before in put-room (t .before .loop .inv) (t .loop-test .taken)
 
 add-i : tie.Need-add-i Inv-loop μ-loop
 add-i c = search needs
@@ -62,7 +59,7 @@ codes-from-spec =
     Inv-loop
     μ-loop
     code-count-requires
-    smaller-requires
+    lesser-count-requires
     loop-holds
     code-at-requires
     mul-codes

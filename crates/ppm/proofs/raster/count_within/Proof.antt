@@ -7,7 +7,8 @@ use borrow.Author.Tests.{lt-leb, le-leb}
 use lib.Dec.{leb}
 use lib.ListN.{length}
 use Rattle.rules.specs.Reading.Lines.{run}
-use Rattle.scan.proofs.Runs.{runFrom, run-more, run-stop, run-end}
+use Rattle.scan.specs.RunEnds.{runEnd}
+use Rattle.scan.proofs.Runs.{run-more, run-over, run-stop}
 use borrow.Author.Needs.{needs}
 use native.Mathlib.Omega.{arith}
 use Rattle.ppm.proofs.raster.count_within.Statement.{statement}
@@ -18,7 +19,7 @@ abbrev within : ℕ → ℕ → Bool
 within m c = leb c m
 
 abbrev Inv-loop : tie.InvT-loop
-Inv-loop codes m i₀ i = (i ≤ length codes) × (length (run (within m) codes) ≡ runFrom (within m) codes i)
+Inv-loop codes m i₀ i = (i ≤ length codes) × (length (run (within m) codes) ≡ runEnd (within m) codes i)
 
 abbrev μ-loop : tie.MeasureT-loop
 μ-loop codes m i₀ i = length codes - i
@@ -53,7 +54,7 @@ loop-again c =
 returns-2 : tie.Need-returns-2 Inv-loop μ-loop
 returns-2 c =
     let a = c .before .before .args in
-    (sym (c .before .loop .inv .1 ∙ run-end (within (a .m)) (now (a .codes)) _ (omega arith)), omega arith)
+    (sym (c .before .loop .inv .1 ∙ run-over (within (a .m)) (now (a .codes)) _ (omega arith)), omega arith)
 
 pub count-within-spec : {M : Type 1} → statement M
 count-within-spec =

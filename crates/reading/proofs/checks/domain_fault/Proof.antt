@@ -5,6 +5,7 @@ use mathlib.Core.Bool.{true}
 use native.Mathlib.Omega.{arith}
 use borrow.Author.Tests.{le-leb, lt-leb, not-true, not-false}
 use borrow.Author.Needs.{needs}
+use Rattle.rules.specs.Units.{rowLimit}
 use Rattle.rules.specs.Descriptions.{everyColour, ordered, narrow, agree, roomy}
 use Rattle.rules.specs.Reading.Judge.{domainFault, need}
 use Rattle.rules.specs.declared.Description.{Description}
@@ -32,7 +33,7 @@ narrow-enough c = sym (c .before .domains-keep2 .ensures) ∙ not-false _ (c .if
 agreed : (c : tie.Else3) → agree (d3 c .kind) (d3 c) ≡ true
 agreed c = sym (c .before .agree .ensures) ∙ not-false _ (c .if3 .left)
 
-small : (c : tie.After-count-rows) → c .count-rows .result ≤ 16_777_216
+small : (c : tie.After-count-rows) → c .count-rows .result ≤ rowLimit
 small c =
     let s = c .before .before .before .before .before .before .before in
     rw (c .count-rows .ensures) (rows-most (s .args .d .kind) (s .args .d .n) (s .pre .0))

@@ -12,7 +12,8 @@ use Rattle.rules.specs.Reading.Contents.{contentOf, formOf}
 use Rattle.rules.specs.Reading.Items.{numbersOf}
 use Rattle.rules.specs.Reading.{samplesIn}
 use Rattle.rules.specs.declared.Form.the-variants.{Data}
-use Rattle.reading.proofs.LineSamples.{NoData, no-samples, row-samples, wrong-samples, none-written, three-written}
+use Rattle.rules.proofs.Memory.{splice-none}
+use Rattle.reading.proofs.LineSamples.{NoData, no-samples, row-samples, wrong-samples, three-written}
 use Rattle.reading.proofs.second_pass.put_line.Statement.{statement}
 use Rattle.reading.proofs.second_pass.put_line.Tie as tie
 
@@ -44,7 +45,7 @@ returns : tie.Need-returns
 returns c =
     let s = c .before .before .before in
     let none = no-samples (s .pre .0) (subst NoData (c .before .form-of .ensures) (c .match .keys2)) in
-    rw none (omega arith, none-written (now (s .args .table)) (s .args .at))
+    rw none (omega arith, sym (splice-none (now (s .args .table)) (s .args .at)))
 
 row-on-requires : tie.Need-row-on-requires
 row-on-requires c κs = c .before .before .before .before .pre .0 .line .short
@@ -60,7 +61,7 @@ returns-2 c =
     let found = c .before .before in
     let s = found .before .before .before .before .before in
     let none = wrong-samples _ _ (data-line (found .before)) (found .row-on .ensures) _ (c .enum-told2 .given .1) in
-    rw none (omega arith, none-written (now (s .args .table)) (s .args .at))
+    rw none (omega arith, sym (splice-none (now (s .args .table)) (s .args .at)))
 
 mul-red : tie.Need-mul-red
 mul-red c = record { fits = omega (arith, counted (c .before .before .before .before)) }

@@ -13,22 +13,32 @@ use Rattle.rules.specs.Reading.Lines.{bytes, same}
 use Rattle.text.proofs.keywords.keyword_of.Statement.{statement}
 use Rattle.text.proofs.keywords.keyword_of.Tie as tie
 
+-- the word, and the place past one test from the place past the next
 abbrev word : tie.Else1 → List ℕ
 word c = now (c .before .before .before .before .args .w)
+
+abbrev one : tie.Else2 → tie.Else1
+one c = c .before .before .before
+
+abbrev two : tie.Else3 → tie.Else2
+two c = c .before .before .before
+
+abbrev three : tie.Else4 → tie.Else3
+three c = c .before .before .before
 
 no-title : (c : tie.Else1) → same (word c) (named ATitle) ≡ false
 unfolding bytes
 no-title c = sym (c .before .is-named .ensures) ∙ c .if1 .left
 
-no-lower : (c : tie.Else2) → same (word (c .before .before .before)) (named ALower) ≡ false
+no-lower : (c : tie.Else2) → same (word (one c)) (named ALower) ≡ false
 unfolding bytes
 no-lower c = sym (c .before .is-named2 .ensures) ∙ c .if2 .left
 
-no-upper : (c : tie.Else3) → same (word (c .before .before .before .before .before .before)) (named AnUpper) ≡ false
+no-upper : (c : tie.Else3) → same (word (one (two c))) (named AnUpper) ≡ false
 unfolding bytes
 no-upper c = sym (c .before .is-named3 .ensures) ∙ c .if3 .left
 
-no-size : (c : tie.Else4) → same (word (c .before .before .before .before .before .before .before .before .before)) (named (ASize OneD)) ≡ false
+no-size : (c : tie.Else4) → same (word (one (two (three c)))) (named (ASize OneD)) ≡ false
 unfolding bytes
 no-size c = sym (c .before .is-named4 .ensures) ∙ c .if4 .left
 
@@ -62,7 +72,7 @@ returns-3 : tie.Need-returns-3
 unfolding keywordOf bytes
 returns-3 c =
     let d = c .before .before .before in
-    rw (no-title (d .before .before .before), no-lower d, sym (c .before .is-named3 .ensures) ∙ c .if3 .taken)
+    rw (no-title (one d), no-lower d, sym (c .before .is-named3 .ensures) ∙ c .if3 .taken)
 
 slice-aggregate-is-named-4 : tie.Need-slice-aggregate-is-named-4
 slice-aggregate-is-named-4 c = search needs
@@ -74,8 +84,7 @@ returns-4 : tie.Need-returns-4
 unfolding keywordOf bytes
 returns-4 c =
     let d = c .before .before .before in
-    let e = d .before .before .before in
-    rw (no-title (e .before .before .before), no-lower e, no-upper d, sym (c .before .is-named4 .ensures) ∙ c .if4 .taken)
+    rw (no-title (one (two d)), no-lower (two d), no-upper d, sym (c .before .is-named4 .ensures) ∙ c .if4 .taken)
 
 slice-aggregate-is-named-5 : tie.Need-slice-aggregate-is-named-5
 slice-aggregate-is-named-5 c = search needs
@@ -87,17 +96,13 @@ returns-5 : tie.Need-returns-5
 unfolding keywordOf bytes
 returns-5 c =
     let d = c .before .before .before in
-    let e = d .before .before .before in
-    let f = e .before .before .before in
-    rw (no-title (f .before .before .before), no-lower f, no-upper e, no-size d, sym (c .before .is-named5 .ensures) ∙ c .if5 .taken)
+    rw (no-title (one (two (three d))), no-lower (two (three d)), no-upper (three d), no-size d, sym (c .before .is-named5 .ensures) ∙ c .if5 .taken)
 
 returns-6 : tie.Need-returns-6
 unfolding keywordOf bytes
 returns-6 c =
     let d = c .before .before .before in
-    let e = d .before .before .before in
-    let f = e .before .before .before in
-    rw (no-title (f .before .before .before), no-lower f, no-upper e, no-size d, sym (c .before .is-named5 .ensures) ∙ c .if5 .left)
+    rw (no-title (one (two (three d))), no-lower (two (three d)), no-upper (three d), no-size d, sym (c .before .is-named5 .ensures) ∙ c .if5 .left)
 
 pub keyword-of-spec : {M : Type 1} → statement M
 keyword-of-spec =

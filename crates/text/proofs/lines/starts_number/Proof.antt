@@ -2,15 +2,13 @@
 use denote.Ref.{now}
 use mathlib.Core.Path.{_∙_, sym}
 use borrow.Author.Needs.{needs}
-use Rattle.rules.specs.Reading.Lines.{numberByte, starts}
-use Rattle.text.proofs.FirstBytes.{empty-list}
-use Rattle.scan.proofs.Runs.{starts-first}
+use Rattle.rules.specs.Reading.Lines.{numberByte}
+use Rattle.scan.proofs.Runs.{starts-empty, starts-first}
 use Rattle.text.proofs.lines.starts_number.Statement.{statement}
 use Rattle.text.proofs.lines.starts_number.Tie as tie
 
 returns : tie.Need-returns
-unfolding starts
-returns c = rw (empty-list (now (c .before .before .args .w)) (c .if1 .taken))
+returns c = sym (starts-empty numberByte (now (c .before .before .args .w)) (c .if1 .taken))
 
 shared-slice-read-is-number-byte : tie.Need-shared-slice-read-is-number-byte
 shared-slice-read-is-number-byte c = search needs

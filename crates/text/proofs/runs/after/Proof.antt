@@ -2,7 +2,7 @@
 use denote.Ref.{now}
 use borrow.Author.Needs.{needs}
 use Rattle.scan.specs.Kinds.{kindOf}
-use Rattle.text.proofs.RunLaws.{part-after}
+use Rattle.scan.proofs.Runs.{part-after}
 use Rattle.text.proofs.runs.after.Statement.{statement}
 use Rattle.text.proofs.runs.after.Tie as tie
 

@@ -9,8 +9,7 @@ use lib.ListN.{drop}
 use Rattle.rules.specs.Reading.Contents.{closes, quoted}
 use Rattle.rules.specs.Reading.Lines.{after, inTitle}
 use Rattle.text.proofs.FirstBytes.{empty-list, quoted-first}
-use Rattle.text.proofs.RunLaws.{part-after}
-use Rattle.scan.proofs.Runs.{part-to-end}
+use Rattle.scan.proofs.Runs.{part-after, part-to-end}
 use Rattle.text.proofs.title.quoted.Statement.{statement}
 use Rattle.text.proofs.title.quoted.Tie as tie
 

@@ -21,13 +21,12 @@ mul-q-2 c = search needs
 div-q : tie.Need-div-q
 div-q c = search needs
 
+lesser-requires : tie.Need-lesser-requires
+lesser-requires c κs = search needs
+
 returns : tie.Need-returns
 unfolding code
-returns c = rw (← (c .before .above .ensures)) (omega arith)
-
-returns-2 : tie.Need-returns-2
-unfolding code
-returns-2 c = rw (← (c .before .above .ensures)) (omega arith)
+returns c = rw (c .lesser .ensures, ← (c .before .above .ensures)) (omega arith)
 
 pub nearest-spec : {M : Type 1} → statement M
-nearest-spec = tie.close (tie.spec above-requires mul-q add-q mul-q-2 div-q returns returns-2)
+nearest-spec = tie.close (tie.spec above-requires mul-q add-q mul-q-2 div-q lesser-requires returns)

@@ -1,0 +1,28 @@
+-- What is given, and two fields after it.
+use borrow.Author.Needs.{needs}
+use Rattle.rules.specs.Reporting.{lineOf}
+use Rattle.lettering.proofs.Texts.{first-room, puts-both, next-field, last-field, field-then}
+use Rattle.reporting.proofs.put_counts.Statement.{statement}
+use Rattle.reporting.proofs.put_counts.Tie as tie
+
+put-requires : tie.Need-put-requires
+put-requires c κs = search first-room
+
+put-count-requires : tie.Need-put-count-requires
+unfolding lineOf
+put-count-requires c κs = search next-field
+
+put-count-requires-2 : tie.Need-put-count-requires-2
+unfolding lineOf
+put-count-requires-2 c κs = search last-field
+
+same-length : tie.Need-same-length
+same-length c = search needs
+
+returns : tie.Need-returns
+unfolding lineOf
+returns c = search (puts-both, field-then)
+
+pub put-counts-spec : {M : Type 1} → statement M
+put-counts-spec =
+    tie.close (tie.spec put-requires put-count-requires put-count-requires-2 same-length returns)

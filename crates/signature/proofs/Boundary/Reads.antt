@@ -1,0 +1,87 @@
+-- The demands, of `erythmoda_read` itself: what its number says of the memory that it was lent.
+use Prim.Native.Nat.{ℕ}
+use mathlib.Core.Path.{_≡_, refl, sym, ap, _∙_}
+use mathlib.Core.Bool.{true}
+use mathlib.Core.Logic.{_↔_}
+use mathlib.Core.List.{List}
+use mathlib.Core.Option.{some}
+use lib.IntN.{ℤ}
+use lib.ListN.{length}
+use Rattle.rules.specs.Descriptions.{zeros, couldBeRead}
+use Rattle.rules.specs.Reading.Grammar.{Keeps}
+use Rattle.rules.specs.Reading.{read}
+use Rattle.rules.specs.Answers.{readNumber, readLine, readDescription}
+use Rattle.rules.specs.Promises.{Reads}
+use Rattle.rules.specs.Boundary.{elevenOf, describedIn, ReadsC}
+use Rattle.rules.specs.Demands.{Kept}
+use Rattle.rules.specs.declared.Description.{Description}
+use Rattle.rules.specs.declared.Read.{Read}
+use Rattle.rules.specs.declared.Read.the-variants as R
+use Rattle.rules.proofs.Reading.Acceptance.{keeps-accepted}
+use Rattle.rules.proofs.Answers.{refused-not-0, reads-is, is-reads}
+use Rattle.rules.proofs.Reading.Bridge.{refused-unchanged, reads-bridge}
+use Rattle.signature.proofs.Reading.Promised.{reads-accepted}
+use Rattle.signature.proofs.Boundary.Crossing.{crosses}
+
+-- a reading with its answer laid out as numbers
+pub record ReadLaid (file : List ℕ) (table : List ℤ) (number : ℕ) (table′ eleven′ : List ℤ) (line′ : ℕ) : Type 0 where
+  pub answer : Read
+  pub reads : Reads file table answer table′
+  pub number-so : number ≡ readNumber answer
+  pub eleven-so : eleven′ ≡ elevenOf (readDescription answer)
+  pub line-so : line′ ≡ readLine answer
+
+-- what acceptance says: the file keeps the specification, with this description and the samples now in the table
+pub record ReadAccepted (file : List ℕ) (table table′ eleven′ : List ℤ) (line′ : ℕ) : Type 0 where
+  pub d : Description
+  pub kept : Kept file table d table′
+  pub eleven-so : eleven′ ≡ elevenOf d
+  pub line-so : line′ ≡ 0
+
+module _ {file : List ℕ} {table table′ eleven′ : List ℤ} {number line′ : ℕ} where
+  pub read-laid : ReadsC file table number table′ eleven′ line′ ↔ ReadLaid file table number table′ eleven′ line′
+  read-laid = (
+    λ h. record {
+      answer = read file (length table);
+      reads = is-reads refl (h .memory);
+      number-so = h .number-so;
+      eleven-so = h .description-so;
+      line-so = h .line-so;
+    },
+    λ l. let e = reads-is (l .reads) .0 in
+        record {
+          number-so = l .number-so ∙ ap readNumber e;
+          line-so = l .line-so ∙ ap readLine e;
+          description-so = l .eleven-so ∙ ap (λ a. elevenOf (readDescription a)) e;
+          memory = l .reads .memory;
+        },
+  )
+
+module _ {file : List ℕ} {table table′ eleven′ : List ℤ} {number line′ : ℕ} (h : ReadsC file table number table′ eleven′ line′) where
+  laid : ReadLaid file table number table′ eleven′ line′
+  laid = read-laid .0 h
+
+  -- a refusal leaves the table as it was, and writes the description of zeros
+  pub read-refused : (number ≡ 0 → ⊥) → (table′ ≡ table) × (eleven′ ≡ elevenOf zeros)
+  read-refused not-0 = by (laid .answer) (laid .reads) (laid .number-so) (laid .eleven-so)
+    where
+      by : (r : Read) → Reads file table r table′ → number ≡ readNumber r → eleven′ ≡ elevenOf (readDescription r) → (table′ ≡ table) × (eleven′ ≡ elevenOf zeros)
+      by (R.Accepted d) reads e v = absurd (not-0 e)
+      by (R.Refused reason n) reads e v = (refused-unchanged reads, v)
+
+  pub read-accepted : number ≡ 0 → ReadAccepted file table table′ eleven′ line′
+  read-accepted z = by (laid .answer) (laid .reads) (laid .number-so) (laid .eleven-so) (laid .line-so)
+    where
+      by : (r : Read) → Reads file table r table′ → number ≡ readNumber r → eleven′ ≡ elevenOf (readDescription r) → line′ ≡ readLine r
+          → ReadAccepted file table table′ eleven′ line′
+      by (R.Accepted d) reads e v n = record { d = d; kept = reads-accepted .0 reads; eleven-so = v; line-so = n }
+      by (R.Refused reason n) reads e v m = absurd (refused-not-0 reason (sym e ∙ z))
+
+  -- every file that keeps the specification is accepted
+  pub read-keeps : (d : Description) (samples : List ℤ) → Keeps file (length table) d samples → number ≡ 0
+  read-keeps d samples k = h .number-so ∙ ap readNumber (keeps-accepted file (length table) d samples k .0)
+
+-- what acceptance wrote gives the description back, and is not 24
+pub read-bridge : {file : List ℕ} {table table′ eleven′ : List ℤ} {line′ : ℕ} (a : ReadAccepted file table table′ eleven′ line′)
+    → (describedIn eleven′ ≡ some (a .d)) × (couldBeRead (a .d) table′ ≡ true)
+read-bridge a = (ap describedIn (a .eleven-so) ∙ crosses (a .d), reads-bridge (reads-accepted .1 (a .kept)))

@@ -1,0 +1,59 @@
+-- The promise of `erythmoda_picture` refutes wrong calls: document 01's wrong programs, and those that only a boundary can have. A call is given its input and the lent
+-- memory as it was, and answers a number and that memory as it is afterwards. What a wrong call does is said of any call at all; that it keeps the promise is
+-- then absurd, at an input that the theorem holds.
+use Prim.Native.Nat.{ℕ}
+use mathlib.Core.Path.{_≡_, sym, ap, _∙_}
+use mathlib.Core.List.{List, [], _∷_}
+use native.Mathlib.Omega.{arith}
+use lib.IntN.{ℤ}
+use lib.ListN.{getD, replicate}
+use Rattle.rules.specs.Units.{sameBits}
+use Rattle.rules.specs.Boundary.{describedIn, PicturesC}
+use Rattle.signature.specs.Cases.{tableFrom, corner, oddTitle}
+use Rattle.signature.proofs.Cases.{opened}
+
+abbrev at : ℕ → List ℕ → ℕ
+at k codes = getD codes k 0
+
+abbrev pub PictureCall : Type 0
+PictureCall = List ℤ → List ℤ → ℕ → List ℕ → List ℕ → ℕ × List ℕ
+
+abbrev pub PicturesCAll : PictureCall → Type 0
+PicturesCAll call = (eleven table : List ℤ) (bits : ℕ) (src dst : List ℕ)
+    → PicturesC eleven table (sameBits bits) src dst (call eleven table bits src dst .0) (call eleven table bits src dst .1)
+
+-- two pixels, whose codes are three times 51 and three times 102
+abbrev src : List ℕ
+src = 51 ∷ 102 ∷ 204 ∷ 102 ∷ 204 ∷ 255 ∷ []
+
+abbrev dst : List ℕ
+dst = replicate 6 77
+
+module _ (call : PictureCall) (keeps : PicturesCAll call) where
+  abbrev painted : ℕ → ℕ × List ℕ
+  painted kind = call (oddTitle kind) (tableFrom corner) 8 src dst
+
+  whole-output : painted 3 .1 ≡ 51 ∷ 51 ∷ 51 ∷ 102 ∷ 102 ∷ 102 ∷ []
+  unfolding opened describedIn
+  whole-output = keeps (oddTitle 3) (tableFrom corner) 8 src dst .memory
+
+  pub refuses-all-pictures : ((eleven table : List ℤ) (bits : ℕ) (src dst : List ℕ) → call eleven table bits src dst .0 ≡ 0 → ⊥) → ⊥
+  unfolding opened describedIn
+  refuses-all-pictures never = never (oddTitle 3) (tableFrom corner) 8 src dst (keeps (oddTitle 3) (tableFrom corner) 8 src dst .number-so)
+
+  -- one code for every pixel
+  pub one-code-for-every-pixel : at 0 (painted 3 .1) ≡ at 3 (painted 3 .1) → ⊥
+  one-code-for-every-pixel e = let z : _≡_ {A = ℕ} 51 102 = sym (ap (at 0) whole-output) ∙ e ∙ ap (at 3) whole-output in omega arith
+
+  -- the first pixel corrected and the rest copied: the second pixel's green code is 204 in the picture
+  pub copies-the-rest : at 4 (painted 3 .1) ≡ at 4 src → ⊥
+  copies-the-rest e = let z : _≡_ {A = ℕ} 102 204 = sym (ap (at 4) whole-output) ∙ e in omega arith
+
+  -- and all copied
+  pub copies-the-picture : at 1 (painted 3 .1) ≡ at 1 src → ⊥
+  copies-the-picture e = let z : _≡_ {A = ℕ} 51 102 = sym (ap (at 1) whole-output) ∙ e in omega arith
+
+  -- 24 writes nothing
+  pub writes-on-a-refusal : (painted 2 .1 ≡ dst → ⊥) → ⊥
+  unfolding opened describedIn
+  writes-on-a-refusal other = other (keeps (oddTitle 2) (tableFrom corner) 8 src dst .memory)

@@ -1,0 +1,235 @@
+-- Document 01, "Checked by hand": the cases marked P as one table, a case for every number of "Answers by number", and sample A.3 read whole.
+use Prim.Native.Nat.{ℕ}
+use Prim.Native.String.{String}
+use mathlib.Core.Path.{_≡_}
+use mathlib.Core.Bool.{true}
+use mathlib.Core.List.{List, [], _∷_, _++_}
+use lib.IntN.{ℤ, pos, negsuc}
+use lib.ListN.{length, replicate}
+use Rattle.rules.specs.Reading.Lines.{bytes, after}
+use Rattle.rules.specs.Reading.{read, tableAfter}
+use Rattle.rules.specs.Looking.{look}
+use Rattle.rules.specs.Picturing.{picture, outputAfter}
+use Rattle.rules.specs.Answers.{readNumber, readLine, readDescription, lookNumber, lookCodes, lookRows, lookWeights, pictureNumber}
+use Rattle.rules.specs.declared.Codes.{Codes}
+use Rattle.rules.specs.declared.Description.{Description}
+use Rattle.rules.specs.declared.Kind.the-variants.{OneD}
+use Rattle.rules.specs.declared.Look.{Look}
+use Rattle.rules.specs.declared.Picture.{Picture}
+use Rattle.rules.specs.declared.Read.{Read}
+use Rattle.rules.specs.declared.Read.the-variants.{Accepted}
+use Rattle.rules.specs.Units.{sameBits}
+
+-- ---- what is asked, and what comes out
+
+pub data Question : Type 0 where
+  -- reading a file into a table of so many places that hold 77
+  reading : List ℕ → ℕ → Question
+  -- looking at one pixel
+  looking : Description → List ℤ → ℕ → Codes → Question
+  -- correcting a picture into an output of so many places that hold 77
+  picturing : Description → List ℤ → ℕ → List ℕ → ℕ → Question
+
+-- in the paper's numbers; what a call does not give is empty
+pub record Outcome : Type 0 where
+  pub number : ℕ
+  pub line : ℕ
+  pub table : List ℤ
+  pub codes : List ℕ
+  pub rows : List ℕ
+  pub weights : List ℤ
+
+pub record Case : Type 0 where
+  pub asked : Question
+  pub expected : Outcome
+
+abbrev pub untouched : ℕ → List ℤ
+untouched places = replicate places (pos 77)
+
+abbrev pub outcome : Question → Outcome
+outcome (reading file places) =
+    let r : Read = read file places in
+    record { number = readNumber r; line = readLine r; table = tableAfter file (untouched places) r; codes = []; rows = []; weights = [] }
+outcome (looking d table bits pixel) =
+    let r : Look = look d table (sameBits bits) pixel in
+    record { number = lookNumber r; line = 0; table = []; codes = lookCodes r; rows = lookRows r; weights = lookWeights r }
+outcome (picturing d table bits src places) =
+    let r : Picture = picture d table (sameBits bits) src places in
+    record { number = pictureNumber r; line = 0; table = []; codes = outputAfter d table (sameBits bits) src (replicate places 77) r; rows = []; weights = [] }
+
+-- ---- cases, from the text of a file on
+
+abbrev pub describedBy : String → Description
+describedBy file = readDescription (read (bytes file) 24)
+
+abbrev pub tableFrom : String → List ℤ
+tableFrom file = tableAfter (bytes file) (untouched 24) (read (bytes file) 24)
+
+abbrev pub grey : ℕ → Codes
+grey c = record { red = c; green = c; blue = c }
+
+-- a word as the first number of a 1D file of two rows: a number and line, or that sample
+abbrev pub word : String → ℕ → ℕ → List ℤ → Case
+word w number line samples = record {
+  asked = reading (bytes "LUT_1D_SIZE 2\n" ++ (bytes w ++ bytes " 0 0\n0 0 0")) 6;
+  expected = record { number = number; line = line; table = samples; codes = []; rows = []; weights = [] };
+}
+
+-- a file that is refused
+abbrev pub refused : List ℕ → ℕ → ℕ → ℕ → Case
+refused file places number line = record {
+  asked = reading file places;
+  expected = record { number = number; line = line; table = untouched places; codes = []; rows = []; weights = [] };
+}
+
+-- a pixel that is corrected
+abbrev pub looked : String → ℕ → Codes → List ℕ → List ℕ → List ℤ → Case
+looked file bits pixel codes rows weights = record {
+  asked = looking (describedBy file) (tableFrom file) bits pixel;
+  expected = record { number = 0; line = 0; table = []; codes = codes; rows = rows; weights = weights };
+}
+
+-- 1D with N = 2 at 8 bits, all colours alike: a code, its answer, its two weights
+abbrev pub twoRows : String → ℕ → ℕ → ℕ → ℕ → Case
+twoRows file c r v w =
+    looked file 8 (grey c) (r ∷ r ∷ r ∷ []) (0 ∷ 1 ∷ 0 ∷ 1 ∷ 0 ∷ 1 ∷ []) (pos v ∷ pos w ∷ pos v ∷ pos w ∷ pos v ∷ pos w ∷ [])
+
+abbrev pub zeroAndHalf : String
+zeroAndHalf = "LUT_1D_SIZE 2\n0 0 0\n0.5 0.5 0.5\n"
+
+abbrev pub minusAndPlusHalf : String
+minusAndPlusHalf = "LUT_1D_SIZE 2\n-0.5 -0.5 -0.5\n0.5 0.5 0.5\n"
+
+abbrev pub zeroAndTwo : String
+zeroAndTwo = "LUT_1D_SIZE 2\n0 0 0\n2 2 2\n"
+
+abbrev pub threeRows : String
+threeRows = "LUT_1D_SIZE 3\n0 0 0\n0.5 0.5 0.5\n1 1 1\n"
+
+-- document 000, sample A.3
+abbrev pub sampleA3 : String
+sampleA3 = "TITLE \"Demo\"\nLUT_1D_SIZE 3\nDOMAIN_MIN 0 0 0\nDOMAIN_MAX 1 2 3\n0 0 0\n# Comments can go anywhere\n0.5 1 1.5\n1 1 1\n"
+
+-- 3D, all rows zero but row 7
+abbrev pub corner : String
+corner = "LUT_3D_SIZE 2\n0 0 0\n0 0 0\n0 0 0\n0 0 0\n0 0 0\n0 0 0\n0 0 0\n1 1 1\n"
+
+abbrev pub cornerPixel : Codes
+cornerPixel = record { red = 51; green = 102; blue = 204 }
+
+-- document 01's 3D file, as eleven numbers whose title's places hold what no reading gives
+abbrev pub oddTitle : ℕ → List ℤ
+oddTitle kind = pos kind ∷ pos 2 ∷ pos 0 ∷ pos 0 ∷ pos 0 ∷ pos 1000 ∷ pos 1000 ∷ pos 1000 ∷ pos 5 ∷ negsuc 8 ∷ negsuc 9 ∷ []
+
+-- ---- the cases marked P
+
+abbrev pub marked : List Case
+marked =
+    word "1e-7" 0 0 (pos 1 ∷ replicate 5 (pos 0))
+    ∷ word "1e-8" 17 2 (untouched 6)
+    ∷ word "-.5" 0 0 (negsuc 4_999_999 ∷ replicate 5 (pos 0))
+    ∷ word "1000.00000001" 16 2 (untouched 6)
+    ∷ refused [] 6 9 1
+    ∷ twoRows zeroAndHalf 1 1 254_000 1_000
+    ∷ twoRows minusAndPlusHalf 127 0 128_000 127_000
+    ∷ twoRows minusAndPlusHalf 128 1 127_000 128_000
+    ∷ twoRows zeroAndTwo 200 255 55_000 200_000
+    ∷ looked threeRows 16 (grey 32768) (32768 ∷ 32768 ∷ 32768 ∷ []) (1 ∷ 2 ∷ 1 ∷ 2 ∷ 1 ∷ 2 ∷ [])
+    (pos 65_534_000 ∷ pos 1_000 ∷ pos 65_534_000 ∷ pos 1_000 ∷ pos 65_534_000 ∷ pos 1_000 ∷ [])
+    ∷ looked sampleA3 8 (grey 255) (255 ∷ 255 ∷ 255 ∷ []) (1 ∷ 2 ∷ 1 ∷ 2 ∷ 0 ∷ 1 ∷ [])
+    (pos 0 ∷ pos 255_000 ∷ pos 510_000 ∷ pos 0 ∷ pos 255_000 ∷ pos 510_000 ∷ [])
+    ∷ looked corner 8 cornerPixel (51 ∷ 51 ∷ 51 ∷ []) (0 ∷ 4 ∷ 6 ∷ 7 ∷ 0 ∷ 0 ∷ []) (pos 51_000 ∷ pos 102_000 ∷ pos 51_000 ∷ pos 51_000 ∷ pos 0 ∷ pos 0 ∷ [])
+    ∷ []
+
+-- ---- a case for every other number
+
+-- no description that reading could have given: N is 1
+abbrev pub oneRow : Description
+oneRow = record {
+  kind = OneD;
+  n = 1;
+  red = describedBy zeroAndHalf .red;
+  green = describedBy zeroAndHalf .green;
+  blue = describedBy zeroAndHalf .blue;
+  title = describedBy zeroAndHalf .title;
+}
+
+-- a look that is refused gives zeros
+abbrev pub lookRefused : Description → ℕ → Codes → ℕ → Case
+lookRefused d bits pixel number = record {
+  asked = looking d (tableFrom zeroAndHalf) bits pixel;
+  expected = record { number = number; line = 0; table = []; codes = replicate 3 0; rows = replicate 6 0; weights = replicate 6 (pos 0) };
+}
+
+-- a picture with its number and what the output holds afterwards
+abbrev pub pictured : Description → ℕ → List ℕ → ℕ → ℕ → List ℕ → Case
+pictured d bits src places number after = record {
+  asked = picturing d (tableFrom zeroAndHalf) bits src places;
+  expected = record { number = number; line = 0; table = []; codes = after; rows = []; weights = [] };
+}
+
+abbrev pub numbered : List Case
+numbered =
+    refused (35 ∷ replicate 250 65) 6 1 1
+    ∷ refused (bytes "# a\r\n") 6 2 1
+    ∷ refused (bytes "\n # a") 6 3 2
+    ∷ refused (bytes "LUT_1D_SIZE 2\n0 0 0\nTITLE \"a\"") 6 4 3
+    ∷ refused (bytes "LUT_1D_SIZE 2\nLUT_3D_SIZE 2") 24 5 2
+    ∷ refused (bytes "LUT_1D_SIZE +2") 6 6 1
+    ∷ refused (bytes "LUT_1D_SIZE 1") 6 7 1
+    ∷ refused (bytes "DOMAIN_MAX 1 1 10.001") 6 8 1
+    ∷ refused (bytes "LUT_1D_SIZE 2\nDOMAIN_MIN 0 1 0\n0 0 0") 6 10 3
+    ∷ refused (bytes "LUT_1D_SIZE 2\nDOMAIN_MIN -9.5 0 0\n\n") 6 11 4
+    ∷ refused (bytes "LUT_3D_SIZE 2\nDOMAIN_MAX 1 2 1\n0 0 0") 24 12 3
+    ∷ refused (bytes "LUT_3D_SIZE 2\n0 0 0") 23 13 2
+    ∷ refused (bytes "LUT_1D_SIZE 2\n0 0 0\n0 0 0\n0 0 0") 6 14 4
+    ∷ refused (bytes "LUT_1D_SIZE 2\n5. 0 0") 6 15 2
+    ∷ refused (bytes "LUT_1D_SIZE 2\n0 0 0") 6 18 2
+    ∷ lookRefused (describedBy zeroAndHalf) 9 (grey 1) 20
+    ∷ lookRefused (describedBy zeroAndHalf) 8 (grey 256) 23
+    ∷ lookRefused oneRow 9 (grey 256) 24
+    ∷ pictured (describedBy zeroAndHalf) 9 (1 ∷ 3 ∷ 1 ∷ 256 ∷ []) 3 20 (77 ∷ 77 ∷ 77 ∷ [])
+    ∷ pictured (describedBy zeroAndHalf) 8 (1 ∷ 3 ∷ 1 ∷ 256 ∷ []) 3 21 (77 ∷ 77 ∷ 77 ∷ [])
+    ∷ pictured (describedBy zeroAndHalf) 8 (1 ∷ 3 ∷ 256 ∷ []) 2 22 (77 ∷ 77 ∷ [])
+    ∷ pictured (describedBy zeroAndHalf) 8 (1 ∷ 3 ∷ 256 ∷ []) 3 23 (77 ∷ 77 ∷ 77 ∷ [])
+    ∷ pictured oneRow 9 (1 ∷ 3 ∷ 1 ∷ 256 ∷ []) 3 24 (77 ∷ 77 ∷ 77 ∷ [])
+    ∷ pictured (describedBy zeroAndHalf) 8 (1 ∷ 3 ∷ 1 ∷ 3 ∷ 1 ∷ 3 ∷ []) 7 0 (1 ∷ 2 ∷ 1 ∷ 2 ∷ 1 ∷ 2 ∷ 77 ∷ [])
+    ∷ pictured (describedBy zeroAndHalf) 8 [] 1 0 (77 ∷ [])
+    ∷ []
+
+-- ---- what the report program prints
+
+-- of document 01's 3D file
+abbrev pub cornerReport : String
+cornerReport = "cube\t3D\t2\t8\ndomain\tred\t0\t1000\ndomain\tgreen\t0\t1000\ndomain\tblue\t0\t1000\ntitle\tno\n"
+
+-- of sample A.3, with a title
+abbrev pub reportA3 : String
+reportA3 = "cube\t1D\t3\t3\ndomain\tred\t0\t1000\ndomain\tgreen\t0\t2000\ndomain\tblue\t0\t3000\ntitle\tyes\tDemo\n"
+
+-- an empty title, and a lower bound below 0
+abbrev pub halfBelow : String
+halfBelow = "TITLE \"\"\nLUT_1D_SIZE 2\nDOMAIN_MIN -0.5 0 0\n0 0 0\n1 1 1\n"
+
+abbrev pub halfBelowReport : String
+halfBelowReport = "cube\t1D\t2\t2\ndomain\tred\t-500\t1000\ndomain\tgreen\t0\t1000\ndomain\tblue\t0\t1000\ntitle\tyes\t\n"
+
+-- ---- what is asked of a table of cases
+
+-- each case comes out as expected
+abbrev pub AllMet : List Case → Type 0
+AllMet [] = Unit {0}
+AllMet (c ∷ cs) = (outcome (c .asked) ≡ c .expected) × AllMet cs
+
+-- sample A.3, read whole: its description too
+pub record ReadA3 : Type 0 where
+  pub answer : read (bytes sampleA3) 10 ≡ Accepted (record {
+    kind = OneD;
+    n = 3;
+    red = record { lower = record { 0 = pos 0 }; upper = record { 0 = pos 1000 } };
+    green = record { lower = record { 0 = pos 0 }; upper = record { 0 = pos 2000 } };
+    blue = record { lower = record { 0 = pos 0 }; upper = record { 0 = pos 3000 } };
+    title = record { there = true; place = 7; length = 4 };
+  })
+  pub table : tableAfter (bytes sampleA3) (untouched 10) (read (bytes sampleA3) 10) ≡
+      pos 0 ∷ pos 0 ∷ pos 0 ∷ pos 5_000_000 ∷ pos 10_000_000 ∷ pos 15_000_000 ∷ pos 10_000_000 ∷ pos 10_000_000 ∷ pos 10_000_000 ∷ pos 77 ∷ []
