@@ -1,5 +1,5 @@
 -- The loop that puts the digits after a point: those that stand there so far, and what is left, make the whole.
-use Prim.Native.Nat.{ℕ, zero, suc, _+_, _*_, _/_, _%_, _^_, _≤_, _<_}
+use Prim.Native.Nat.{ℕ, zero, suc, _/_, _%_, _^_, _≤_, _<_}
 use mathlib.Core.Path.{_≡_, refl, sym, ap, subst, _∙_}
 use mathlib.Core.List.{List, [], _∷_, _++_, append-assoc, append-nil}
 use native.Mathlib.Nat.{pow-succ', one-le-pow, mod-lt, mul-div-cancel-left, div-lt-iff-lt-mul}

@@ -1,5 +1,5 @@
 -- The longest text of a number has room in the bytes that it is put into.
-use Prim.Native.Nat.{ℕ, _+_, _/_, _^_, _≤_, _<_}
+use Prim.Native.Nat.{ℕ, _/_, _^_, _≤_}
 use mathlib.Core.Path.{sym}
 use native.Mathlib.Nat.{div-le-self}
 use native.Mathlib.Omega.{arith}
