@@ -10,7 +10,8 @@ pub mod Looking
 pub mod Picturing
 -- the demands again, of the calls that loggers link
 pub mod Boundary
--- the bytes that the report program prints
+-- numbers as text; the bytes that the report program prints
+pub mod Decimals
 pub mod Reporting
 -- document 01's cases, and the wrong programs that the promises rule out
 pub mod Cases
