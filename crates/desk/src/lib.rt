@@ -11,7 +11,6 @@ pub use loading::Loaded;
 pub use loading::load;
 pub use printing::say;
 pub use printing::write;
-pub use printing::write_bound;
 pub use printing::write_count;
 pub use printing::write_sample;
 pub use printing::write_signed;

@@ -1,5 +1,5 @@
 -- The line that is given for a row is the row's own: at that number of the file stands the data line of the row.
-use Prim.Native.Nat.{ℕ, zero, suc, _+_, _-_, _≤_, _<_}
+use Prim.Native.Nat.{ℕ, zero, suc, _+_, _-_, _<_}
 use mathlib.Core.Path.{_≡_, refl, ap, _∙_}
 use mathlib.Core.Bool.{Bool, true, false}
 use mathlib.Core.List.{List, [], _∷_}
@@ -38,9 +38,6 @@ stands (l ∷ ls) n k h = by (isData (formOf l)) refl k h (stands ls (suc n))
 
 -- a file's row, by its line
 module _ (file : List ℕ) (row : ℕ) (h : row < length (dataLines (linesOf file))) where
-  pub row-line-inside : (1 ≤ lineOfRow file row) × (lineOfRow file row ≤ length (linesOf file))
-  row-line-inside = let s = stands (linesOf file) 1 row h in (omega (arith, s .number), omega (arith, s .number, s .inside))
-
   pub rows-own-line : getD (linesOf file) (lineOfRow file row - 1) [] ≡ getD (dataLines (linesOf file)) row []
   rows-own-line =
       let s = stands (linesOf file) 1 row h in

@@ -10,9 +10,28 @@ use desk::Loaded;
 use desk::TABLE_PLACES;
 use desk::load;
 use question::Asked;
+use question::Pixel;
 use question::pixel_of;
 use question::read_arguments;
 use show::explain;
+ghost use Rattle.desk.specs.Loads.{Loads};
+
+// The table that the first argument names, into lent space.
+fn load_named(file: &mut [u8], table: &mut [i64]) -> Loaded
+    ensures { λ r. ⌜ Loads (now (file .exit)) (now (table .entry)) r (now (table .exit)) ⌝ }
+{
+    let mut path = io::buffer();
+    let length = os::arg(1, &mut path);
+    load(b"explain", &path[..length], file, table)
+}
+
+// A pixel of a depth, explained by that table.
+fn explain_pixel(file: &mut [u8], table: &mut [i64], bits: u32, pixel: Pixel) {
+    let Loaded::Table { description, bytes } = load_named(&mut *file, &mut *table) else {
+        return;
+    };
+    explain(description, &file[..bytes], table, bits, pixel);
+}
 
 // The question that the arguments ask, answered with lent space for the file and the table.
 fn answer(file: &mut [u8], table: &mut [i64]) {
@@ -26,23 +45,7 @@ fn answer(file: &mut [u8], table: &mut [i64]) {
         help::show();
         return;
     };
-    let mut path = io::buffer();
-    let length = os::arg(1, &mut path);
-    let Loaded::Table { description, bytes } = load(
-        b"explain",
-        &path[..length],
-        &mut *file,
-        &mut *table,
-    ) else {
-        return;
-    };
-    explain(
-        description,
-        &file[..bytes],
-        table,
-        bits,
-        pixel_of(red, green, blue),
-    );
+    explain_pixel(file, table, bits, pixel_of(red, green, blue));
 }
 
 fn main() {

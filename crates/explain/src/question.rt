@@ -2,11 +2,12 @@
 use desk::Argument;
 use desk::number_at;
 use rules::Codes;
+use rules::Depth;
 ghost use mathlib.Core.Path.{_≡_};
 ghost use Rattle.explain.specs.Questions.{pixelAsked};
 
 // The greatest code of any depth. No depth has more bits either.
-const MOST: u32 = 65_535;
+const MOST: u32 = Depth::BITS_16 as u32;
 
 // What the arguments ask about: a depth and three codes, or nothing that can be understood.
 pub enum Asked {

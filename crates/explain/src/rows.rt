@@ -5,9 +5,11 @@ use rules::Description;
 use rules::Kind;
 use rules::Share;
 use rules::Shares;
+use whole::greater_code;
+use whole::lesser_code;
 ghost use mathlib.Core.Path.{_≡_};
 ghost use mathlib.Core.List.{[], _∷_};
-ghost use Prim.Native.Nat.{ℕ, _*_, _<_, min, max};
+ghost use Prim.Native.Nat.{ℕ, _*_, _<_};
 ghost use Rattle.rules.specs.Looking.Interpolation.{share, rowCode};
 ghost use Rattle.rules.specs.Demands.{Each};
 ghost use Rattle.colour.specs.Adding.{RowAt};
@@ -71,18 +73,6 @@ pub fn carries(share: Share) -> bool
     share.weight > 0
 }
 
-fn lesser(a: u16, b: u16) -> u16
-    ensures { λ r. ⌜ r ≡ min a b ⌝ }
-{
-    if b < a { b } else { a }
-}
-
-fn greater(a: u16, b: u16) -> u16
-    ensures { λ r. ⌜ r ≡ max a b ⌝ }
-{
-    if a < b { b } else { a }
-}
-
 // With one row more; a row that carries no weight changes nothing.
 fn wider(span: Span, table: &[i64], m: u16, c: Colour, share: Share) -> Span
     requires { ⌜ RowAt (now table) (3 * share .row) ⌝ }
@@ -92,8 +82,8 @@ fn wider(span: Span, table: &[i64], m: u16, c: Colour, share: Share) -> Span
         return span;
     }
     let code = row_code(table, m, c, share.row);
-    let least = lesser(code, span.least);
-    let greatest = greater(code, span.greatest);
+    let least = lesser_code(code, span.least);
+    let greatest = greater_code(code, span.greatest);
     Span { least, greatest }
 }
 

@@ -54,6 +54,7 @@ module _ {out : List ℕ} {at : ℕ} {a : List ℕ} {mid : ℕ} {out′ : List �
   pub next-room : (b : List ℕ) → Room out at (a ++ b) → Room out′ mid b
   next-room b room = record { fits = omega (arith, room .fits, length-append a b, p .after, puts-length) }
 
+  -- two texts are one
   pub puts-both : {b : List ℕ} {r : ℕ} {out″ : List ℕ} → Puts out′ mid b r out″ → Puts out at (a ++ b) r out″
   puts-both {b} {r} {out″} q = record {
     fits = omega (arith, q .fits, length-append a b, p .after, puts-length);
@@ -61,24 +62,29 @@ module _ {out : List ℕ} {at : ℕ} {a : List ℕ} {mid : ℕ} {out′ : List �
     memory = q .memory ∙ ap₂ (λ o n. spliced o n b) (p .memory) (p .after) ∙ splice-both out at a b (p .fits);
   }
 
--- ---- three texts: the last that was put is named first, so that a search goes back from it
+-- ---- three texts: the one put last stands first in a law, so that a search goes back from it
 
 module _ {out : List ℕ} {at : ℕ} {a : List ℕ} {mid : ℕ} {out′ : List ℕ} (b more : List ℕ) where
+  -- after the first there is room for the second
   pub next-part : Puts out at a mid out′ → Room out at (a ++ (b ++ more)) → Room out′ mid b
   next-part p room = first-room b more (next-room p (b ++ more) room)
 
+  -- and after the second for the third
   pub last-part : {last : ℕ} {out″ : List ℕ} → Puts out′ mid b last out″ → Puts out at a mid out′ → Room out at (a ++ (b ++ more)) → Room out″ last more
   last-part q p room = next-room q more (next-room p (b ++ more) room)
 
 -- ---- fields: a text with the byte that ends it, and what follows
 
 module _ {out : List ℕ} {at : ℕ} {a : List ℕ} {mid : ℕ} {out′ : List ℕ} (f : List ℕ) (end : ℕ) (more : List ℕ) where
+  -- after a text there is room for the field
   pub next-field : Puts out at a mid out′ → Room out at (a ++ (f ++ (end ∷ more))) → Room out′ mid (f ++ (end ∷ []))
   next-field p room = next-part (f ++ (end ∷ [])) more p (rw (append-assoc f (end ∷ []) more) room)
 
+  -- and after the field for what follows
   pub last-field : {last : ℕ} {out″ : List ℕ} → Puts out′ mid (f ++ (end ∷ [])) last out″ → Puts out at a mid out′ → Room out at (a ++ (f ++ (end ∷ more))) → Room out″ last more
   last-field q p room = last-part (f ++ (end ∷ [])) more q p (rw (append-assoc f (end ∷ []) more) room)
 
+-- the field and what follows are one text
 pub field-then : {out : List ℕ} {at : ℕ} (f : List ℕ) (end : ℕ) (more : List ℕ) {mid : ℕ} {out′ : List ℕ} {r : ℕ} {out″ : List ℕ}
     → Puts out at (f ++ (end ∷ [])) mid out′ → Puts out′ mid more r out″ → Puts out at (f ++ (end ∷ more)) r out″
 field-then f end more p q = rw (append-assoc f (end ∷ []) more) at (puts-both p q)

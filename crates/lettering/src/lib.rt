@@ -1,4 +1,7 @@
 // Text put into lent bytes from a place on: bytes, and numbers in decimal digits. Each call answers the place after what it put.
+mod decimals;
+
+pub use decimals::put_decimals;
 use whole::Whole;
 ghost use mathlib.Core.List.{[], _∷_};
 ghost use Rattle.rules.specs.Decimals.{decimal, sign, signedDecimal};

@@ -11,7 +11,8 @@ pub mod Looking
 pub mod Picturing
 -- the demands again, of the calls that loggers link
 pub mod Boundary
--- the bytes that the report program prints
+-- numbers as text; the bytes that the report program prints
+pub mod Decimals
 pub mod Reporting
 -- document 01's cases
 pub mod Cases

@@ -1,60 +1,59 @@
--- What is left after the point is below one.
-use native.Mathlib.Nat.{mod-lt}
+-- The longest text of a number has room in the bytes that it is put into.
+use Prim.Native.Nat.{ℕ, _/_, _^_, _≤_}
+use mathlib.Core.Path.{sym}
+use native.Mathlib.Nat.{div-le-self}
+use native.Mathlib.Omega.{arith}
 use borrow.Author.Needs.{needs}
+use lib.IntN.{ℤ, pos, negsuc, natAbs}
+use lib.ListN.{length}
+use lib.Seq.{length-take-le}
+use mir.Syntax.{w64}
+use mir.Val.{SFits}
+use Rattle.rules.specs.Decimals.{decimalsOf}
+use Rattle.rules.proofs.Decimals.{decimals-within}
+use Rattle.lettering.proofs.Texts.{puts-length}
 use Rattle.desk.proofs.printing.write_decimals.Statement.{statement}
 use Rattle.desk.proofs.printing.write_decimals.Tie as tie
 
+-- 64 bits hold numbers of 20 digits at most
+at-most : (z : ℤ) → SFits w64 z → natAbs z ≤ 9_223_372_036_854_775_808
+at-most (pos n) f = omega (arith, f .sfits)
+at-most (negsuc n) f = omega (arith, f .sfits)
+
+short : (places : ℕ) (z : ℤ) → places ≤ 19 → SFits w64 z → length (decimalsOf places z) ≤ 41
+short places z h f =
+    let few : natAbs z / 10 ^ places ≤ natAbs z = div-le-self (natAbs z) (10 ^ places) in
+    omega (arith, decimals-within 19 places z (omega (arith, at-most z f)))
+
+slice-aggregate-put-decimals : tie.Need-slice-aggregate-put-decimals
+slice-aggregate-put-decimals c = search needs
+
+put-decimals-requires : tie.Need-put-decimals-requires
+put-decimals-requires c κs =
+    let fits : SFits w64 (c .before .args .n .0) = search needs in
+    (c .before .pre, record { fits = omega (arith, short (c .before .args .places) (c .before .args .n .0) (c .before .pre) fits) })
+
+array-share-prefix-text : tie.Need-array-share-prefix-text
+array-share-prefix-text c = search needs
+
 slice-aggregate-write : tie.Need-slice-aggregate-write
-slice-aggregate-write c = search needs
+slice-aggregate-write c =
+    let p = c .before .before .put-decimals .ensures in
+    sym (length-take-le _ _ (omega (arith, p .fits, p .after, puts-length p)))
 
 write-requires : tie.Need-write-requires
 write-requires c κs = search needs
 
-size-requires : tie.Need-size-requires
-size-requires c κs = search needs
-
-div-write-count : tie.Need-div-write-count
-div-write-count c = search needs
-
-write-count-requires : tie.Need-write-count-requires
-write-count-requires c κs = search needs
-
-rem-if2 : tie.Need-rem-if2
-rem-if2 c = search needs
-
-slice-aggregate-write-2 : tie.Need-slice-aggregate-write-2
-slice-aggregate-write-2 c = search needs
-
-write-requires-2 : tie.Need-write-requires-2
-write-requires-2 c κs = search needs
-
-rem-write-places : tie.Need-rem-write-places
-rem-write-places c = search needs
-
-write-places-requires : tie.Need-write-places-requires
-write-places-requires c κs =
-    let s = c .before .before .before .before in
-    (mod-lt (s .size .result) (s .before .before .pre .0), s .before .before .pre .1)
-
 returns : tie.Need-returns
 returns c = search needs
-
-returns-2 : tie.Need-returns-2
-returns-2 c = search needs
 
 pub write-decimals-spec : {M : Type 1} → statement M
 write-decimals-spec =
     tie.close
     (tie.spec
+    slice-aggregate-put-decimals
+    put-decimals-requires
+    array-share-prefix-text
     slice-aggregate-write
     write-requires
-    size-requires
-    div-write-count
-    write-count-requires
-    rem-if2
-    slice-aggregate-write-2
-    write-requires-2
-    rem-write-places
-    write-places-requires
-    returns
-    returns-2)
+    returns)

@@ -17,11 +17,11 @@ returns c den wide =
 row-code-requires : tie.Need-row-code-requires
 row-code-requires c κs = search needs
 
-lesser-requires : tie.Need-lesser-requires
-lesser-requires c κs = search needs
+lesser-code-requires : tie.Need-lesser-code-requires
+lesser-code-requires c κs = search needs
 
-greater-requires : tie.Need-greater-requires
-greater-requires c κs = search needs
+greater-code-requires : tie.Need-greater-code-requires
+greater-code-requires c κs = search needs
 
 returns-2 : tie.Need-returns-2
 returns-2 c den wide =
@@ -29,7 +29,7 @@ returns-2 c den wide =
     let code = least .before in
     let flag = code .before .before in
     carrying-widens _ (flag .before .args .share) (flag .before .args .span) (code .row-code .result) _ _
-    (sym (flag .carries .ensures) ∙ not-false _ (code .before .if1 .left)) (code .row-code .ensures den wide) (least .lesser .ensures) (c .greater .ensures)
+    (sym (flag .carries .ensures) ∙ not-false _ (code .before .if1 .left)) (code .row-code .ensures den wide) (least .lesser-code .ensures) (c .greater-code .ensures)
 
 pub wider-spec : {M : Type 1} → statement M
 wider-spec =
@@ -38,6 +38,6 @@ wider-spec =
     carries-requires
     returns
     row-code-requires
-    lesser-requires
-    greater-requires
+    lesser-code-requires
+    greater-code-requires
     returns-2)
