@@ -13,6 +13,7 @@ use Rattle.rules.specs.Descriptions.{rows, domain, width, couldBeRead, Sound, D
 use Rattle.rules.specs.Looking.Interpolation.{den, denOf, positionOf, indexOf, fractionOf, rgb, climb, pathBy, pair, path, pairAt, codeBy}
 use Rattle.rules.specs.Looking.{six, shown, lineCode}
 use Rattle.rules.specs.Looking.Readings.{Reading}
+use Rattle.rules.specs.declared.Depth.{Depth}
 use Rattle.rules.specs.declared.Codes.{Codes}
 use Rattle.rules.specs.declared.Colour.{Colour}
 use Rattle.rules.specs.declared.Colour.the-variants.{Red, Green, Blue}
@@ -23,7 +24,7 @@ use Rattle.rules.specs.declared.Domain.{Domain}
 use Rattle.rules.specs.declared.Kind.{Kind}
 use Rattle.rules.specs.declared.Kind.the-variants.{OneD, ThreeD}
 use Rattle.rules.specs.declared.Shares.{Shares}
-use Rattle.rules.proofs.KnownDepths.{each-known, depths-bounds}
+use Rattle.rules.proofs.KnownDepths.{same-depths, depths-bounds}
 use Rattle.rules.proofs.Sound.{sound-of, wide-enough, rows-most, greatest-most}
 use Rattle.rules.proofs.Looking.Demand3 as D3
 use Rattle.rules.proofs.Looking.RowsAndWeights.{path-rows}
@@ -58,7 +59,7 @@ times-m-most m z most h = NatL.mul-le-mul {n₂ = 65535} {m₂ = sampleLimit} (o
 -- ---- the plan of a call with one depth
 
 pub one-depth : (bits : ℕ) (depths : Depths) → depthsOf (sameBits bits) ≡ Both depths → rawM depths ≡ correctedM depths
-one-depth bits depths known = let k = each-known (sameBits bits) depths known in cc
+one-depth bits depths known = ap (λ (m : Depth). m .greatest) (same-depths bits depths known)
 
 abbrev pub planned : (d : Description) {table : List ℤ} (bits : ℕ) {depths : Depths} {plan : Plan} → couldBeRead d table ≡ true
     → depthsOf (sameBits bits) ≡ Both depths → plan ≡ planOf d depths → Planned plan table

@@ -24,7 +24,7 @@ module _ {out₀ : List ℕ} {at : ℕ} {text : List ℕ} {i : ℕ} {out : List 
   part-length = ap length (p .memory) ∙ splice-length out₀ at (take i text) (omega (arith, room .fits, p .some, length-take-le i text (p .some)))
 
   pub one-more : i < length text → PutInPart out₀ at text (i + 1) (set out (at + i) (getD text i 0))
-  one-more h = record { some = omega arith; memory = ap (λ o. set o (at + i) (getD text i 0)) (p .memory) ∙ splice-more out₀ at text i 0 (room .fits) h }
+  one-more h = record { some = omega arith; memory = ap (λ o. set o (at + i) (getD text i 0)) (p .memory) ∙ splice-more out₀ at text i 0 (omega (arith, room .fits)) h }
 
   pub all-put : length text ≤ i → Puts out₀ at text (at + length text) out
   all-put h =

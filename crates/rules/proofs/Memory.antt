@@ -74,9 +74,9 @@ module _ {A : Type 0} where
   stores-splice old at new fits = sets-eq new old at fits ∙ append-assoc (take at old) new _
 
   -- a turn of a loop that copies: one more of the values that are to stand there
-  pub splice-more : (old : List A) (at : ℕ) (new : List A) (i : ℕ) (d : A) → at + length new ≤ length old → i < length new
+  pub splice-more : (old : List A) (at : ℕ) (new : List A) (i : ℕ) (d : A) → at + i < length old → i < length new
       → set (spliced old at (take i new)) (at + i) (getD new i d) ≡ spliced old at (take (i + 1) new)
-  splice-more old at new i d fits h =
+  splice-more old at new i d room h =
       let i-long : length (take i new) ≡ i = length-take-le i new (omega arith) in
       ap (λ n. set (spliced old at (take i new)) (at + n) (getD new i d)) (sym i-long)
       ∙ splice-store old at (take i new) (getD new i d) (omega (arith, i-long))

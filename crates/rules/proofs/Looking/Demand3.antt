@@ -11,9 +11,9 @@ use lib.IntN.{ℤ, pos, _*ℤ_, +ℤ-idr}
 use lib.Signed.{_<ℤ_}
 use Rattle.whole.specs.Nearest.{Nearest, code, weights, Unsigned, Carrying}
 use Rattle.whole.proofs.Halves as H
-use Rattle.whole.proofs.NearestLaws.{code-nearest, code-scale}
+use Rattle.whole.proofs.NearestLaws.{code-nearest}
 use Rattle.whole.proofs.Between.{codes-below, codes-above}
-use Rattle.rules.specs.Units.{rawM, correctedM, sampleOne, rowsOf, rowAt, sampleAt, codeIn}
+use Rattle.rules.specs.Units.{rawM, correctedM, rowsOf, rowAt, sampleAt, codeIn}
 use Rattle.rules.specs.Descriptions.{domain, width, couldBeRead, Sound}
 use Rattle.rules.specs.Looking.Interpolation.{denOf, positionOf, indexOf, fractionOf, order, pairBy, pathBy, climb, pair, path, sharesFor, weighed, total, denominator, codeBy, rowCode}
 use Rattle.rules.specs.Looking.{shown, codeOf, correct}
@@ -169,14 +169,6 @@ module _ (table : List ℤ) (c : Colour) (den m : ℕ) (wide : 0 < den) where
     unfolding codeBy
     code-above h =
         codes-above (weighed table c ss) u m (denominator den) m a denominator-above-0 some-weight (rw w (carried-codes (λ r. a ≤ r) ss h))
-
--- document 01's short division: where the raw and the corrected depth are one, M falls out and the code is that of S / (w·10,000,000)
--- for D = M·w, and any other that is M times a span
-pub short-division : (table : List ℤ) (m span : ℕ) (c : Colour) (ss : List Share) → 0 < m → codeBy m (m * span) table c ss ≡ code (total table c ss) (span * sampleOne) m
-unfolding codeBy
-short-division table m span c ss deep =
-    ap (λ x. code (pos m *ℤ total table c ss) x m) (NatL.mul-assoc m span sampleOne)
-    ∙ code-scale m (total table c ss) (span * sampleOne) m deep
 
 -- ---- of the definitions
 
