@@ -1,17 +1,16 @@
 -- Numbers as text: a number's digits by those of a tenth of it, the sign and the places after a point, how long the text is, and that the digits spell
 -- the number and have no leading zero.
-use Prim.Native.Nat.{ℕ, zero, suc, _+_, _-_, _*_, _/_, _%_, _^_, _≤_, _<_}
+use Prim.Native.Nat.{ℕ, zero, suc, _+_, _/_, _%_, _^_, _≤_, _<_}
 use mathlib.Core.Path.{_≡_, refl}
 use mathlib.Core.Bool.{Bool, true, false, cond}
-use mathlib.Core.List.{List, [], _∷_, _++_}
+use mathlib.Core.List.{[], _∷_, _++_}
 use native.Mathlib.Nat.{pow-succ'}
 use native.Mathlib.Omega.{arith}
 use borrow.Author.Tests.{ltb-false, lt-ltb, le-ltb, ne-eqb}
 use lib.Dec.{ltb, eqb}
 use lib.IntN.{ℤ, pos, negsuc, natAbs}
-use lib.ListN.{length, length-append, getD, List·getD-append}
+use lib.ListN.{length, length-append}
 use Rattle.rules.specs.Decimals.{digitByte, decimalIn, decimal, sign, signedDecimal, placesOf, fraction, decimalsOf}
-use Rattle.rules.specs.Reading.Numerals.{spell}
 
 -- a number below 10 is its own digit
 pub one-digit : (more n : ℕ) → n < 10 → decimalIn more n ≡ digitByte n ∷ []
@@ -96,47 +95,3 @@ unfolding decimalsOf
 decimals-within k places z h =
     simp length-append
     (omega (arith, sign-within z, decimal-within k (natAbs z / 10 ^ places) h, fraction-within places (natAbs z % 10 ^ places)))
-
--- ---- the digits are those of the number
-
-spell-last : (m : ℕ) (xs : List ℕ) (b : ℕ) → spell m (xs ++ (b ∷ [])) ≡ spell m xs * 10 + (b - 48)
-unfolding spell
-spell-last m [] b = refl
-spell-last m (x ∷ xs) b = spell-last (m * 10 + (x - 48)) xs b
-
-spells-in : (more n : ℕ) → n ≤ more → spell 0 (decimalIn more n) ≡ n
-unfolding decimalIn spell
-spells-in zero n h = omega arith
-spells-in (suc more) n h = split (ltb n 10) refl (spells-in more (n / 10))
-  where
-    split : (t : Bool) → ltb n 10 ≡ t → (n / 10 ≤ more → spell 0 (decimalIn more (n / 10)) ≡ n / 10)
-        → spell 0 (cond t (digitByte n ∷ []) (decimalIn more (n / 10) ++ (digitByte (n % 10) ∷ []))) ≡ n
-    split true e ih = omega arith
-    split false e ih =
-        let g = ltb-false n 10 e in
-        omega (arith, spell-last 0 (decimalIn more (n / 10)) (digitByte (n % 10)), ih (omega arith))
-
--- read as digits they spell it
-pub decimal-spells : (n : ℕ) → spell 0 (decimal n) ≡ n
-unfolding decimal
-decimal-spells n = spells-in n n (omega arith)
-
--- there is a first digit, and it is 0 only for 0
-leads-in : (more n : ℕ) → n ≤ more → 0 < n → (0 < length (decimalIn more n)) × (48 < getD (decimalIn more n) 0 0)
-unfolding decimalIn
-leads-in zero n h p = (omega arith, omega arith)
-leads-in (suc more) n h p = split (ltb n 10) refl (leads-in more (n / 10))
-  where
-    split : (t : Bool) → ltb n 10 ≡ t → (n / 10 ≤ more → 0 < n / 10 → (0 < length (decimalIn more (n / 10))) × (48 < getD (decimalIn more (n / 10)) 0 0))
-        → let text = cond t (digitByte n ∷ []) (decimalIn more (n / 10) ++ (digitByte (n % 10) ∷ [])) in
-        (0 < length text) × (48 < getD text 0 0)
-    split true e ih = (omega arith, omega arith)
-    split false e ih =
-        let g = ltb-false n 10 e in
-        let tenth = ih (omega arith) (omega arith) in
-        let last = digitByte (n % 10) ∷ [] in
-        (omega (arith, length-append (decimalIn more (n / 10)) last), omega (arith, List·getD-append (decimalIn more (n / 10)) last 0 0 (tenth .0)))
-
-pub decimal-leads : (n : ℕ) → 0 < n → 48 < getD (decimal n) 0 0
-unfolding decimal
-decimal-leads n p = leads-in n n (omega arith) p .1

@@ -1,5 +1,5 @@
--- Numbers of units in plain decimals: the text spells the number exactly, so that reading it gives the number again; it has no exponent, and after
--- the point no zero stands at its end.
+-- Numbers as text. A whole number's digits spell it, and lead with no 0. A number of units in plain decimals is spelt exactly, so that reading the text gives
+-- it again; the text has no exponent, and after the point no zero stands at its end.
 use Prim.Native.Nat.{ℕ, zero, suc, _+_, _-_, _*_, _/_, _%_, _^_, _≤_, _<_}
 use mathlib.Core.Path.{_≡_, refl, sym, ap, ap₂, subst, _∙_}
 use mathlib.Core.Bool.{Bool, true, false, cond}
@@ -9,15 +9,59 @@ use native.Mathlib.Omega.{arith}
 use borrow.Author.Tests.{ltb-true, ltb-false, le-leb, eqb-true, eqb-false}
 use lib.Dec.{leb, ltb, eqb}
 use lib.IntN.{ℤ, pos, negsuc, negℤ, natAbs, _*ℤ_, pos-*ℤ-pos, pos-*ℤ-negsuc}
-use lib.ListN.{length, getD, length-append}
+use lib.ListN.{length, getD, length-append, List·getD-append}
 use Rattle.rules.specs.Decimals.{digitByte, decimalIn, decimal, sign, placesOf, fraction, decimalsOf}
 use Rattle.rules.specs.Reading.Lines.{bytes, digit, every, starts}
 use Rattle.rules.specs.Reading.Numerals.{Exact, Mantissa, Numeral, Sign, Spells, absent, digits, minus, over, plain, pointed, signed, spell, under, unwritten}
 use Rattle.rules.specs.Reading.Numbers.{numberOf}
 use Rattle.rules.specs.declared.Number.the-variants.{Value}
 use Rattle.rules.proofs.Tests.{and-both, both-and}
-use Rattle.rules.proofs.Decimals.{decimal-spells, no-places, one-place, no-fraction, some-fraction}
+use Rattle.rules.proofs.Decimals.{no-places, one-place, no-fraction, some-fraction}
 use Rattle.rules.proofs.Reading.Numbers.{of-exact}
+
+-- ---- the digits are those of the number
+
+spell-append : (m : ℕ) (a b : List ℕ) → spell m (a ++ b) ≡ spell (spell m a) b
+unfolding spell
+spell-append m [] b = refl
+spell-append m (x ∷ a) b = spell-append (m * 10 + (x - 48)) a b
+
+spells-in : (more n : ℕ) → n ≤ more → spell 0 (decimalIn more n) ≡ n
+unfolding decimalIn spell
+spells-in zero n h = omega arith
+spells-in (suc more) n h = split (ltb n 10) refl (spells-in more (n / 10))
+  where
+    split : (t : Bool) → ltb n 10 ≡ t → (n / 10 ≤ more → spell 0 (decimalIn more (n / 10)) ≡ n / 10)
+        → spell 0 (cond t (digitByte n ∷ []) (decimalIn more (n / 10) ++ (digitByte (n % 10) ∷ []))) ≡ n
+    split true e ih = omega arith
+    split false e ih =
+        let g = ltb-false n 10 e in
+        omega (arith, spell-append 0 (decimalIn more (n / 10)) (digitByte (n % 10) ∷ []), ih (omega arith))
+
+-- read as digits they spell it
+pub decimal-spells : (n : ℕ) → spell 0 (decimal n) ≡ n
+unfolding decimal
+decimal-spells n = spells-in n n (omega arith)
+
+-- there is a first digit, and it is 0 only for 0
+leads-in : (more n : ℕ) → n ≤ more → 0 < n → (0 < length (decimalIn more n)) × (48 < getD (decimalIn more n) 0 0)
+unfolding decimalIn
+leads-in zero n h p = (omega arith, omega arith)
+leads-in (suc more) n h p = split (ltb n 10) refl (leads-in more (n / 10))
+  where
+    split : (t : Bool) → ltb n 10 ≡ t → (n / 10 ≤ more → 0 < n / 10 → (0 < length (decimalIn more (n / 10))) × (48 < getD (decimalIn more (n / 10)) 0 0))
+        → let text = cond t (digitByte n ∷ []) (decimalIn more (n / 10) ++ (digitByte (n % 10) ∷ [])) in
+        (0 < length text) × (48 < getD text 0 0)
+    split true e ih = (omega arith, omega arith)
+    split false e ih =
+        let g = ltb-false n 10 e in
+        let tenth = ih (omega arith) (omega arith) in
+        let last = digitByte (n % 10) ∷ [] in
+        (omega (arith, length-append (decimalIn more (n / 10)) last), omega (arith, List·getD-append (decimalIn more (n / 10)) last 0 0 (tenth .0)))
+
+pub decimal-leads : (n : ℕ) → 0 < n → 48 < getD (decimal n) 0 0
+unfolding decimal
+decimal-leads n p = leads-in n n (omega arith) p .1
 
 -- ---- every byte but the sign and the point is a digit
 
@@ -148,11 +192,6 @@ placed (suc k) units m h =
     split false e p = more-placed k units m h (omega (arith, eqb-false units 0 e)) p
 
 -- ---- the whole text
-
-spell-append : (m : ℕ) (a b : List ℕ) → spell m (a ++ b) ≡ spell (spell m a) b
-unfolding spell
-spell-append m [] b = refl
-spell-append m (x ∷ a) b = spell-append (m * 10 + (x - 48)) a b
 
 abbrev pub isBelow : ℤ → Bool
 isBelow (pos n) = false
