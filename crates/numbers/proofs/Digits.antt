@@ -1,8 +1,8 @@
 -- The number that digits spell: a list in two parts, the digits after a number, one digit of a list, and less than ten to the count of digits.
 use Prim.Native.Nat.{ℕ, suc, _+_, _-_, _*_, _^_, _≤_, _<_}
-use mathlib.Core.Path.{_≡_, refl, sym, ap, _∙_}
+use mathlib.Core.Path.{_≡_, sym, ap, _∙_}
 use mathlib.Core.Bool.{true}
-use mathlib.Core.List.{List, [], _∷_, _++_}
+use mathlib.Core.List.{List, [], _∷_}
 use native.Mathlib.Nat.{mul-assoc, add-mul, mul-comm, zero-add, mul-le-mul-right, one-le-pow, pow-suc}
 use native.Mathlib.Numerals.{add-one}
 use native.Mathlib.Omega.{arith}
@@ -16,11 +16,6 @@ use Rattle.rules.proofs.Tests.{and-both}
 
 pub ten-pos : (k : ℕ) → 1 ≤ 10 ^ k
 ten-pos k = one-le-pow k 10 (omega arith)
-
-pub spell-append : (m : ℕ) (a b : List ℕ) → spell m (a ++ b) ≡ spell (spell m a) b
-unfolding spell
-spell-append m [] b = refl
-spell-append m (d ∷ a) b = spell-append (m * 10 + (d - 48)) a b
 
 -- ---- from the place that a scan has come to
 

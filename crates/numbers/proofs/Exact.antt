@@ -14,12 +14,14 @@ use Rattle.rules.specs.Reading.Lines.{digit, every}
 use Rattle.rules.specs.Reading.Numerals.{over, spell, under}
 use Rattle.rules.specs.Reading.Numbers.{settle}
 use Rattle.rules.specs.declared.Number.{Number}
-use Rattle.rules.proofs.Tests.{and-both, both-and}
+use Rattle.rules.proofs.Tests.{and-both}
 use Rattle.numbers.specs.Cuts.{Served, answer, cutOf, exponentCap, kept, mostLimit}
 use Rattle.numbers.specs.Parts.{numeral}
-use Rattle.numbers.proofs.Digits.{spell-after, spell-append, spell-less, ten-pos}
+use Rattle.numbers.proofs.Digits.{spell-after, spell-less, ten-pos}
+use Rattle.rules.proofs.Reading.Numbers.{spell-append}
 use Rattle.numbers.proofs.Joined.{Cut, cut}
 use Rattle.numbers.proofs.Kept.{kept-zeros}
+use Rattle.rules.proofs.Reading.Runs.{every-append}
 
 -- ---- a quotient and a rest
 
@@ -69,11 +71,6 @@ unfolding every
 every-drop zero l h = h
 every-drop (suc n) [] h = h
 every-drop (suc n) (d ∷ l) h = every-drop n l (and-both (digit d) (every digit l) h .1)
-
-every-append : (v w : List ℕ) → every digit v ≡ true → every digit w ≡ true → every digit (v ++ w) ≡ true
-unfolding every
-every-append [] w h k = k
-every-append (d ∷ v) w h k = let e = and-both (digit d) (every digit v) h in both-and (digit d) (every digit (v ++ w)) (e .0) (every-append v w (e .1) k)
 
 module _ (limit : ℕ) (negative : Bool) (ds : List ℕ) where
   -- what the digits before a cut and behind it say
@@ -146,7 +143,7 @@ far limit negative ds b c l h k =
 
 module _ (places limit : ℕ) (negative : Bool) (w f power : List ℕ) (served : Served w f places limit) where
   all : every digit (w ++ f) ≡ true
-  all = every-append w f (served .whole-digits) (served .fraction-digits)
+  all = every-append digit w f (served .whole-digits) (served .fraction-digits)
 
   capped : (down : Bool) (x : ℕ)
       → settle limit negative (spell 0 (w ++ f) * 10 ^ (places + cond down 0 x)) (10 ^ (length f + cond down x 0)) ≡ byCut limit negative (w ++ f) (cutOf (length w) places down (kept exponentCap x))

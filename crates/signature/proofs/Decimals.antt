@@ -17,14 +17,10 @@ use Rattle.rules.specs.Reading.Numbers.{numberOf}
 use Rattle.rules.specs.declared.Number.the-variants.{Value}
 use Rattle.rules.proofs.Tests.{and-both, both-and}
 use Rattle.rules.proofs.Decimals.{no-places, one-place, no-fraction, some-fraction}
-use Rattle.rules.proofs.Reading.Numbers.{of-exact}
+use Rattle.rules.proofs.Reading.Numbers.{of-exact, spell-append, digits-parts}
+use Rattle.rules.proofs.Reading.Runs.{every-append}
 
 -- ---- the digits are those of the number
-
-spell-append : (m : ℕ) (a b : List ℕ) → spell m (a ++ b) ≡ spell (spell m a) b
-unfolding spell
-spell-append m [] b = refl
-spell-append m (x ∷ a) b = spell-append (m * 10 + (x - 48)) a b
 
 spells-in : (more n : ℕ) → n ≤ more → spell 0 (decimalIn more n) ≡ n
 unfolding decimalIn spell
@@ -65,21 +61,10 @@ decimal-leads n p = leads-in n n (omega arith) p .1
 
 -- ---- every byte but the sign and the point is a digit
 
-every-append : (kind : ℕ → Bool) (a b : List ℕ) → every kind a ≡ true → every kind b ≡ true → every kind (a ++ b) ≡ true
-unfolding every
-every-append kind [] b p q = q
-every-append kind (x ∷ a) b p q =
-    let h = and-both (kind x) (every kind a) p in
-    both-and (kind x) (every kind (a ++ b)) (h .0) (every-append kind a b (h .1) q)
-
 first-digit : (l : List ℕ) → 0 < length l → every digit l ≡ true → digits l ≡ true
 unfolding every starts digits
 first-digit [] h p = absurd (omega arith)
 first-digit (b ∷ l) h p = both-and (digit b) (every digit (b ∷ l)) (and-both (digit b) (every digit l) p .0) p
-
-digits-every : (l : List ℕ) → digits l ≡ true → every digit l ≡ true
-unfolding digits
-digits-every l p = and-both (starts digit l) (every digit l) p .1
 
 digit-byte : (d : ℕ) → d < 10 → digit (digitByte d) ≡ true
 digit-byte d h = both-and (leb 48 (48 + d)) (leb (48 + d) 57) (le-leb 48 (48 + d) (omega arith)) (le-leb (48 + d) 57 (omega arith))
@@ -221,7 +206,7 @@ module _ (places : ℕ) (z : ℤ) where
           plain (ap (λ f. decimal whole ++ f) (ap (fraction places) none ∙ no-fraction places) ∙ append-nil (decimal whole)) (ap (placesOf places) none ∙ no-places places) (decimal-digits whole)
       split false e =
           let positive : 0 < rest = omega (arith, eqb-false rest 0 e) in
-          pointed (ap (λ f. decimal whole ++ f) (some-fraction places rest positive)) (digits-every (decimal whole) (decimal-digits whole))
+          pointed (ap (λ f. decimal whole ++ f) (some-fraction places rest positive)) (digits-parts (decimal whole) (decimal-digits whole) .1)
           (first-digit (placesOf places rest) (rest-placed .some positive) (rest-placed .each))
 
   -- a sign, digits, and perhaps a point and digits; no exponent

@@ -4,7 +4,7 @@ use mathlib.Core.Path.{sym, ap, _∙_}
 use borrow.Author.Needs.{needs}
 use Rattle.rules.specs.Reading.Numerals.{spell}
 use Rattle.numbers.specs.Cuts.{kept}
-use Rattle.numbers.proofs.Digits.{spell-append}
+use Rattle.rules.proofs.Reading.Numbers.{spell-append}
 use Rattle.numbers.proofs.Kept.{kept-spell}
 use Rattle.numbers.proofs.spelt_both.Statement.{statement}
 use Rattle.numbers.proofs.spelt_both.Tie as tie

@@ -1,5 +1,5 @@
 -- A word is read as a number just where it spells one, with its exact value.
-use Prim.Native.Nat.{ℕ, _*_, _/_, _%_, _≤_}
+use Prim.Native.Nat.{ℕ, _+_, _-_, _*_, _/_, _%_, _≤_}
 use mathlib.Core.Path.{_≡_, refl, sym, ap, subst, _∙_}
 use mathlib.Core.Bool.{Bool, true, false, cond, _&&_, _||_}
 use mathlib.Core.List.{List, [], _∷_, _++_, append-assoc}
@@ -12,7 +12,7 @@ use lib.IntN.{ℤ, pos, negℤ, natAbs, _*ℤ_}
 use Rattle.whole.specs.Integers.{up, dn}
 use Rattle.whole.proofs.Halves as H
 use Rattle.rules.specs.Reading.Lines.{after, digit, eByte, every, minusByte, plusByte, pointByte, run, starts}
-use Rattle.rules.specs.Reading.Numerals.{Exact, Exponent, Mantissa, Numeral, Power, Sign, Spells, absent, digits, minus, over, plain, plus, pointed, signed, under, unwritten, written}
+use Rattle.rules.specs.Reading.Numerals.{spell, Exact, Exponent, Mantissa, Numeral, Power, Sign, Spells, absent, digits, minus, over, plain, plus, pointed, signed, under, unwritten, written}
 use Rattle.rules.specs.Reading.Numbers.{assemble, exponentOf, numeralWith, numberOf, numeralOf, settle, unsigned, valueOf}
 use Rattle.rules.specs.declared.Number.the-variants.{Value, Beyond, Finer}
 use Rattle.rules.proofs.Tests.{no-some, and-both, both-and, or-none, none-or}
@@ -71,6 +71,12 @@ sign-on negative s (b ∷ x) (unwritten e n) h =
     (rw (e, o .0, o .1), rw (e, n) (o .1))
 
 -- ---- the exponent
+
+-- the number that digits spell, in two parts
+pub spell-append : (m : ℕ) (a b : List ℕ) → spell m (a ++ b) ≡ spell (spell m a) b
+unfolding spell
+spell-append m [] b = refl
+spell-append m (d ∷ a) b = spell-append (m * 10 + (d - 48)) a b
 
 pub digits-parts : (w : List ℕ) → digits w ≡ true → (starts digit w ≡ true) × (every digit w ≡ true)
 unfolding digits

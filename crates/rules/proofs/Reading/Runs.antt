@@ -4,7 +4,7 @@ use mathlib.Core.Path.{_≡_, refl, sym, ap}
 use mathlib.Core.Bool.{Bool, true, false, cond}
 use mathlib.Core.List.{List, [], _∷_, _++_}
 use Rattle.rules.specs.Reading.Lines.{after, every, run, starts}
-use Rattle.rules.proofs.Tests.{no-true, and-both}
+use Rattle.rules.proofs.Tests.{no-true, and-both, both-and}
 
 module _ (kind : ℕ → Bool) where
   pub run-after : (l : List ℕ) → l ≡ run kind l ++ after kind l
@@ -56,6 +56,13 @@ module _ (kind : ℕ → Bool) where
   unfolding starts
   starts-append [] b h = absurd (no-true (sym h))
   starts-append (x ∷ a) b h = h
+
+  pub every-append : (a b : List ℕ) → every kind a ≡ true → every kind b ≡ true → every kind (a ++ b) ≡ true
+  unfolding every
+  every-append [] b p q = q
+  every-append (x ∷ a) b p q =
+      let h = and-both (kind x) (every kind a) p in
+      both-and (kind x) (every kind (a ++ b)) (h .0) (every-append a b (h .1) q)
 
 -- a first byte of one kind is of no kind that shares no byte with it
 pub starts-other : (kind other : ℕ → Bool) → ((b : ℕ) → kind b ≡ true → other b ≡ false) → (l : List ℕ) → starts kind l ≡ true → starts other l ≡ false
