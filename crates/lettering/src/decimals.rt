@@ -5,7 +5,7 @@ use crate::put_sign;
 use whole::Whole;
 ghost use mathlib.Core.Path.{_≡_};
 ghost use Prim.Native.Nat.{_^_, _≤_, _<_};
-ghost use Rattle.rules.specs.Decimals.{placesOf, fraction, decimalsOf};
+ghost use Rattle.rules.specs.Decimals.{placesOf, afterPoint, decimalsOf};
 ghost use Rattle.lettering.specs.Putting.{Room, Puts};
 
 // 64 bits hold no greater power of ten.
@@ -44,8 +44,8 @@ fn put_places(out: &mut [u8], at: usize, units: u64, places: usize) -> usize
 fn put_fraction(out: &mut [u8], at: usize, units: u64, places: usize) -> usize
     requires { ⌜ places ≤ 19 ⌝ }
     requires { ⌜ units < 10 ^ places ⌝ }
-    requires { ⌜ Room (now out) at (fraction places units) ⌝ }
-    ensures { λ r. ⌜ Puts (now (out .entry)) at (fraction places units) r (now (out .exit)) ⌝ }
+    requires { ⌜ Room (now out) at (afterPoint places units) ⌝ }
+    ensures { λ r. ⌜ Puts (now (out .entry)) at (afterPoint places units) r (now (out .exit)) ⌝ }
 {
     if units == 0 {
         return at;

@@ -12,7 +12,7 @@ use Rattle.rules.specs.Memory.{spliced}
 use Rattle.rules.specs.declared.Codes.{Codes}
 use Rattle.rules.proofs.Memory.{splice-none, splice-front, splice-length, splice-both}
 use Rattle.rules.proofs.Picturing.Checks.{each-length}
-use Rattle.picture.specs.Filling.{pixelFrom, Passed}
+use Rattle.picture.specs.Filling.{pixelFrom, Fillable}
 
 -- ---- pixels, and more pixels
 
@@ -30,7 +30,7 @@ three-from l i h =
     rw (one, two, drop-cons l i 0 (omega arith), drop-cons l (suc i) 0 (omega arith), drop-cons l (suc (suc i)) 0 (omega arith))
 
 -- a pixel that begins in the picture ends in it
-pub whole-pixel : {src : List ℕ} {places : ℕ} → Passed src places → (i : ℕ) → i % 3 ≡ 0 → i < length src → i + 2 < length src
+pub whole-pixel : {src : List ℕ} {places : ℕ} → Fillable src places → (i : ℕ) → i % 3 ≡ 0 → i < length src → i + 2 < length src
 whole-pixel s i z h = omega (arith, s .whole)
 
 -- ---- pixel by pixel
@@ -45,7 +45,7 @@ pub none-filled : (f : Codes → Codes) (src dst : List ℕ) → Filled f src ds
 unfolding eachPixel
 none-filled f src dst = record { reached = omega arith; whole = refl; is = sym (splice-none dst 0) }
 
-module _ {f : Codes → Codes} {src dst : List ℕ} {i : ℕ} {dst′ : List ℕ} (s : Passed src (length dst)) (filled : Filled f src dst i dst′) where
+module _ {f : Codes → Codes} {src dst : List ℕ} {i : ℕ} {dst′ : List ℕ} (s : Fillable src (length dst)) (filled : Filled f src dst i dst′) where
   abbrev made : List ℕ
   made = eachPixel f (take i src)
 

@@ -11,6 +11,6 @@ abbrev pub pixelFrom : List ℕ → ℕ → Codes
 pixelFrom codes at = pixelOf (getD codes at 0) (getD codes (at + 1) 0) (getD codes (at + 2) 0)
 
 -- a picture that has passed 21 and 22: whole pixels, with room for their codes
-pub record Passed (src : List ℕ) (places : ℕ) : Type 0 where
+pub record Fillable (src : List ℕ) (places : ℕ) : Type 0 where
   pub whole : length src % 3 ≡ 0
   pub room : length src ≤ places

@@ -24,7 +24,7 @@ ghost use Rattle.rules.specs.Picturing.{eachPixel};
 ghost use Rattle.rules.specs.Promises.{Pictures};
 ghost use Rattle.rules.specs.Memory.{spliced};
 ghost use Rattle.colour.specs.Plans.{Planned};
-ghost use Rattle.picture.specs.Filling.{pixelFrom, Passed};
+ghost use Rattle.picture.specs.Filling.{pixelFrom, Fillable};
 
 // ---- 23, of all codes at once
 
@@ -70,7 +70,7 @@ fn write_pixel(dst: &mut [u16], at: usize, pixel: Codes)
 // Corrects a picture that has passed every check.
 fn correct_all(plan: Plan, table: &[i64], src: &[u16], dst: &mut [u16])
     requires { ⌜ Planned plan (now table) ⌝ }
-    requires { ⌜ Passed (now src) (length (now dst)) ⌝ }
+    requires { ⌜ Fillable (now src) (length (now dst)) ⌝ }
     ensures { λ _. ⌜ ((p : Planned plan (now (table .entry))) → now (dst .exit) ≡ eachPixel (correct (p .d) (now (table .entry)) (p .depths)) (now (src .entry)) ++ drop (length (now (src .entry))) (now (dst .entry))) ⌝ }
 {
     let mut i = 0;

@@ -10,7 +10,7 @@ use borrow.Author.Tests.{ltb-false, lt-ltb, le-ltb, ne-eqb}
 use lib.Dec.{ltb, eqb}
 use lib.IntN.{ℤ, pos, negsuc, natAbs}
 use lib.ListN.{length, length-append}
-use Rattle.rules.specs.Decimals.{digitByte, decimalIn, decimal, sign, signedDecimal, placesOf, fraction, decimalsOf}
+use Rattle.rules.specs.Decimals.{digitByte, decimalIn, decimal, sign, signedDecimal, placesOf, afterPoint, decimalsOf}
 
 -- a number below 10 is its own digit
 pub one-digit : (more n : ℕ) → n < 10 → decimalIn more n ≡ digitByte n ∷ []
@@ -73,16 +73,16 @@ places-within (suc places) units = split (eqb units 0) (places-within places (un
     split true h = omega arith
     split false h = omega arith
 
-pub no-fraction : (places : ℕ) → fraction places 0 ≡ []
-unfolding fraction
+pub no-fraction : (places : ℕ) → afterPoint places 0 ≡ []
+unfolding afterPoint
 no-fraction places = refl
 
-pub some-fraction : (places units : ℕ) → 0 < units → fraction places units ≡ 46 ∷ placesOf places units
-unfolding fraction
+pub some-fraction : (places units : ℕ) → 0 < units → afterPoint places units ≡ 46 ∷ placesOf places units
+unfolding afterPoint
 some-fraction places units h = rw (ne-eqb units 0 (λ e. omega arith))
 
-fraction-within : (places units : ℕ) → length (fraction places units) ≤ places + 1
-unfolding fraction
+fraction-within : (places units : ℕ) → length (afterPoint places units) ≤ places + 1
+unfolding afterPoint
 fraction-within places units = split (eqb units 0)
   where
     split : (t : Bool) → length (cond t [] (46 ∷ placesOf places units)) ≤ places + 1

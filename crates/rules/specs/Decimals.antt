@@ -35,9 +35,9 @@ placesOf zero units = []
 placesOf (suc places) units = cond (eqb units 0) [] (digitByte (units / 10 ^ places) ∷ placesOf places (units % 10 ^ places))
 
 -- the point stands only before a digit
-unfoldable pub fraction : ℕ → ℕ → List ℕ
-fraction places units = cond (eqb units 0) [] (46 ∷ placesOf places units)
+unfoldable pub afterPoint : ℕ → ℕ → List ℕ
+afterPoint places units = cond (eqb units 0) [] (46 ∷ placesOf places units)
 
 -- so many units in plain decimals, as -0.5, 1000 and 0.0000001
 unfoldable pub decimalsOf : ℕ → ℤ → List ℕ
-decimalsOf places z = sign z ++ (decimal (natAbs z / 10 ^ places) ++ fraction places (natAbs z % 10 ^ places))
+decimalsOf places z = sign z ++ (decimal (natAbs z / 10 ^ places) ++ afterPoint places (natAbs z % 10 ^ places))

@@ -10,7 +10,7 @@ use borrow.Author.Tests.{ltb-true, ltb-false, le-leb, eqb-true, eqb-false}
 use lib.Dec.{leb, ltb, eqb}
 use lib.IntN.{ℤ, pos, negsuc, negℤ, natAbs, _*ℤ_, pos-*ℤ-pos, pos-*ℤ-negsuc}
 use lib.ListN.{length, getD, length-append, List·getD-append}
-use Rattle.rules.specs.Decimals.{digitByte, decimalIn, decimal, sign, placesOf, fraction, decimalsOf}
+use Rattle.rules.specs.Decimals.{digitByte, decimalIn, decimal, sign, placesOf, afterPoint, decimalsOf}
 use Rattle.rules.specs.Reading.Lines.{bytes, digit, every, starts}
 use Rattle.rules.specs.Reading.Numerals.{Exact, Mantissa, Numeral, Sign, Spells, absent, digits, minus, over, plain, pointed, signed, spell, under, unwritten}
 use Rattle.rules.specs.Reading.Numbers.{numberOf}
@@ -197,13 +197,13 @@ module _ (places : ℕ) (z : ℤ) where
   rest-placed : Placed places rest whole (placesOf places rest)
   rest-placed = placed places rest whole (mod-lt (natAbs z) (omega (arith, one-le-pow places 10 (omega arith))))
 
-  mantissa : Mantissa (decimal whole ++ fraction places rest) (decimal whole) (placesOf places rest)
+  mantissa : Mantissa (decimal whole ++ afterPoint places rest) (decimal whole) (placesOf places rest)
   mantissa = split (eqb rest 0) refl
     where
-      split : (t : Bool) → eqb rest 0 ≡ t → Mantissa (decimal whole ++ fraction places rest) (decimal whole) (placesOf places rest)
+      split : (t : Bool) → eqb rest 0 ≡ t → Mantissa (decimal whole ++ afterPoint places rest) (decimal whole) (placesOf places rest)
       split true e =
           let none : rest ≡ 0 = eqb-true rest 0 e in
-          plain (ap (λ f. decimal whole ++ f) (ap (fraction places) none ∙ no-fraction places) ∙ append-nil (decimal whole)) (ap (placesOf places) none ∙ no-places places) (decimal-digits whole)
+          plain (ap (λ f. decimal whole ++ f) (ap (afterPoint places) none ∙ no-fraction places) ∙ append-nil (decimal whole)) (ap (placesOf places) none ∙ no-places places) (decimal-digits whole)
       split false e =
           let positive : 0 < rest = omega (arith, eqb-false rest 0 e) in
           pointed (ap (λ f. decimal whole ++ f) (some-fraction places rest positive)) (digits-parts (decimal whole) (decimal-digits whole) .1)
@@ -217,9 +217,9 @@ module _ (places : ℕ) (z : ℤ) where
   unfolding decimalsOf
   decimals-spell = record {
     sign = sign z;
-    mantissa = decimal whole ++ fraction places rest;
+    mantissa = decimal whole ++ afterPoint places rest;
     power = [];
-    word = ap (λ t. sign z ++ t) (sym (append-nil (decimal whole ++ fraction places rest)));
+    word = ap (λ t. sign z ++ t) (sym (append-nil (decimal whole ++ afterPoint places rest)));
     sign-so = sign-spelt z;
     mantissa-so = mantissa;
     power-so = absent refl refl;
@@ -253,13 +253,13 @@ module _ (places : ℕ) (z : ℤ) where
 -- ---- some texts
 
 pub half-below-0 : decimalsOf 7 (negsuc 4_999_999) ≡ bytes "-0.5"
-unfolding decimalsOf decimal decimalIn sign fraction placesOf bytes
+unfolding decimalsOf decimal decimalIn sign afterPoint placesOf bytes
 half-below-0 = refl
 
 pub a-thousand : decimalsOf 7 (pos 10_000_000_000) ≡ bytes "1000"
-unfolding decimalsOf decimal decimalIn sign fraction placesOf bytes
+unfolding decimalsOf decimal decimalIn sign afterPoint placesOf bytes
 a-thousand = refl
 
 pub one-unit : decimalsOf 7 (pos 1) ≡ bytes "0.0000001"
-unfolding decimalsOf decimal decimalIn sign fraction placesOf bytes
+unfolding decimalsOf decimal decimalIn sign afterPoint placesOf bytes
 one-unit = refl

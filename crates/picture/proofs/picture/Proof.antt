@@ -23,7 +23,7 @@ use Rattle.rules.proofs.Picturing.Checks.{within-all, picture-24, picture-20, p
 use Rattle.rules.proofs.Answers.{is-pictures}
 use Rattle.colour.specs.Plans.{Planned}
 use Rattle.colour.proofs.Plans.{planned}
-use Rattle.picture.specs.Filling.{Passed}
+use Rattle.picture.specs.Filling.{Fillable}
 use Rattle.picture.proofs.picture.Statement.{statement}
 use Rattle.picture.proofs.picture.Tie as tie
 
@@ -36,7 +36,7 @@ module _ {d : Description} {table : List ℤ} {bits : Bits} {src dst : List ℕ}
   refuses e = is-pictures (sym e) (ap (outputAfter d table bits src dst) (sym e))
 
   -- acceptance, with what the rule makes of each pixel in front of what was there
-  accepts : {depths : Depths} {dst′ : List ℕ} → couldBeRead d table ≡ true → depthsOf bits ≡ Both depths → Passed src (length dst) → within-all (rawM depths) src ≡ true
+  accepts : {depths : Depths} {dst′ : List ℕ} → couldBeRead d table ≡ true → depthsOf bits ≡ Both depths → Fillable src (length dst) → within-all (rawM depths) src ≡ true
       → dst′ ≡ eachPixel (correct d table depths) src ++ drop (length src) dst → Pictures d table bits src dst Accepted dst′
   unfolding outputAfter
   accepts {depths} could known s inside made =
@@ -74,7 +74,7 @@ known : (c : tie.After-depths) → depthsOf (sameBits (entry (asked c) .args .bi
 known c = found (c .before .before) ∙ c .depths .given .1
 
 -- neither 21 nor 22
-passed : (c : tie.Else4) → let a = entry (asked (told c)) .args in Passed (now (a .src)) (length (now (a .dst)))
+passed : (c : tie.Else4) → let a = entry (asked (told c)) .args in Fillable (now (a .src)) (length (now (a .dst)))
 passed c = let room = c .before .before .before in record { whole = room .before .if2 .left; room = room .if3 .left }
 
 -- nor 23

@@ -5,7 +5,7 @@ use mathlib.Core.List.{_++_}
 use native.Mathlib.Nat.{one-le-pow, mod-lt}
 use native.Mathlib.Omega.{arith}
 use borrow.Author.Needs.{needs}
-use Rattle.rules.specs.Decimals.{decimal, sign, fraction, decimalsOf}
+use Rattle.rules.specs.Decimals.{decimal, sign, afterPoint, decimalsOf}
 use Rattle.lettering.proofs.Texts.{first-room, next-part, last-part, puts-both}
 use Rattle.lettering.proofs.decimals.put_decimals.Statement.{statement}
 use Rattle.lettering.proofs.decimals.put_decimals.Tie as tie
@@ -14,7 +14,7 @@ use Rattle.lettering.proofs.decimals.put_decimals.Tie as tie
 text : (c : tie.After-size)
     → let a = c .before .before .before .args in
     let one = c .before .ten-to .result in
-    decimalsOf (a .places) (a .n .0) ≡ sign (a .n .0) ++ (decimal (c .size .result / one) ++ fraction (a .places) (c .size .result % one))
+    decimalsOf (a .places) (a .n .0) ≡ sign (a .n .0) ++ (decimal (c .size .result / one) ++ afterPoint (a .places) (c .size .result % one))
 unfolding decimalsOf
 text c = rw (c .size .ensures, c .before .ten-to .ensures)
 

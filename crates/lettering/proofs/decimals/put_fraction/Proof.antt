@@ -4,13 +4,13 @@ use mathlib.Core.Path.{_≡_, ap, _∙_}
 use mathlib.Core.List.{_∷_}
 use native.Mathlib.Omega.{arith}
 use borrow.Author.Needs.{needs}
-use Rattle.rules.specs.Decimals.{placesOf, fraction}
+use Rattle.rules.specs.Decimals.{placesOf, afterPoint}
 use Rattle.rules.proofs.Decimals.{no-fraction, some-fraction}
 use Rattle.lettering.proofs.Texts.{nothing-put, first-room, next-room, puts-both}
 use Rattle.lettering.proofs.decimals.put_fraction.Statement.{statement}
 use Rattle.lettering.proofs.decimals.put_fraction.Tie as tie
 
-text : (c : tie.Else1) → let a = c .before .before .args in fraction (a .places) (a .units) ≡ 46 ∷ placesOf (a .places) (a .units)
+text : (c : tie.Else1) → let a = c .before .before .args in afterPoint (a .places) (a .units) ≡ 46 ∷ placesOf (a .places) (a .units)
 text c =
     let a = c .before .before .args in
     let some : 0 < a .units = omega (arith, c .if1 .left) in
@@ -19,7 +19,7 @@ text c =
 returns : tie.Need-returns
 returns c =
     let s = c .before .before in
-    rw (ap (fraction (s .args .places)) (c .if1 .taken) ∙ no-fraction (s .args .places)) (nothing-put _ _ (omega (arith, s .pre .1 .1 .fits)))
+    rw (ap (afterPoint (s .args .places)) (c .if1 .taken) ∙ no-fraction (s .args .places)) (nothing-put _ _ (omega (arith, s .pre .1 .1 .fits)))
 
 put-byte-requires : tie.Need-put-byte-requires
 put-byte-requires c κs = let e = c .before in first-room _ _ (rw (text e) at (e .before .before .pre .1 .1))
