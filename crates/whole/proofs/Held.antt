@@ -6,7 +6,7 @@ use Prim.Native.Nat.{ℕ, suc, _+_, _*_, _≤_, _<_}
 use native.Mathlib.Nat as NatL
 use native.Mathlib.Omega.{arith}
 use borrow.Author.Tests.{ltb-true, ltb-false, le-leb, lt-leb}
-use lib.Dec.{T, T-not, leb, leb·zero, lit<}
+use lib.Dec.{T, leb, leb·zero, lit<}
 use lib.IntN.{ℤ, pos, negsuc, negℤ, natAbs, _+ℤ_, _-ℤ_, _*ℤ_}
 use lib.Signed.{ltZ, leZ, nonNeg, ltZ-yes, ltZ-no}
 use mir.Syntax.{w64}
@@ -80,12 +80,7 @@ pub false-by : (t : Bool) → (T t → ⊥) → t ≡ false
 false-by true h = absurd (h tt)
 false-by false h = refl
 
--- ---- what a branch on a signed `<` or `<=` tells, as a fact that omega reads
-le-fails : (a b : ℤ) → T (not (leZ a b)) → up b + dn a < up a + dn b
-le-fails a b t =
-    let not-le : up a + dn b ≤ up b + dn a → ⊥ = λ h. T-not (leZ a b) t (H.le-by a b h .le) in
-    omega arith
-
+-- ---- what a branch on a signed `<` tells, as a fact that omega reads
 module _ (a b : ℤ) (f : SFits w64 a) (g : SFits w64 b) where
   pub lt-yes : ltZ (toZ w64 (ofZ w64 a)) (toZ w64 (ofZ w64 b)) ≡ true → up a + dn b < up b + dn a
   lt-yes e = H.lt {a = a} {b = b} (ltZ-yes (passed (ltZ a b) (rw (toZ-ofZ w64 a f, toZ-ofZ w64 b g) at e)))

@@ -75,11 +75,6 @@ every-at kind [] e k h = absurd (omega arith)
 every-at kind (b ∷ l) e zero h = and-both _ _ e .0
 every-at kind (b ∷ l) e (suc k) h = every-at kind l (and-both (kind b) _ e .1) k (omega arith)
 
-pub at-every : (kind : ℕ → Bool) (l : List ℕ) → ((k : ℕ) → k < length l → kind (getD l k 0) ≡ true) → every kind l ≡ true
-unfolding every
-at-every kind [] h = refl
-at-every kind (b ∷ l) h = both-and _ _ (h 0 (omega arith)) (at-every kind l (λ k i. h (suc k) (omega arith)))
-
 pub pixel-within : (m : ℕ) (src : List ℕ) → within-all m src ≡ true → (k : ℕ) → 3 * k + 2 < length src → within m (pixelAt src k) ≡ true
 unfolding within
 pixel-within m src e k h =
