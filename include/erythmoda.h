@@ -1,9 +1,13 @@
 /* Erythmoda: .cube colour tables read and applied, every answer proved. Link liberythmoda.a.
  *
- * Nothing is allocated, kept or shared between calls: all memory is lent by the caller, and two threads may call at once
- * as long as neither writes what the other reads. A pointer must lead to as many places as its length says, or as its
- * type says where there is no length; with a length of 0 any pointer that is not null will do. What is lent for writing
- * must not overlap with anything else that is lent to the same call.
+ * Nothing is allocated, kept or shared between calls: all memory is lent by the caller. For each call the caller sees to it that
+ *   - a pointer leads to as many places as its length says, or as its type says where there is no length, and is aligned for
+ *     their type; no length is 2^63 bytes or more;
+ *   - no pointer is null, also where the length is 0: with nothing to lend, lend the address of anything (in C++ the data()
+ *     of an empty vector may be null);
+ *   - what is lent for writing does not overlap with anything else that is lent to the same call;
+ *   - no other thread writes, during the call, what it reads or writes, or reads what it writes. Calls that share only what
+ *     they read may run at once.
  *
  * Each call answers a number, 0 for accepted; erythmoda_number below says what the others mean. */
 #ifndef ERYTHMODA_H
@@ -87,7 +91,7 @@ uint32_t erythmoda_look(const int64_t description[11], const int64_t *table, siz
  *
  * Accepted: the first `src_len` places of `dst` hold the codes, and its later places keep theirs; a length of 0 is
  * accepted. Refused: the answer is 24, 20, 21, 22 or 23, tried in that order, and nothing is written. Places 8 to 10 of
- * `description` change no answer. */
+ * `description` change no answer. `dst` may not be `src`, nor overlap with it or with the table. */
 uint32_t erythmoda_picture(const int64_t description[11], const int64_t *table, size_t table_len,
                            uint32_t bits, const uint16_t *src, size_t src_len,
                            uint16_t *dst, size_t dst_len);

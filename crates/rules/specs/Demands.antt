@@ -14,7 +14,7 @@ use Rattle.rules.specs.Reading.Lines.{linesOf, wordsOf}
 use Rattle.rules.specs.Reading.Numerals.{Exact}
 use Rattle.rules.specs.Reading.Grammar.{Keeps, TitleLine}
 use Rattle.rules.specs.Reading.Contents.{formOf}
-use Rattle.rules.specs.Looking.Interpolation.{Order, denOf, positionOf, pairBy, pathBy, denominator, weighed, total, rowCode}
+use Rattle.rules.specs.Looking.Interpolation.{Order, denOf, positionOf, pairBy, pathBy, sharesFor, denominator, weighed, total, rowCode}
 use Rattle.rules.specs.Picturing.{pixelOf}
 use Rattle.rules.specs.Looking.Readings.{Reading, Descends}
 use Rattle.rules.specs.declared.Form.{Form}
@@ -101,16 +101,17 @@ pub data ByReading (d : Description) (table : List ℤ) (m : ℕ) (pixel : Codes
   cube : (i f : Colour → ℕ) (o : Order) → ((k : Colour) → Reading (d .n) (denOf d m k) (positionOf d m pixel k) (i k) (f k)) → Descends f o
       → ByReading d table m pixel c ThreeD (total table c (pathBy (d .n) (denOf d m c) i f o))
 
--- a colour's code, made of these rows with their weights, of a table with so many rows. den is D, what the weights add up to, m the M of the codes,
--- and `Value` says which sums are S by an admissible reading.
-pub record Right (table : List ℤ) (c : Colour) (count den m : ℕ) (Value : ℤ → Type 0) (ss : List Share) (code : ℕ) : Type 0 where
+-- a colour's code, made of these rows with their weights, of a table with so many rows. den is D, what the weights add up to, m the M of the codes;
+-- `Value` says which sums are S by an admissible reading, and `Rule` which rows and weights are those of the rule.
+pub record Right (table : List ℤ) (c : Colour) (count den m : ℕ) (Value : ℤ → Type 0) (Rule : List Share → Type 0) (ss : List Share) (code : ℕ) : Type 0 where
   -- S / (D·10,000,000) is the exact value, the same by every admissible reading
   pub s : ℤ
   pub read-so : Value s
   pub read-otherwise : (t : ℤ) → Value t → t ≡ s
   -- no code is nearer to M times it, and of equally near ones this is the greatest
   pub nearest : Nearest (pos m *ℤ s) (denominator den) m code
-  -- the exact value is made of exactly these rows, and their weights add up to D
+  -- the rows and weights are those of the rule, the exact value is made of exactly these, and the weights add up to D
+  pub by-rule : Rule ss
   pub shown : total table c ss ≡ s
   pub add-up : weights (weighed table c ss) ≡ pos den
   pub not-negative : Each (λ x. pos 0 ≤ℤ x .weight) ss
@@ -122,7 +123,11 @@ pub record Right (table : List ℤ) (c : Colour) (count den m : ℕ) (Value : �
 -- the codes and shares of an accepted look at a pixel, for one colour
 abbrev pub LookRight : Description → List ℤ → Depths → Codes → Codes → Shares → Colour → Type 0
 LookRight d table depths pixel codes shares c =
-    Right table c (rows d) (denOf d (rawM depths) c) (correctedM depths) (ByReading d table (rawM depths) pixel c (d .kind)) (used (d .kind) c shares) (codeIn codes c)
+    Right table c (rows d) (denOf d (rawM depths) c) (correctedM depths)
+    (ByReading d table (rawM depths) pixel c (d .kind))
+    (λ ss. ss ≡ sharesFor d (rawM depths) pixel (d .kind) c)
+    (used (d .kind) c shares)
+    (codeIn codes c)
 
 -- an accepted look: its depths are known, and each colour is right
 pub record AllRight (d : Description) (table : List ℤ) (bits : Bits) (pixel : Codes) (r : Look) : Type 0 where

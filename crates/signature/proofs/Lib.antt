@@ -1,4 +1,4 @@
--- What the signature covers: theorems about the rules that no code needs. docs/PROMISES.md has them by the demands' sentences.
+-- What the signature covers: theorems about the rules that no code needs. docs/PROMISES.md has them by the demands' clauses.
 
 -- demand 1: each promise decides its answer; titles change no answer
 pub mod Unique
@@ -9,6 +9,7 @@ pub mod Either
 pub mod Reading
 pub mod Looking
 pub mod Picturing
+pub mod Demand3
 -- the demands again, of the calls that loggers link
 pub mod Boundary
 -- numbers as text; the bytes that the report program prints

@@ -195,6 +195,7 @@ right d table depths pixel could deep c =
       read-so = rule-reading d table raw pixel could deep (d .kind) refl c;
       read-otherwise = one-value d table raw pixel could deep c;
       nearest = rw code-is (code-is-nearest table c den corrected wide ss);
+      by-rule = used-are;
       shown = rw used-are;
       add-up = rw used-are add-up;
       not-negative = rw used-are (weights-not-negative stairs);

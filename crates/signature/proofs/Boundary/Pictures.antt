@@ -24,12 +24,12 @@ pub record PictureAccepted (eleven table : List ℤ) (bits : Bits) (src dst dst�
   pub described : describedIn eleven ≡ some d
   pub picture-right : RightPicture d table bits src dst dst′
 
-accepted-by : (r : Picture) → pictureNumber r ≡ 0 → r ≡ P.Accepted
+pub accepted-by : (r : Picture) → pictureNumber r ≡ 0 → r ≡ P.Accepted
 accepted-by P.Accepted z = refl
 accepted-by (P.Refused r) z = absurd (refused-not-0 r z)
 
 -- the output of eleven numbers is that of their description, where they give one
-output-given : (eleven table : List ℤ) (bits : Bits) (src dst : List ℕ) (d : Description) → describedIn eleven ≡ some d
+pub output-given : (eleven table : List ℤ) (bits : Bits) (src dst : List ℕ) (d : Description) → describedIn eleven ≡ some d
     → outputIn eleven table bits src dst ≡ outputAfter d table bits src dst (picture d table bits src (length dst))
 output-given eleven table bits src dst d e = called-described dst (λ d. outputAfter d table bits src dst (picture d table bits src (length dst))) eleven e
 

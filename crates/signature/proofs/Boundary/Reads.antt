@@ -3,11 +3,11 @@ use Prim.Native.Nat.{ℕ}
 use mathlib.Core.Path.{_≡_, refl, sym, ap, _∙_}
 use mathlib.Core.Bool.{true}
 use mathlib.Core.Logic.{_↔_}
-use mathlib.Core.List.{List}
+use mathlib.Core.List.{List, _∷_}
 use mathlib.Core.Option.{some}
-use lib.IntN.{ℤ}
-use lib.ListN.{length}
-use Rattle.rules.specs.Descriptions.{zeros, couldBeRead}
+use lib.IntN.{ℤ, pos}
+use lib.ListN.{length, replicate}
+use Rattle.rules.specs.Descriptions.{couldBeRead}
 use Rattle.rules.specs.Reading.Grammar.{Keeps}
 use Rattle.rules.specs.Reading.{read}
 use Rattle.rules.specs.Answers.{readNumber, readLine, readDescription}
@@ -61,11 +61,11 @@ module _ {file : List ℕ} {table table′ eleven′ : List ℤ} {number line′
   laid : ReadLaid file table number table′ eleven′ line′
   laid = read-laid .0 h
 
-  -- a refusal leaves the table as it was, and writes the description of zeros
-  pub read-refused : (number ≡ 0 → ⊥) → (table′ ≡ table) × (eleven′ ≡ elevenOf zeros)
+  -- a refusal leaves the table as it was, and writes the empty description: 1, and ten zeros
+  pub read-refused : (number ≡ 0 → ⊥) → (table′ ≡ table) × (eleven′ ≡ pos 1 ∷ replicate 10 (pos 0))
   read-refused not-0 = by (laid .answer) (laid .reads) (laid .number-so) (laid .eleven-so)
     where
-      by : (r : Read) → Reads file table r table′ → number ≡ readNumber r → eleven′ ≡ elevenOf (readDescription r) → (table′ ≡ table) × (eleven′ ≡ elevenOf zeros)
+      by : (r : Read) → Reads file table r table′ → number ≡ readNumber r → eleven′ ≡ elevenOf (readDescription r) → (table′ ≡ table) × (eleven′ ≡ pos 1 ∷ replicate 10 (pos 0))
       by (R.Accepted d) reads e v = absurd (not-0 e)
       by (R.Refused reason n) reads e v = (refused-unchanged reads, v)
 

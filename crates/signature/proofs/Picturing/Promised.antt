@@ -15,7 +15,6 @@ use Rattle.rules.specs.declared.Bits.{Bits}
 use Rattle.rules.specs.declared.Description.{Description}
 use Rattle.rules.specs.declared.Picture.{Picture}
 use Rattle.rules.specs.declared.Picture.the-variants as P
-use Rattle.rules.specs.declared.Read.the-variants.{Accepted, Refused}
 use Rattle.rules.specs.declared.Refusal.{Refusal}
 use Rattle.signature.proofs.Picturing.Codes.{PicturePassed, picture-passed, PictureCodes, picture-codes, output-length}
 use Rattle.rules.proofs.Colours.{place-below}
