@@ -6,6 +6,9 @@ pub mod Nines
 -- where numbers stand, and the lines by their numbers
 pub mod Places
 pub mod LineNumbers
+-- the order of the checks
+pub mod Checks
+pub mod Order
 -- the numbers that it answers, and what its promise decides
 pub mod Numbers
 pub mod Promised

@@ -1,3 +1,4 @@
--- What the theorems speak of beside the rules: document 01's cases, and a number that is one of some.
+-- What the theorems speak of beside the rules: document 01's cases, a number that is one of some, and the order of reading's checks.
 pub mod Cases
 pub mod Numbers
+pub mod Order

@@ -10,18 +10,21 @@ use lib.ListN.{length, replicate}
 use Rattle.rules.specs.Descriptions.{couldBeRead}
 use Rattle.rules.specs.Reading.Grammar.{Keeps}
 use Rattle.rules.specs.Reading.{read}
-use Rattle.rules.specs.Answers.{readNumber, readLine, readDescription}
+use Rattle.rules.specs.Answers.{refusalNumber, readNumber, readLine, readDescription}
 use Rattle.rules.specs.Promises.{Reads}
 use Rattle.rules.specs.Boundary.{elevenOf, describedIn, ReadsC}
 use Rattle.rules.specs.Demands.{Kept}
 use Rattle.rules.specs.declared.Description.{Description}
 use Rattle.rules.specs.declared.Read.{Read}
 use Rattle.rules.specs.declared.Read.the-variants as R
+use Rattle.rules.specs.declared.Refusal.{Refusal}
 use Rattle.rules.proofs.Reading.Acceptance.{keeps-accepted}
 use Rattle.rules.proofs.Answers.{refused-not-0, reads-is, is-reads}
 use Rattle.rules.proofs.Reading.Bridge.{refused-unchanged, reads-bridge}
 use Rattle.signature.proofs.Reading.Promised.{reads-accepted}
+use Rattle.signature.proofs.Reading.Order.{numbers-order}
 use Rattle.signature.proofs.Boundary.Crossing.{crosses}
+use Rattle.signature.specs.Order.{FailsFirst}
 
 -- a reading with its answer laid out as numbers
 pub record ReadLaid (file : List ℕ) (table : List ℤ) (number : ℕ) (table′ eleven′ : List ℤ) (line′ : ℕ) : Type 0 where
@@ -80,6 +83,11 @@ module _ {file : List ℕ} {table table′ eleven′ : List ℤ} {number line′
   -- every file that keeps the specification is accepted
   pub read-keeps : (d : Description) (samples : List ℤ) → Keeps file (length table) d samples → number ≡ 0
   read-keeps d samples k = h .number-so ∙ ap readNumber (keeps-accepted file (length table) d samples k .0)
+
+-- the number and the line of a refusal are those of the first check that fails, on the first line that does not pass
+pub reads-c-order : {file : List ℕ} {table table′ eleven′ : List ℤ} {number line′ : ℕ} → ReadsC file table number table′ eleven′ line′ → (r : Refusal) (n : ℕ)
+    → ((number ≡ refusalNumber r) × (line′ ≡ n)) ↔ FailsFirst file (length table) r n
+reads-c-order {file} {table} h r n = numbers-order file (length table) r n (h .number-so) (h .line-so)
 
 -- what acceptance wrote gives the description back, and is not 24
 pub read-bridge : {file : List ℕ} {table table′ eleven′ : List ℤ} {line′ : ℕ} (a : ReadAccepted file table table′ eleven′ line′)
