@@ -1,6 +1,7 @@
 -- Theorems of look.
 
--- the ends of the domain; the short division
+-- what it knows of a description and a pixel; the ends of the domain, and codes beyond them; the short division
+pub mod SamePlaces
 pub mod DomainEnds
 pub mod ShortDivision
 -- the numbers that it answers

@@ -1,34 +1,33 @@
 -- The title's fields change no answer of look and picture: neither looks further than kind, N and the three domains.
 use Prim.Native.Nat.{ℕ}
-use mathlib.Core.Path.{_≡_, refl, ap, ap₂, fun-ext}
+use mathlib.Core.Path.{_≡_, refl, ap, ap₂}
 use mathlib.Core.Bool.{cond}
 use mathlib.Core.List.{List, _++_}
 use lib.IntN.{ℤ}
 use lib.ListN.{length, drop}
-use Rattle.rules.specs.Units.{rawM, correctedM, depthsOf, codeIn}
+use Rattle.rules.specs.Units.{rawM, depthsOf, codeIn}
 use Rattle.rules.specs.Descriptions.{domain, agree, roomy, couldBeRead}
-use Rattle.rules.specs.Looking.Interpolation.{den, index, fraction, order, pairBy, pathBy, pair, path, sharesFor, codeBy}
-use Rattle.rules.specs.Looking.{within, shown, six, codeOf, correct, lookAt, look}
+use Rattle.rules.specs.Looking.Interpolation.{den, index, fraction}
+use Rattle.rules.specs.Looking.{lookAt, look}
 use Rattle.rules.specs.Answers.{codesIn}
 use Rattle.rules.specs.Demands.{pixelAt}
 use Rattle.rules.specs.Picturing.{corrected, picture, outputAfter}
 use Rattle.rules.specs.declared.Bits.{Bits}
-use Rattle.rules.specs.declared.Depths.{Depths}
 use Rattle.rules.specs.declared.DepthsFound.{DepthsFound}
 use Rattle.rules.specs.declared.DepthsFound.the-variants.{Both, NotBoth}
 use Rattle.rules.specs.declared.Codes.{Codes}
 use Rattle.rules.specs.declared.Colour.{Colour}
 use Rattle.rules.specs.declared.Colour.the-variants.{Red, Green, Blue}
 use Rattle.rules.specs.declared.Description.{Description}
-use Rattle.rules.specs.declared.Domain.{Domain}
 use Rattle.rules.specs.declared.Kind.{Kind}
 use Rattle.rules.specs.declared.Kind.the-variants.{OneD, ThreeD}
-use Rattle.rules.specs.declared.Look.the-variants.{Accepted, Refused}
+use Rattle.rules.specs.declared.Look.the-variants.{Refused}
 use Rattle.rules.specs.declared.Picture.{Picture}
 use Rattle.rules.specs.declared.Picture.the-variants as P
-use Rattle.rules.specs.declared.Refusal.the-variants.{CodeTooGreat, CouldNotBeRead}
+use Rattle.rules.specs.declared.Refusal.the-variants.{CouldNotBeRead}
 use Rattle.rules.specs.declared.Title.{Title}
 use Rattle.rules.proofs.Picturing.Checks.{each-same}
+use Rattle.signature.proofs.Looking.SamePlaces.{SamePlaces, same-look}
 
 -- the same description with another title
 abbrev pub retitled : Description → Title → Description
@@ -57,38 +56,20 @@ module _ (d : Description) (t : Title) where
   -- ---- look
 
   module _ (table : List ℤ) (pixel : Codes) where
-    module _ (m : ℕ) where
-      same-path : path e m pixel ≡ path d m pixel
-      unfolding path
-      same-path =
-          ap (λ (dom : Colour → Domain). pathBy (d .n) (den m (dom Red)) (λ c. index m (dom c) (d .n) (codeIn pixel c)) (λ c. fraction m (dom c) (d .n) (codeIn pixel c)) (order (λ c. fraction m (dom c) (d .n) (codeIn pixel c))))
-          (fun-ext same-domain)
-
-      same-pair : (c : Colour) → pair e m pixel c ≡ pair d m pixel c
-      unfolding pair
-      same-pair c = ap (λ (dom : Domain). pairBy (den m dom) (index m dom (d .n) (codeIn pixel c)) (fraction m dom (d .n) (codeIn pixel c))) (same-domain c)
-
-      same-shares : (k : Kind) (c : Colour) → sharesFor e m pixel k c ≡ sharesFor d m pixel k c
-      same-shares OneD c = same-pair c
-      same-shares ThreeD c = same-path
-
-      same-shown : (k : Kind) → shown e m pixel k ≡ shown d m pixel k
-      unfolding shown
-      same-shown OneD = rw (same-pair Red, same-pair Green, same-pair Blue)
-      same-shown ThreeD = ap six same-path
-
-    same-code : (depths : Depths) (c : Colour) → codeOf e table depths pixel c ≡ codeOf d table depths pixel c
-    same-code depths c =
-        ap₂ (λ ss (dom : Domain). codeBy (correctedM depths) (den (rawM depths) dom) table c ss) (same-shares (rawM depths) (d .kind) c) (same-domain c)
-
-    same-correct : (depths : Depths) → correct e table depths pixel ≡ correct d table depths pixel
-    same-correct depths i = record { red = same-code depths Red i; green = same-code depths Green i; blue = same-code depths Blue i }
+    same-places : (m : ℕ) → SamePlaces m e d pixel pixel
+    same-places m = record {
+      kind = refl;
+      n = refl;
+      inside = refl;
+      dens = λ c. ap (den m) (same-domain c);
+      indices = λ c. ap (λ dom. index m dom (d .n) (codeIn pixel c)) (same-domain c);
+      fractions = λ c. ap (λ dom. fraction m dom (d .n) (codeIn pixel c)) (same-domain c);
+    }
 
     same-at : (x : DepthsFound) → lookAt e table pixel x ≡ lookAt d table pixel x
     unfolding lookAt
     same-at NotBoth = refl
-    same-at (Both depths) =
-        ap₂ (λ codes shares. cond (within (rawM depths) pixel) (Accepted codes shares) (Refused CodeTooGreat)) (same-correct depths) (same-shown (rawM depths) (d .kind))
+    same-at (Both depths) = same-look table depths (same-places (rawM depths))
 
     pub untitled-look : (bits : Bits) → look e table bits pixel ≡ look d table bits pixel
     unfolding look
