@@ -5,7 +5,7 @@ use mathlib.Core.List.{List, map}
 use mathlib.Core.Option.{some}
 use lib.IntN.{ℤ, pos}
 use lib.ListN.{replicate}
-use Rattle.rules.specs.Units.{depthsOf}
+use Rattle.rules.specs.Units.{depthsOf, rawM}
 use Rattle.rules.specs.Looking.{look}
 use Rattle.rules.specs.Answers.{lookNumber, codesOf, sharesOf, lookCodes, lookRows, lookWeights}
 use Rattle.rules.specs.Boundary.{describedIn, pixelIn, lookIn, LooksC}
@@ -22,8 +22,10 @@ use Rattle.rules.specs.declared.Refusal.the-variants.{CouldNotBeRead}
 use Rattle.rules.specs.declared.Share.{Share}
 use Rattle.rules.specs.declared.Shares.{Shares}
 use Rattle.rules.proofs.Answers.{refused-not-0, is-looks}
-use Rattle.rules.proofs.Boundary.Described.{given}
+use Rattle.rules.proofs.Boundary.Described.{called-described, given}
 use Rattle.rules.proofs.Looking.Demand3.{looks-right}
+use Rattle.signature.specs.Beyond.{AlikePixels}
+use Rattle.signature.proofs.Looking.DomainEnds.{beyond-alike}
 
 -- what acceptance says: the codes, rows and weights are right
 pub record LookAccepted (eleven table : List ℤ) (bits : Bits) (pixel codes′ rows′ : List ℕ) (weights′ : List ℤ) : Type 0 where
@@ -68,3 +70,16 @@ module _
           weights-so = h .weights-so ∙ ap lookWeights so;
           all-right = a .all-right;
         }
+
+-- two pixels within the depth that are alike in each colour have the same number, codes, rows and weights
+pub looks-c-alike : {eleven table v w : List ℤ} {bits : Bits} {d : Description} {depths : Depths} {m n : ℕ} {pixel other a b r s : List ℕ}
+    → describedIn eleven ≡ some d → depthsOf bits ≡ Both depths → AlikePixels (rawM depths) d (pixelIn pixel) (pixelIn other)
+    → LooksC eleven table bits pixel m a r v → LooksC eleven table bits other n b s w → (m ≡ n) × (a ≡ b) × (r ≡ s) × (v ≡ w)
+looks-c-alike {eleven} {table} {bits = bits} {d} {pixel = pixel} {other} described known alike p q =
+    let at : (x : Codes) → lookIn eleven table bits x ≡ look d table bits x = λ x. called-described _ (λ d. look d table bits x) eleven described in
+    let e = at (pixelIn pixel) ∙ beyond-alike d table bits known alike ∙ sym (at (pixelIn other)) in (
+      p .number-so ∙ ap lookNumber e ∙ sym (q .number-so),
+      p .codes-so ∙ ap lookCodes e ∙ sym (q .codes-so),
+      p .rows-so ∙ ap lookRows e ∙ sym (q .rows-so),
+      p .weights-so ∙ ap lookWeights e ∙ sym (q .weights-so),
+    )

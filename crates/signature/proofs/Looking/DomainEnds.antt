@@ -1,47 +1,50 @@
--- The ends of the domain: the first row stands at the lower bound and the last at the upper, and what lies outside counts as at the bound (000, 6.1).
-use Prim.Native.Nat.{ℕ, suc, _-_, _*_, _≤_, _<_}
-use mathlib.Core.Path.{_≡_, refl, sym, ap, _∙_}
-use mathlib.Core.Bool.{true}
+-- The ends of the domain: the first row stands at the lower bound and the last at the upper, and what lies outside counts as at the bound (000, 6.1), each colour
+-- by itself.
+use Prim.Native.Nat.{ℕ, suc, _-_, _*_, _/_, _≤_, _<_, min}
+use mathlib.Core.Path.{_≡_, refl, sym, ap, ap₂, _∙_}
+use mathlib.Core.Bool.{true, cond}
 use mathlib.Core.List.{List}
 use native.Mathlib.Nat as NatL
 use native.Mathlib.Omega.{arith}
 use lib.IntN.{ℤ, pos, negℤ, _-ℤ_, _*ℤ_}
-use lib.Signed.{_≤ℤ_}
 use Rattle.whole.proofs.Halves as H
-use Rattle.rules.specs.Units.{boundOne, codeIn, rowsOf, sampleAt}
+use Rattle.rules.specs.Units.{boundOne, codeIn, depthsOf, rawM, rowsOf, sampleAt}
 use Rattle.rules.specs.Descriptions.{couldBeRead, domain, rows}
-use Rattle.rules.specs.Looking.Interpolation.{den, denOf, offset, position, sharesFor, total}
+use Rattle.rules.specs.Looking.Interpolation.{den, denOf, offset, position, index, fraction, sharesFor, total}
+use Rattle.rules.specs.Looking.{lookAt, look}
+use Rattle.rules.specs.Promises.{Looks}
+use Rattle.rules.specs.declared.Bits.{Bits}
 use Rattle.rules.specs.declared.Codes.{Codes}
 use Rattle.rules.specs.declared.Colour.{Colour}
+use Rattle.rules.specs.declared.Depths.{Depths}
+use Rattle.rules.specs.declared.DepthsFound.the-variants.{Both}
 use Rattle.rules.specs.declared.Description.{Description}
 use Rattle.rules.specs.declared.Domain.{Domain}
 use Rattle.rules.specs.declared.Kind.{Kind}
 use Rattle.rules.specs.declared.Kind.the-variants.{OneD, ThreeD}
+use Rattle.rules.specs.declared.Look.{Look}
+use Rattle.rules.specs.declared.Look.the-variants.{Refused}
+use Rattle.rules.specs.declared.Refusal.the-variants.{CouldNotBeRead}
+use Rattle.rules.proofs.Answers.{looks-is}
 use Rattle.rules.proofs.Sound.{sound-of}
 use Rattle.rules.proofs.Looking.Demand3.{own-line, own-point, rowOwn}
+use Rattle.signature.specs.Beyond.{Alike, AlikePixels, AtLower, AtUpper, high, low, same}
+use Rattle.signature.proofs.Looking.SamePlaces.{SamePlaces, same-look}
 
--- ---- a code at an end; its value is c / M, and a bound is in thousandths
+-- ---- a code at an end
 
 module _ (m : ℕ) (dom : Domain) (c : ℕ) where
-  -- the value is the lower bound or below it: 1000·c is at most M·lo
-  abbrev pub AtLower : Type 0
-  AtLower = pos (boundOne * c) ≤ℤ (pos m *ℤ dom .lower .0)
-
-  -- the value is the upper bound or above it
-  abbrev pub AtUpper : Type 0
-  AtUpper = (pos m *ℤ dom .upper .0) ≤ℤ pos (boundOne * c)
-
   -- 1000·c − lo·M, before it is moved
   abbrev shift : ℤ
   shift = pos (boundOne * c) -ℤ (pos m *ℤ dom .lower .0)
 
-  lower-offset : AtLower → offset m dom c ≡ 0
+  lower-offset : AtLower m dom c → offset m dom c ≡ 0
   unfolding offset
   lower-offset h =
       let low = pos m *ℤ dom .lower .0 in
       omega (arith, H.le h, H.sum (pos (boundOne * c)) (negℤ low), H.neg low, H.split shift)
 
-  upper-offset : AtUpper → offset m dom c ≡ den m dom
+  upper-offset : AtUpper m dom c → offset m dom c ≡ den m dom
   unfolding offset
   upper-offset h =
       let lower = dom .lower .0 in
@@ -65,14 +68,59 @@ module _ (m : ℕ) (dom : Domain) (c : ℕ) where
       ))
 
   -- a code whose value is the lower bound or below it has position 0
-  pub lower-position : (n : ℕ) → AtLower → position m dom n c ≡ 0
+  pub lower-position : (n : ℕ) → AtLower m dom c → position m dom n c ≡ 0
   unfolding position
   lower-position n h = ap (λ a. a * (n - 1)) (lower-offset h) ∙ NatL.zero-mul (n - 1)
 
   -- one whose value is the upper bound or above it has position (N − 1)·D
-  pub upper-position : (n : ℕ) → AtUpper → position m dom n c ≡ (n - 1) * den m dom
+  pub upper-position : (n : ℕ) → AtUpper m dom c → position m dom n c ≡ (n - 1) * den m dom
   unfolding position
   upper-position n h = ap (λ a. a * (n - 1)) (upper-offset h) ∙ NatL.mul-comm (den m dom) (n - 1)
+
+-- ---- codes that are alike, each colour by itself
+
+-- they are moved to the same place
+alike-offset : (m : ℕ) (dom : Domain) {a b : ℕ} → Alike m dom a b → offset m dom a ≡ offset m dom b
+alike-offset m dom (same e) = ap (offset m dom) e
+alike-offset m dom {a} {b} (low p q) = lower-offset m dom a p ∙ sym (lower-offset m dom b q)
+alike-offset m dom {a} {b} (high p q) = upper-offset m dom a p ∙ sym (upper-offset m dom b q)
+
+module _ (m : ℕ) (dom : Domain) (n : ℕ) {a b : ℕ} (alike : Alike m dom a b) where
+  alike-position : position m dom n a ≡ position m dom n b
+  unfolding position
+  alike-position = ap (λ o. o * (n - 1)) (alike-offset m dom alike)
+
+  alike-index : index m dom n a ≡ index m dom n b
+  unfolding index
+  alike-index = ap (λ p. min (p / den m dom) (n - 2)) alike-position
+
+  alike-fraction : fraction m dom n a ≡ fraction m dom n b
+  unfolding fraction
+  alike-fraction = ap₂ (λ p i. p - i * den m dom) alike-position alike-index
+
+alike-places : {m : ℕ} {d : Description} {a b : Codes} → AlikePixels m d a b → SamePlaces m d d a b
+alike-places {m} {d} h = record {
+  kind = refl;
+  n = refl;
+  inside = h .a-within ∙ sym (h .b-within);
+  dens = λ c. refl;
+  indices = λ c. alike-index m (domain d c) (d .n) (h .alike c);
+  fractions = λ c. alike-fraction m (domain d c) (d .n) (h .alike c);
+}
+
+module _ (d : Description) (table : List ℤ) (bits : Bits) {depths : Depths} (known : depthsOf bits ≡ Both depths) {a b : Codes}
+    (alike : AlikePixels (rawM depths) d a b)
+  where
+    -- look answers the same of both: codes, rows and weights
+    pub beyond-alike : look d table bits a ≡ look d table bits b
+    unfolding look
+    beyond-alike =
+        ap (λ x. cond (couldBeRead d table) x (Refused CouldNotBeRead))
+        (ap (lookAt d table a) known ∙ same-look table depths (alike-places alike) ∙ sym (ap (lookAt d table b) known))
+
+    -- and so does every call that keeps its promise
+    pub looks-alike : {r s : Look} → Looks d table bits a r → Looks d table bits b s → r ≡ s
+    looks-alike p q = looks-is p ∙ beyond-alike ∙ sym (looks-is q)
 
 -- ---- the exact value there: that row's sample by itself, with all of D as its weight
 
