@@ -1,3 +1,3 @@
 -- A number kept at one past its limit; a table of a file's first bytes.
 mod Kept
-mod WhatIsLoaded
+pub mod WhatIsLoaded

@@ -1,3 +1,4 @@
--- What an argument says, and what loading a table leaves.
+-- What an argument says, what loading a table leaves, and how work ends.
 pub mod Arguments
 pub mod Loads
+pub mod Outcomes

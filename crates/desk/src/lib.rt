@@ -1,14 +1,21 @@
 // What the programs at the desk share: a table loaded from a file, arguments as numbers, and what is printed.
 mod arguments;
+mod failures;
 mod loading;
+mod outcomes;
 mod printing;
 mod refusals;
 
 pub use arguments::Argument;
 pub use arguments::number_at;
 pub use arguments::number_in;
+pub use failures::say_unread;
+pub use failures::say_unwritten;
+pub use loading::Filled;
 pub use loading::Loaded;
+pub use loading::fill;
 pub use loading::load;
+pub use outcomes::Outcome;
 pub use printing::say;
 pub use printing::write;
 pub use printing::write_count;

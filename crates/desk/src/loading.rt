@@ -1,4 +1,5 @@
 // A table loaded from a file by its name: opened, read whole, judged. Each failure prints one line on standard error.
+use crate::failures::say_failure;
 use crate::printing::write;
 use crate::printing::write_count;
 use crate::refusals::write_meaning;
@@ -7,15 +8,23 @@ use reading::read;
 use rules::Description;
 use rules::Read;
 use rules::Refusal;
-ghost use Rattle.desk.specs.Loads.{Fetches, Loads, LoadsAll};
+ghost use Rattle.desk.specs.Loads.{Fills, Fetches, Loads, LoadsAll, LoadsOf};
 
-// The description of the table and how many bytes its file has, or nothing, once that was said on standard error.
+// The description of the table and how many bytes its file has; or, once it was said why on standard error, that the file is refused, or that none
+// could be read.
 pub enum Loaded {
     Table {
         description: Description,
         bytes: usize,
     },
-    Nothing,
+    Refused,
+    Unread,
+}
+
+// What came of reading a descriptor until the space is full or the input ends.
+pub enum Filled {
+    Bytes(usize),
+    Failed,
 }
 
 // What came of reading a descriptor to its end.
@@ -25,16 +34,35 @@ enum Fetched {
     Failed,
 }
 
-// All that a descriptor has, if it fits. A read that fails answers no count, so the first one and the one past the end are looked at by themselves.
+// The first bytes that a descriptor has, as far as there is space. A read that fails is not the end of the input: what came before it is no answer.
+pub fn fill(fd: i32, space: &mut [u8]) -> Filled
+    ensures { λ r. ⌜ Fills (now (space .exit)) r ⌝ }
+{
+    let mut n = 0;
+    while n < space.len() {
+        let got = libc::read(fd, &mut space[n..]);
+        if got < 0 {
+            return Filled::Failed;
+        }
+        let more = io::count(got, &space[n..]);
+        if more == 0 {
+            return Filled::Bytes(n);
+        }
+        n += more;
+    }
+    Filled::Bytes(n)
+}
+
+// All that a descriptor has, if it fits.
 fn fetch(fd: i32, file: &mut [u8]) -> Fetched
     ensures { λ r. ⌜ Fetches (now (file .exit)) r ⌝ }
 {
-    let got = libc::read(fd, &mut *file);
-    if got < 0 {
+    let Filled::Bytes(n) = fill(fd, &mut *file) else {
         return Fetched::Failed;
+    };
+    if n < file.len() {
+        return Fetched::Bytes(n);
     }
-    let first = io::count(got, file);
-    let more = io::read_full(fd, &mut file[first..]);
     let mut one = [0u8; 1];
     let past = libc::read(fd, &mut one);
     if past < 0 {
@@ -43,14 +71,7 @@ fn fetch(fd: i32, file: &mut [u8]) -> Fetched
     if past > 0 {
         return Fetched::TooLong;
     }
-    Fetched::Bytes(first + more)
-}
-
-// What a system call's failure says, as `explain: cannot open a.cube: No such file or directory`.
-fn say_failure(program: &[u8], what: &[u8], path: &[u8]) {
-    write(STDERR_FILENO, program);
-    write(STDERR_FILENO, what);
-    os::fail(path);
+    Fetched::Bytes(n)
 }
 
 fn say_too_long(program: &[u8], path: &[u8], most: usize) {
@@ -100,8 +121,26 @@ fn load_bytes(program: &[u8], path: &[u8], file: &[u8], table: &mut [i64]) -> Lo
         },
         Read::Refused { reason, line } => {
             say_refused(program, path, reason, line);
-            Loaded::Nothing
+            Loaded::Refused
         }
+    }
+}
+
+// The table of what was fetched.
+fn load_fetched(
+    program: &[u8],
+    path: &[u8],
+    fetched: Fetched,
+    file: &[u8],
+    table: &mut [i64],
+) -> Loaded
+    requires { ⌜ Fetches (now file) fetched ⌝ }
+    ensures { λ r. ⌜ LoadsOf fetched (now (file .entry)) (now (table .entry)) r (now (table .exit)) ⌝ }
+{
+    match fetched {
+        Fetched::Bytes(bytes) => load_bytes(program, path, &file[..bytes], table),
+        Fetched::TooLong => Loaded::Unread,
+        Fetched::Failed => Loaded::Unread,
     }
 }
 
@@ -112,12 +151,9 @@ pub fn load(program: &[u8], path: &[u8], file: &mut [u8], table: &mut [i64]) -> 
     let fd = os::open_read(path);
     if fd < 0 {
         say_failure(program, b": cannot open ", path);
-        return Loaded::Nothing;
+        return Loaded::Unread;
     }
     let fetched = fetch_or_say(program, path, fd, &mut *file);
     libc::close(fd);
-    let Fetched::Bytes(bytes) = fetched else {
-        return Loaded::Nothing;
-    };
-    load_bytes(program, path, &file[..bytes], table)
+    load_fetched(program, path, fetched, file, table)
 }

@@ -4,7 +4,7 @@ use crate::printing::write_count;
 use libc::STDERR_FILENO;
 use rules::Refusal;
 
-pub fn write_meaning(fd: i32, reason: Refusal) {
+pub fn write_meaning(fd: i32, reason: Refusal) -> bool {
     match reason {
         Refusal::LineTooLong => write(fd, b"line over 250 bytes"),
         Refusal::ByteNotPermitted => write(fd, b"byte not permitted"),

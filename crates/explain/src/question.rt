@@ -1,4 +1,4 @@
-// The arguments after the table: a depth and a pixel.
+// The arguments after the verb and the table: a depth and a pixel.
 use desk::Argument;
 use desk::number_at;
 use rules::Codes;
@@ -41,21 +41,21 @@ fn value_at(place: usize) -> Given {
     }
 }
 
-// Five arguments after the program's name, and four of them numbers.
+// Five arguments after the verb, and four of them numbers.
 pub fn read_arguments() -> Asked {
-    if os::arg_count() != 6 {
+    if os::arg_count() != 7 {
         return Asked::Unclear;
     }
-    let Given::Value(bits) = value_at(2) else {
+    let Given::Value(bits) = value_at(3) else {
         return Asked::Unclear;
     };
-    let Given::Value(red) = value_at(3) else {
+    let Given::Value(red) = value_at(4) else {
         return Asked::Unclear;
     };
-    let Given::Value(green) = value_at(4) else {
+    let Given::Value(green) = value_at(5) else {
         return Asked::Unclear;
     };
-    let Given::Value(blue) = value_at(5) else {
+    let Given::Value(blue) = value_at(6) else {
         return Asked::Unclear;
     };
     Asked::Plainly {

@@ -1,11 +1,13 @@
 -- What was loaded is within the space that was lent for it.
 use Prim.Native.Nat.{_≤_}
 use mathlib.Core.Path.{sym, subst}
-use borrow.Author.Needs.{needs}
 use denote.Ref.{now}
 use lib.ListN.{length}
 use lib.Seq.{length-take-le}
 use Rattle.desk.specs.Loads.{Loads}
+use Rattle.desk.proofs.WhatIsLoaded.{first-bytes}
+use native.Mathlib.Omega.{arith}
+use borrow.Author.Needs.{needs}
 use Rattle.explain.proofs.explain_pixel.Statement.{statement}
 use Rattle.explain.proofs.explain_pixel.Tie as tie
 
@@ -14,25 +16,13 @@ within : (d : tie.After-description) → d .description .given .0 .1 .0 ≤ leng
 within d =
     let l = d .before .before .before .before .before in
     let s = l .before .before .before .before in
-    subst (λ r. Loads (l .load-named .last .0) (now (s .args .table)) r (l .load-named .last .1 .0)) (d .description .given .1) (l .load-named .ensures) .0
+    first-bytes (subst (λ r. Loads (l .load-named .last .0) (now (s .args .table)) r (l .load-named .last .1 .0)) (d .description .given .1) (l .load-named .ensures)) .within
 
 load-named-requires : tie.Need-load-named-requires
 load-named-requires c κs = search needs
 
 enum-known-description : tie.Need-enum-known-description
 enum-known-description c = search needs
-
-enum-told : tie.Need-enum-told
-enum-told c = search needs
-
-same-length : tie.Need-same-length
-same-length c = search needs
-
-same-length-2 : tie.Need-same-length-2
-same-length-2 c = search needs
-
-returns : tie.Need-returns
-returns c = search needs
 
 slice-reshare-prefix-explain : tie.Need-slice-reshare-prefix-explain
 slice-reshare-prefix-explain c = within (c .before)
@@ -43,6 +33,21 @@ slice-aggregate-explain c = sym (length-take-le _ _ (within (c .before .before))
 explain-requires : tie.Need-explain-requires
 explain-requires c κs = search needs
 
+enum-told : tie.Need-enum-told
+enum-told c = search needs
+
+enum-told-2 : tie.Need-enum-told-2
+enum-told-2 c = search needs
+
+same-length : tie.Need-same-length
+same-length c = search needs
+
+same-length-2 : tie.Need-same-length-2
+same-length-2 c = search needs
+
+returns : tie.Need-returns
+returns c = search needs
+
 same-length-3 : tie.Need-same-length-3
 same-length-3 c = search needs
 
@@ -52,19 +57,32 @@ same-length-4 c = search needs
 returns-2 : tie.Need-returns-2
 returns-2 c = search needs
 
+same-length-5 : tie.Need-same-length-5
+same-length-5 c = search needs
+
+same-length-6 : tie.Need-same-length-6
+same-length-6 c = search needs
+
+returns-3 : tie.Need-returns-3
+returns-3 c = search needs
+
 pub explain-pixel-spec : {M : Type 1} → statement M
 explain-pixel-spec =
     tie.close
     (tie.spec
     load-named-requires
     enum-known-description
-    enum-told
-    same-length
-    same-length-2
-    returns
     slice-reshare-prefix-explain
     slice-aggregate-explain
     explain-requires
+    enum-told
+    enum-told-2
+    same-length
+    same-length-2
+    returns
     same-length-3
     same-length-4
-    returns-2)
+    returns-2
+    same-length-5
+    same-length-6
+    returns-3)

@@ -1,6 +1,7 @@
 -- What reading answers is what is loaded.
 use borrow.Author.Needs.{needs}
-use Rattle.desk.proofs.WhatIsLoaded.{accepted-loads, refused-loads}
+use mathlib.Core.Path.{sym, ap}
+use Rattle.desk.specs.Loads.{loadedAs}
 use Rattle.desk.proofs.loading.load_bytes.Statement.{statement}
 use Rattle.desk.proofs.loading.load_bytes.Tie as tie
 
@@ -20,13 +21,24 @@ same-length : tie.Need-same-length
 same-length c = search needs
 
 returns : tie.Need-returns
-returns c = accepted-loads (c .before .before .before .before .read .ensures) (c .before .description .given .1)
+returns c =
+    record {
+      answer = c .before .before .before .before .read .result;
+      reads = c .before .before .before .before .read .ensures;
+      loaded = sym (ap (loadedAs _) (c .before .description .given .1));
+    }
 
 same-length-2 : tie.Need-same-length-2
 same-length-2 c = search needs
 
 returns-2 : tie.Need-returns-2
-returns-2 c = let told = c .before in refused-loads (told .before .before .before .before .read .ensures) (told .before .reason .given .1)
+returns-2 c =
+    let told = c .before in
+    record {
+      answer = told .before .before .before .before .read .result;
+      reads = told .before .before .before .before .read .ensures;
+      loaded = sym (ap (loadedAs _) (told .before .reason .given .1));
+    }
 
 pub load-bytes-spec : {M : Type 1} → statement M
 load-bytes-spec =

@@ -1,6 +1,7 @@
 -- What the look ensures is all that is asked of one that is shown.
 use mathlib.Core.Path.{sym, _∙_}
 use Rattle.explain.proofs.Between.{seen}
+use native.Mathlib.Omega.{arith}
 use borrow.Author.Needs.{needs}
 use Rattle.explain.proofs.show.explain.Statement.{statement}
 use Rattle.explain.proofs.show.explain.Tie as tie
@@ -14,11 +15,8 @@ enum-known-depth c = search needs
 enum-told : tie.Need-enum-told
 enum-told c = search needs
 
-slice-aggregate-say-refusal : tie.Need-slice-aggregate-say-refusal
-slice-aggregate-say-refusal c = search needs
-
-say-refusal-requires : tie.Need-say-refusal-requires
-say-refusal-requires c κs = search needs
+refuse-requires : tie.Need-refuse-requires
+refuse-requires c κs = search needs
 
 returns : tie.Need-returns
 returns c = search needs
@@ -29,11 +27,8 @@ enum-known-pixel c = search needs
 enum-told-2 : tie.Need-enum-told-2
 enum-told-2 c = search needs
 
-slice-aggregate-say-refusal-2 : tie.Need-slice-aggregate-say-refusal-2
-slice-aggregate-say-refusal-2 c = search needs
-
-say-refusal-requires-2 : tie.Need-say-refusal-requires-2
-say-refusal-requires-2 c κs = search needs
+refuse-requires-2 : tie.Need-refuse-requires-2
+refuse-requires-2 c κs = search needs
 
 returns-2 : tie.Need-returns-2
 returns-2 c = search needs
@@ -44,11 +39,8 @@ look-requires c κs = search needs
 enum-known-reason : tie.Need-enum-known-reason
 enum-known-reason c = search needs
 
-slice-aggregate-say-refusal-3 : tie.Need-slice-aggregate-say-refusal-3
-slice-aggregate-say-refusal-3 c = search needs
-
-say-refusal-requires-3 : tie.Need-say-refusal-requires-3
-say-refusal-requires-3 c κs = search needs
+refuse-requires-3 : tie.Need-refuse-requires-3
+refuse-requires-3 c κs = search needs
 
 enum-known-codes : tie.Need-enum-known-codes
 enum-known-codes c = search needs
@@ -58,10 +50,16 @@ show-pixel-requires c κs = search needs
 
 show-look-requires : tie.Need-show-look-requires
 show-look-requires c κs =
-    let codes = c .before .before in
+    let codes = c .before .before .before in
     let look = codes .before .before in
     let depth = look .before .before .before .before .before in
     seen (look .look .ensures) (codes .codes .given .1) (depth .depth .given .0 .0) (sym (depth .before .before .of .ensures) ∙ depth .depth .given .1)
+
+slice-aggregate-if-written : tie.Need-slice-aggregate-if-written
+slice-aggregate-if-written c = search needs
+
+if-written-requires : tie.Need-if-written-requires
+if-written-requires c κs = search needs
 
 returns-3 : tie.Need-returns-3
 returns-3 c = search needs
@@ -76,20 +74,19 @@ explain-spec =
     of-requires
     enum-known-depth
     enum-told
-    slice-aggregate-say-refusal
-    say-refusal-requires
+    refuse-requires
     returns
     enum-known-pixel
     enum-told-2
-    slice-aggregate-say-refusal-2
-    say-refusal-requires-2
+    refuse-requires-2
     returns-2
     look-requires
     enum-known-reason
-    slice-aggregate-say-refusal-3
-    say-refusal-requires-3
+    refuse-requires-3
     enum-known-codes
     show-pixel-requires
     show-look-requires
+    slice-aggregate-if-written
+    if-written-requires
     returns-3
     returns-4)

@@ -5,6 +5,7 @@ use Rattle.rules.specs.Demands.{Each}
 use Rattle.colour.specs.Adding.{RowAt}
 use Rattle.explain.specs.Spans.{listed}
 use Rattle.explain.proofs.Spanning.{listed-stand}
+use native.Mathlib.Omega.{arith}
 use borrow.Author.Needs.{needs}
 use Rattle.explain.proofs.show.show_colour.Statement.{statement}
 use Rattle.explain.proofs.show.show_colour.Tie as tie
@@ -26,19 +27,22 @@ show-span-requires : tie.Need-show-span-requires
 show-span-requires c κs = search needs
 
 show-row-requires : tie.Need-show-row-requires
-show-row-requires c κs = stands (c .before .before .before) .0
+show-row-requires c κs = stands (c .before .before .before .before) .0
 
 show-row-requires-2 : tie.Need-show-row-requires-2
-show-row-requires-2 c κs = stands (c .before .before .before .before) .1 .0
+show-row-requires-2 c κs = stands (c .before .before .before .before .before) .1 .0
 
 show-row-requires-3 : tie.Need-show-row-requires-3
-show-row-requires-3 c κs = stands (c .before .before .before .before .before) .1 .1 .0
+show-row-requires-3 c κs = stands (c .before .before .before .before .before .before) .1 .1 .0
 
 show-row-requires-4 : tie.Need-show-row-requires-4
-show-row-requires-4 c κs = stands (c .before .before .before .before .before .before) .1 .1 .1 .0
+show-row-requires-4 c κs = stands (c .before .before .before .before .before .before .before) .1 .1 .1 .0
 
 returns : tie.Need-returns
 returns c = search needs
+
+returns-2 : tie.Need-returns-2
+returns-2 c = search needs
 
 pub show-colour-spec : {M : Type 1} → statement M
 show-colour-spec =
@@ -52,4 +56,5 @@ show-colour-spec =
     show-row-requires-2
     show-row-requires-3
     show-row-requires-4
-    returns)
+    returns
+    returns-2)
