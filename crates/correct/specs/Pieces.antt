@@ -1,7 +1,7 @@
 -- A piece of a picture: the pixels that its bytes are, up to the first that has a code above the greatest, corrected.
 use Prim.Native.Nat.{ℕ, _*_, _/_, _≤_}
 use mathlib.Core.Path.{_≡_}
-use mathlib.Core.Bool.{Bool, true, false}
+use mathlib.Core.Bool.{Bool, true, false, _&&_}
 use mathlib.Core.List.{List}
 use lib.Dec.{leb}
 use lib.IntN.{ℤ}
@@ -15,6 +15,10 @@ use Rattle.ppm.specs.Header.{mostSize}
 use Rattle.ppm.specs.Raster.{bytesOf, codeCount, codesOf}
 use Rattle.ppm.specs.Scales.{depthWith}
 use Rattle.ppm.specs.declared.depth.Scale.{Scale}
+use Rattle.desk.specs.declared.outcomes.Outcome.{Outcome}
+use Rattle.desk.specs.declared.outcomes.Outcome.the-variants.{Done, Refused, Failed}
+use Rattle.correct.specs.declared.pieces.Passed.{Passed}
+use Rattle.correct.specs.declared.pieces.Passed.the-variants.{Whole, Ends, TooGreat, Unread, Unwritten}
 use Rattle.correct.specs.declared.pieces.Piece.{Piece}
 
 -- the bytes of a pixel
@@ -46,15 +50,29 @@ pub record Corrects (d : Description) (table : List ℤ) (s : Scale) (input : Li
 
 -- ---- sizes
 
--- the pixels of a piece, and the lengths of the arrays that hold it
+-- the pixels of a piece
 abbrev pub piecePixels : ℕ
-piecePixels = 32_768
+piecePixels = 1_048_576
 
+-- lengths that hold a piece as bytes, as raw and as corrected codes
 pub record Buffers (bytes raw corrected : ℕ) : Type 0 where
-  pub of-bytes : bytes ≡ 196_608
-  pub of-raw : raw ≡ 98_304
-  pub of-corrected : corrected ≡ 98_304
+  pub of-bytes : 6_291_456 ≤ bytes
+  pub of-raw : 3_145_728 ≤ raw
+  pub of-corrected : raw ≤ corrected
+
+unfoldable pub hasRoom : ℕ → ℕ → ℕ → Bool
+hasRoom bytes raw corrected = leb 6_291_456 bytes && (leb 3_145_728 raw && leb raw corrected)
 
 -- a header's greatest width times its greatest height
 abbrev pub mostPixels : ℕ
 mostPixels = mostSize * mostSize
+
+-- ---- how the work ended
+
+-- a picture that breaks off or has a code that is too great is refused; where it cannot be read or written, the work has failed
+unfoldable pub outcomeOf : Passed → Outcome
+outcomeOf Whole = Done
+outcomeOf (Ends pixel) = Refused
+outcomeOf (TooGreat pixel) = Refused
+outcomeOf (Unread pixel) = Failed
+outcomeOf Unwritten = Failed

@@ -1,4 +1,6 @@
 // The header that is read and the one that is written.
+use desk::Filled;
+use desk::fill;
 use libc::STDIN_FILENO;
 use libc::STDOUT_FILENO;
 use ppm::Fault;
@@ -6,17 +8,15 @@ use ppm::Frame;
 use ppm::Header;
 use ppm::header_of;
 ghost use mathlib.Core.Path.{_≡_};
-ghost use Prim.Native.Nat.{_*_, _<_, _≤_};
-ghost use lib.ListN.{length};
-ghost use Rattle.ppm.specs.Header.{Sized, mostSize};
-ghost use Rattle.correct.specs.Headers.{settled};
+ghost use Prim.Native.Nat.{_*_, _≤_};
+ghost use Rattle.ppm.specs.Header.{SizedFrame};
+ghost use Rattle.correct.specs.Headers.{settled, SizedHeading};
 ghost use Rattle.correct.specs.Pieces.{mostPixels};
 
-// One byte more, at a place; false where the input has ended.
-fn read_byte(bytes: &mut [u8], at: usize) -> bool
-    requires { ⌜ at < length (now bytes) ⌝ }
-{
-    io::read_full(STDIN_FILENO, &mut bytes[at..at + 1]) == 1
+// What came of reading a header.
+pub enum Heading {
+    Read(Header),
+    Unread,
 }
 
 // Whether more bytes cannot change what a header says.
@@ -35,26 +35,29 @@ fn is_settled(header: Header) -> bool
 }
 
 // Byte by byte, so that no pixel is read with the header.
-fn read_into(bytes: &mut [u8]) -> Header
-    ensures { λ r. ⌜ Sized r ⌝ }
+fn read_into(bytes: &mut [u8]) -> Heading
+    ensures { λ r. ⌜ SizedHeading r ⌝ }
 {
     let mut n = 0;
     while n < bytes.len() {
-        if !read_byte(&mut *bytes, n) {
-            return Header::Wrong(Fault::EndsEarly);
+        let Filled::Bytes(more) = fill(STDIN_FILENO, &mut bytes[n..n + 1]) else {
+            return Heading::Unread;
+        };
+        if more == 0 {
+            return Heading::Read(Header::Wrong(Fault::EndsEarly));
         }
         n += 1;
         let header = header_of(&bytes[..n]);
         if is_settled(header) {
-            return header;
+            return Heading::Read(header);
         }
     }
-    Header::Wrong(Fault::EndsEarly)
+    Heading::Read(Header::Wrong(Fault::EndsEarly))
 }
 
 // The header of the picture on standard input; it ends within 4,096 bytes.
-pub fn read() -> Header
-    ensures { λ r. ⌜ Sized r ⌝ }
+pub fn read() -> Heading
+    ensures { λ r. ⌜ SizedHeading r ⌝ }
 {
     let mut bytes = io::buffer();
     read_into(&mut bytes)
@@ -72,7 +75,7 @@ pub fn write(frame: Frame) -> bool {
 }
 
 pub fn pixels(frame: Frame) -> u64
-    requires { ⌜ (frame .width ≤ mostSize) × (frame .height ≤ mostSize) ⌝ }
+    requires { ⌜ SizedFrame frame ⌝ }
     ensures { λ r. ⌜ (r ≡ frame .width * frame .height) × (r ≤ mostPixels) ⌝ }
 {
     frame.width * frame.height

@@ -1,4 +1,7 @@
 // The pixels, piece by piece: read, corrected, written.
+use desk::Filled;
+use desk::Outcome;
+use desk::fill;
 use libc::STDIN_FILENO;
 use libc::STDOUT_FILENO;
 use picture::picture;
@@ -10,14 +13,28 @@ use rules::Description;
 ghost use mathlib.Core.Path.{_≡_};
 ghost use Prim.Native.Nat.{_≤_, min};
 ghost use lib.ListN.{length, take};
-ghost use Rattle.correct.specs.Pieces.{Buffers, Corrects, Readable, Room, mostPixels, piecePixels, pixelBytes};
+ghost use Rattle.correct.specs.Pieces.{Buffers, Corrects, Readable, Room, hasRoom, mostPixels, outcomeOf, piecePixels, pixelBytes};
 
 // What became of the pixels: all are written, or the pixel at which it stopped.
-pub enum Outcome {
+pub enum Passed {
     Whole,
     Ends(u64),
     TooGreat(u64),
+    Unread(u64),
     Unwritten,
+}
+
+// A picture that breaks off or has a code that is too great is refused, and a system that cannot read or write has failed.
+pub fn outcome_of(passed: Passed) -> Outcome
+    ensures { λ r. ⌜ r ≡ outcomeOf passed ⌝ }
+{
+    match passed {
+        Passed::Whole => Outcome::Done,
+        Passed::Ends(_) => Outcome::Refused,
+        Passed::TooGreat(_) => Outcome::Refused,
+        Passed::Unread(_) => Outcome::Failed,
+        Passed::Unwritten => Outcome::Failed,
+    }
 }
 
 // How many pixels of a piece were corrected, and how many bytes those are.
@@ -26,8 +43,21 @@ struct Piece {
     bytes: usize,
 }
 
-// `picture` judges the whole table at each call, so a piece is as large as fits the stack with ease.
-const PIECE_PIXELS: usize = 32_768;
+// `picture` judges the whole table at each call, so a piece is large beside a table.
+const PIECE_PIXELS: usize = 1_048_576;
+
+// Whether lent space of these lengths holds a piece: as bytes, as raw and as corrected codes.
+pub fn has_room(bytes: usize, raw: usize, corrected: usize) -> bool
+    ensures { λ r. ⌜ r ≡ hasRoom bytes raw corrected ⌝ }
+{
+    if bytes < PIECE_PIXELS * 6 {
+        return false;
+    }
+    if raw < PIECE_PIXELS * 3 {
+        return false;
+    }
+    raw <= corrected
+}
 
 // Corrects the pixels that the first n bytes are, up to the first that has a code above the greatest, into the same bytes.
 // Nothing is refused: what `picture` checks is asked for here, or was made sure of before the call.
@@ -73,26 +103,28 @@ fn pass_piece(
     bytes: &mut [u8],
     raw: &mut [u16],
     corrected: &mut [u16],
-) -> Outcome
+) -> Passed
     requires { ⌜ Readable d (now table) scale ⌝ }
     requires { ⌜ Buffers (length (now bytes)) (length (now raw)) (length (now corrected)) ⌝ }
     requires { ⌜ (first ≤ mostPixels) × (want ≤ piecePixels) ⌝ }
 {
     let size = pixel_bytes(scale.wide);
-    let got = io::read_full(STDIN_FILENO, &mut bytes[..want * size]);
+    let Filled::Bytes(got) = fill(STDIN_FILENO, &mut bytes[..want * size]) else {
+        return Passed::Unread(first);
+    };
     let piece = correct_piece(d, table, scale, &mut *bytes, got, raw, corrected);
     let made = piece.bytes;
     if !io::write_all(STDOUT_FILENO, &bytes[..made]) {
-        return Outcome::Unwritten;
+        return Passed::Unwritten;
     }
     let pixels = piece.pixels;
     if pixels < got / size {
-        return Outcome::TooGreat(first + pixels as u64);
+        return Passed::TooGreat(first + pixels as u64);
     }
     if pixels < want {
-        return Outcome::Ends(first + pixels as u64);
+        return Passed::Ends(first + pixels as u64);
     }
-    Outcome::Whole
+    Passed::Whole
 }
 
 // At most a piece of what is left.
@@ -106,7 +138,8 @@ fn next_piece(left: u64) -> usize
     }
 }
 
-fn pass_all(
+// So many pixels of standard input, corrected, to standard output.
+pub fn pass_all(
     d: Description,
     table: &[i64],
     scale: Scale,
@@ -114,7 +147,7 @@ fn pass_all(
     bytes: &mut [u8],
     raw: &mut [u16],
     corrected: &mut [u16],
-) -> Outcome
+) -> Passed
     requires { ⌜ Readable d (now table) scale ⌝ }
     requires { ⌜ Buffers (length (now bytes)) (length (now raw)) (length (now corrected)) ⌝ }
     requires { ⌜ pixels ≤ mostPixels ⌝ }
@@ -122,7 +155,7 @@ fn pass_all(
     let mut left = pixels;
     while left > 0 {
         let want = next_piece(left);
-        let outcome = pass_piece(
+        let passed = pass_piece(
             d,
             table,
             scale,
@@ -132,29 +165,10 @@ fn pass_all(
             &mut *raw,
             &mut *corrected,
         );
-        let Outcome::Whole = outcome else {
-            return outcome;
+        let Passed::Whole = passed else {
+            return passed;
         };
         left -= want as u64;
     }
-    Outcome::Whole
-}
-
-// So many pixels of standard input, corrected, to standard output.
-pub fn pass(d: Description, table: &[i64], scale: Scale, pixels: u64) -> Outcome
-    requires { ⌜ Readable d (now table) scale ⌝ }
-    requires { ⌜ pixels ≤ mostPixels ⌝ }
-{
-    let mut bytes = [0u8; 196_608];
-    let mut raw = [0u16; 98_304];
-    let mut corrected = [0u16; 98_304];
-    pass_all(
-        d,
-        table,
-        scale,
-        pixels,
-        &mut bytes,
-        &mut raw,
-        &mut corrected,
-    )
+    Passed::Whole
 }

@@ -1,5 +1,9 @@
 -- The status of a program for each way in which its work can end.
 use Prim.Native.Nat.{ℕ}
+use mathlib.Core.Path.{_≡_}
+use mathlib.Core.Logic.{_⊎_}
+use Rattle.rules.specs.declared.Read.{Read}
+use Rattle.rules.specs.declared.Read.the-variants as R
 use Rattle.desk.specs.declared.outcomes.Outcome.{Outcome}
 use Rattle.desk.specs.declared.outcomes.Outcome.the-variants.{Done, Refused, Failed}
 
@@ -8,3 +12,12 @@ unfoldable pub statusOf : Outcome → ℕ
 statusOf Done = 0
 statusOf Refused = 1
 statusOf Failed = 2
+
+-- a file that is accepted is done with
+unfoldable pub outcomeOf : Read → Outcome
+outcomeOf (R.Accepted d) = Done
+outcomeOf (R.Refused r line) = Refused
+
+-- work ends as it should, unless what it says could not be written
+abbrev pub EndsAs : Outcome → Outcome → Type 0
+EndsAs o r = (r ≡ o) ⊎ (r ≡ Failed)

@@ -5,6 +5,7 @@ mod loading;
 mod outcomes;
 mod printing;
 mod refusals;
+mod reports;
 
 pub use arguments::Argument;
 pub use arguments::number_at;
@@ -14,7 +15,7 @@ pub use failures::say_unwritten;
 pub use loading::Filled;
 pub use loading::Loaded;
 pub use loading::fill;
-pub use loading::load;
+pub use loading::load_argument;
 pub use outcomes::Outcome;
 pub use printing::say;
 pub use printing::write;
@@ -23,9 +24,4 @@ pub use printing::write_sample;
 pub use printing::write_signed;
 pub use refusals::say_refusal;
 pub use refusals::write_meaning;
-
-// A file has at most so many bytes; an array of them and a table fit the usual stack of 8 MiB.
-pub const FILE_BYTES: usize = 4_194_304;
-
-// A table has so many places: those of every 1D table, and of a 3D table with N up to 40.
-pub const TABLE_PLACES: usize = 196_608;
+pub use reports::report_input;

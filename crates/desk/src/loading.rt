@@ -145,7 +145,7 @@ fn load_fetched(
 }
 
 // The descriptor is closed on every way out.
-pub fn load(program: &[u8], path: &[u8], file: &mut [u8], table: &mut [i64]) -> Loaded
+fn load(program: &[u8], path: &[u8], file: &mut [u8], table: &mut [i64]) -> Loaded
     ensures { λ r. ⌜ Loads (now (file .exit)) (now (table .entry)) r (now (table .exit)) ⌝ }
 {
     let fd = os::open_read(path);
@@ -156,4 +156,17 @@ pub fn load(program: &[u8], path: &[u8], file: &mut [u8], table: &mut [i64]) -> 
     let fetched = fetch_or_say(program, path, fd, &mut *file);
     libc::close(fd);
     load_fetched(program, path, fetched, file, table)
+}
+
+// The table that an argument names.
+pub fn load_argument(program: &[u8], place: usize, file: &mut [u8], table: &mut [i64]) -> Loaded
+    ensures { λ r. ⌜ Loads (now (file .exit)) (now (table .entry)) r (now (table .exit)) ⌝ }
+{
+    let mut path = io::buffer();
+    let n = os::arg(place, &mut path);
+    if os::errno() != 0 {
+        say_failure(program, b": ", b"the table's name");
+        return Loaded::Unread;
+    }
+    load(program, &path[..n], file, table)
 }

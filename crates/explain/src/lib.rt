@@ -7,7 +7,7 @@ mod words;
 
 use desk::Loaded;
 use desk::Outcome;
-use desk::load;
+use desk::load_argument;
 use libc::STDERR_FILENO;
 use question::Asked;
 use question::Pixel;
@@ -15,20 +15,10 @@ use question::pixel_of;
 use question::read_arguments;
 use show::explain;
 pub use words::help;
-ghost use Rattle.desk.specs.Loads.{Loads};
 
-// The table that the first argument after the verb names, into lent space.
-fn load_named(file: &mut [u8], table: &mut [i64]) -> Loaded
-    ensures { λ r. ⌜ Loads (now (file .exit)) (now (table .entry)) r (now (table .exit)) ⌝ }
-{
-    let mut path = io::buffer();
-    let length = os::arg(2, &mut path);
-    load(b"erythmoda explain", &path[..length], file, table)
-}
-
-// A pixel of a depth, explained by that table.
+// A pixel of a depth, explained by the table that the argument after the verb names.
 fn explain_pixel(file: &mut [u8], table: &mut [i64], bits: u32, pixel: Pixel) -> Outcome {
-    match load_named(&mut *file, &mut *table) {
+    match load_argument(b"erythmoda explain", 2, &mut *file, &mut *table) {
         Loaded::Table { description, bytes } => {
             explain(description, &file[..bytes], table, bits, pixel)
         }

@@ -12,6 +12,7 @@ use Rattle.scan.specs.RunEnds.{runEnd}
 use Rattle.ppm.specs.declared.header.Part.{Part}
 use Rattle.ppm.specs.declared.header.Part.the-variants.{Width, Height, Maxval}
 use Rattle.ppm.specs.declared.header.Fault.the-variants.{NotP6, EndsEarly, Malformed, Beyond}
+use Rattle.ppm.specs.declared.header.Frame.{Frame}
 use Rattle.ppm.specs.declared.header.Header.{Header}
 use Rattle.ppm.specs.declared.header.Header.the-variants.{Stands, Wrong}
 use Rattle.ppm.specs.declared.header.Count.{Count}
@@ -113,6 +114,9 @@ headerOf s =
 -- ---- what a header that stands keeps
 
 -- width and height are within their limits
+abbrev pub SizedFrame : Frame → Type 0
+SizedFrame frame = (frame .width ≤ mostSize) × (frame .height ≤ mostSize)
+
 abbrev pub Sized : Header → Type 0
-Sized (Stands frame) = (frame .width ≤ mostSize) × (frame .height ≤ mostSize)
+Sized (Stands frame) = SizedFrame frame
 Sized (Wrong fault) = Unit {0}

@@ -1,5 +1,5 @@
 // The report program: standard input is a .cube file, standard output what the file says or why it is refused.
-use reporting::report;
+use desk::report_input;
 
 // What is said to someone who calls the program with arguments.
 fn help() {
@@ -9,15 +9,10 @@ fn help() {
     );
 }
 
-// The buffer has one byte more than the longest input, to tell that from a longer one.
 fn main() {
     if os::arg_count() > 1 {
         help();
         return;
     }
-    let mut input = [0u8; 65537];
-    let bytes = io::read_full(0, &mut input);
-    let mut text = [0u8; 512];
-    let count = report(&input[..bytes], &mut text);
-    io::write_all(1, &text[..count]);
+    report_input(b"report");
 }

@@ -19,7 +19,7 @@ ghost use mathlib.Core.List.{[], _∷_, _++_};
 ghost use Rattle.rules.specs.Units.{inRange};
 ghost use Rattle.rules.specs.Answers.{refusalNumber};
 ghost use Rattle.rules.specs.Decimals.{decimal, signedDecimal};
-ghost use Rattle.rules.specs.Reporting.{lineOf, cubeLine, domainLines, titleLine, refusedLine, answerText, Reports};
+ghost use Rattle.rules.specs.Reporting.{lineOf, cubeLine, domainLines, titleLine, refusedLine, answerText, report, Reports};
 ghost use Rattle.rules.specs.declared.Read.the-variants.{Accepted};
 ghost use Rattle.lettering.specs.Putting.{Room, Puts};
 ghost use Rattle.reporting.specs.Telling.{TitleInside, Tellable};
@@ -140,17 +140,34 @@ fn put_accepted(out: &mut [u8], input: &[u8], d: Description) -> usize
     put_title(out, after_domains, input, title)
 }
 
-// The text of the answer to `input`, from the first of the lent bytes on; answers its length, which is never more than theirs.
-pub fn report(input: &[u8], out: &mut [u8; 512]) -> usize
-    ensures { λ r. ⌜ Reports (now (input .entry)) (now (out .entry)) r (now (out .exit)) ⌝ }
+// What the report answers to its input.
+pub fn answer_to(input: &[u8]) -> Read
+    ensures { λ r. ⌜ r ≡ report (now (input .entry)) ⌝ }
 {
     if MOST_BYTES < input.len() {
-        return put_refused(out, Refusal::InputTooLong, 0);
+        return Read::Refused {
+            reason: Refusal::InputTooLong,
+            line: 0,
+        };
     }
     let mut table = [0i64; 8190];
-    let answer = read(input, &mut table);
+    read(input, &mut table)
+}
+
+// The text of that answer, from the first of the lent bytes on; answers its length, which is never more than theirs.
+pub fn put_answer(input: &[u8], answer: Read, out: &mut [u8; 512]) -> usize
+    requires { ⌜ answer ≡ report (now input) ⌝ }
+    ensures { λ r. ⌜ Reports (now (input .entry)) (now (out .entry)) r (now (out .exit)) ⌝ }
+{
     match answer {
         Read::Accepted(d) => put_accepted(out, input, d),
         Read::Refused { reason, line } => put_refused(out, reason, line),
     }
+}
+
+// Both: the text of what is answered to the input.
+pub fn report(input: &[u8], out: &mut [u8; 512]) -> usize
+    ensures { λ r. ⌜ Reports (now (input .entry)) (now (out .entry)) r (now (out .exit)) ⌝ }
+{
+    put_answer(input, answer_to(input), out)
 }

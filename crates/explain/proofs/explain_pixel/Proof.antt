@@ -12,14 +12,19 @@ use Rattle.explain.proofs.explain_pixel.Statement.{statement}
 use Rattle.explain.proofs.explain_pixel.Tie as tie
 
 -- the count of the file's bytes is within the space that was lent for them
-within : (d : tie.After-description) → d .description .given .0 .1 .0 ≤ length (d .before .before .before .before .before .load-named .last .0)
+within : (d : tie.After-description) → d .description .given .0 .1 .0 ≤ length (d .before .before .before .before .before .load-argument .last .1 .1 .0)
 within d =
     let l = d .before .before .before .before .before in
-    let s = l .before .before .before .before in
-    first-bytes (subst (λ r. Loads (l .load-named .last .0) (now (s .args .table)) r (l .load-named .last .1 .0)) (d .description .given .1) (l .load-named .ensures)) .within
+    let s = l .before .before .before .before .before in
+    let file = l .load-argument .last .1 .1 .0 in
+    let table = l .load-argument .last .1 .1 .1 .0 in
+    first-bytes (subst (λ r. Loads file (now (s .args .table)) r table) (d .description .given .1) (l .load-argument .ensures)) .within
 
-load-named-requires : tie.Need-load-named-requires
-load-named-requires c κs = search needs
+slice-aggregate-load-argument : tie.Need-slice-aggregate-load-argument
+slice-aggregate-load-argument c = search needs
+
+load-argument-requires : tie.Need-load-argument-requires
+load-argument-requires c κs = search needs
 
 enum-known-description : tie.Need-enum-known-description
 enum-known-description c = search needs
@@ -70,7 +75,8 @@ pub explain-pixel-spec : {M : Type 1} → statement M
 explain-pixel-spec =
     tie.close
     (tie.spec
-    load-named-requires
+    slice-aggregate-load-argument
+    load-argument-requires
     enum-known-description
     slice-reshare-prefix-explain
     slice-aggregate-explain

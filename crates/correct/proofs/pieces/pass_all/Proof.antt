@@ -1,6 +1,6 @@
 -- The buffers keep their lengths, and what is left falls by a piece that is not empty.
 use Prim.Native.Nat.{_≤_}
-use mathlib.Core.Path.{_≡_, _∙_}
+use mathlib.Core.Path.{_≡_}
 use lib.ListN.{length}
 use borrow.Author.Needs.{needs}
 use native.Mathlib.Omega.{arith}
@@ -30,9 +30,9 @@ pass-piece-requires c κs =
       s .pre .0,
       (
         record {
-          of-bytes = l .loop .inv .1 .0 ∙ s .pre .1 .0 .of-bytes;
-          of-raw = l .loop .inv .1 .1 .0 ∙ s .pre .1 .0 .of-raw;
-          of-corrected = l .loop .inv .1 .1 .1 ∙ s .pre .1 .0 .of-corrected;
+          of-bytes = omega (arith, l .loop .inv .1 .0, s .pre .1 .0 .of-bytes);
+          of-raw = omega (arith, l .loop .inv .1 .1 .0, s .pre .1 .0 .of-raw);
+          of-corrected = omega (arith, l .loop .inv .1 .1 .0, l .loop .inv .1 .1 .1, s .pre .1 .0 .of-corrected);
         },
         (omega (arith, s .pre .1 .1), omega (arith, asked .next-piece .ensures)),
       ),

@@ -1,0 +1,56 @@
+-- The variant found is what the definition says of it.
+use Rattle.correct.specs.Pieces.{outcomeOf}
+use native.Mathlib.Omega.{arith}
+use borrow.Author.Needs.{needs}
+use Rattle.correct.proofs.pieces.outcome_of.Statement.{statement}
+use Rattle.correct.proofs.pieces.outcome_of.Tie as tie
+
+enum-told : tie.Need-enum-told
+enum-told c = search needs
+
+enum-told-2 : tie.Need-enum-told-2
+enum-told-2 c = search needs
+
+enum-told-3 : tie.Need-enum-told-3
+enum-told-3 c = search needs
+
+enum-told-4 : tie.Need-enum-told-4
+enum-told-4 c = search needs
+
+enum-told-5 : tie.Need-enum-told-5
+enum-told-5 c = search needs
+
+returns : tie.Need-returns
+unfolding outcomeOf
+returns c = search needs
+
+returns-2 : tie.Need-returns-2
+unfolding outcomeOf
+returns-2 c = search needs
+
+returns-3 : tie.Need-returns-3
+unfolding outcomeOf
+returns-3 c = search needs
+
+returns-4 : tie.Need-returns-4
+unfolding outcomeOf
+returns-4 c = search needs
+
+returns-5 : tie.Need-returns-5
+unfolding outcomeOf
+returns-5 c = search needs
+
+pub outcome-of-spec : {M : Type 1} → statement M
+outcome-of-spec =
+    tie.close
+    (tie.spec
+    enum-told
+    enum-told-2
+    enum-told-3
+    enum-told-4
+    enum-told-5
+    returns
+    returns-2
+    returns-3
+    returns-4
+    returns-5)

@@ -1,0 +1,130 @@
+// Corrects a binary PPM picture by a .cube table, piece by piece: from standard input to standard output, in lent memory.
+mod headers;
+mod pieces;
+mod words;
+
+use desk::Loaded;
+use desk::Outcome;
+use desk::load_argument;
+use desk::say_unread;
+use desk::say_unwritten;
+use desk::write;
+use headers::Heading;
+use libc::STDERR_FILENO;
+use pieces::has_room;
+use pieces::outcome_of;
+use pieces::pass_all;
+use ppm::Frame;
+use ppm::Header;
+use ppm::ScaleFound;
+use ppm::scale_of;
+use rules::Description;
+pub use words::help;
+ghost use mathlib.Core.Path.{_≡_};
+ghost use mathlib.Core.Bool.{true};
+ghost use lib.ListN.{length};
+ghost use Rattle.rules.specs.Descriptions.{couldBeRead};
+ghost use Rattle.ppm.specs.Header.{SizedFrame};
+ghost use Rattle.correct.specs.Pieces.{Buffers};
+
+// The pixels after a header that stands; nothing is written before the depth is known.
+fn correct_pixels(
+    d: Description,
+    table: &[i64],
+    frame: Frame,
+    bytes: &mut [u8],
+    raw: &mut [u16],
+    corrected: &mut [u16],
+) -> Outcome
+    requires { ⌜ couldBeRead d (now table) ≡ true ⌝ }
+    requires { ⌜ SizedFrame frame ⌝ }
+    requires { ⌜ Buffers (length (now bytes)) (length (now raw)) (length (now corrected)) ⌝ }
+{
+    let ScaleFound::Known(scale) = scale_of(frame.maxval) else {
+        words::say_maxval(frame.maxval);
+        return Outcome::Refused;
+    };
+    if !headers::write(frame) {
+        say_unwritten(b"erythmoda correct");
+        return Outcome::Failed;
+    }
+    let passed = pass_all(
+        d,
+        table,
+        scale,
+        headers::pixels(frame),
+        bytes,
+        raw,
+        corrected,
+    );
+    words::say_passed(passed, frame.width, frame.maxval);
+    outcome_of(passed)
+}
+
+// The picture on standard input.
+fn correct_input(
+    d: Description,
+    table: &[i64],
+    bytes: &mut [u8],
+    raw: &mut [u16],
+    corrected: &mut [u16],
+) -> Outcome
+    requires { ⌜ couldBeRead d (now table) ≡ true ⌝ }
+    requires { ⌜ Buffers (length (now bytes)) (length (now raw)) (length (now corrected)) ⌝ }
+{
+    match headers::read() {
+        Heading::Unread => {
+            say_unread(b"erythmoda correct");
+            Outcome::Failed
+        }
+        Heading::Read(header) => match header {
+            Header::Wrong(fault) => {
+                words::say_wrong(fault);
+                Outcome::Refused
+            }
+            Header::Stands(frame) => correct_pixels(d, table, frame, bytes, raw, corrected),
+        },
+    }
+}
+
+// The table that the argument after the verb names, and then the picture.
+fn correct_by(
+    file: &mut [u8],
+    table: &mut [i64],
+    bytes: &mut [u8],
+    raw: &mut [u16],
+    corrected: &mut [u16],
+) -> Outcome
+    requires { ⌜ Buffers (length (now bytes)) (length (now raw)) (length (now corrected)) ⌝ }
+{
+    match load_argument(b"erythmoda correct", 2, file, &mut *table) {
+        Loaded::Table {
+            description,
+            bytes: _,
+        } => correct_input(description, table, bytes, raw, corrected),
+        Loaded::Refused => Outcome::Refused,
+        Loaded::Unread => Outcome::Failed,
+    }
+}
+
+// What the arguments ask for, in lent space for the file, the table, and a piece of the picture as bytes, raw and corrected codes.
+pub fn correct(
+    file: &mut [u8],
+    table: &mut [i64],
+    bytes: &mut [u8],
+    raw: &mut [u16],
+    corrected: &mut [u16],
+) -> Outcome {
+    if os::arg_count() != 3 {
+        help(STDERR_FILENO);
+        return Outcome::Failed;
+    }
+    if !has_room(bytes.len(), raw.len(), corrected.len()) {
+        write(
+            STDERR_FILENO,
+            b"erythmoda correct: too little memory was lent for the pixels\n",
+        );
+        return Outcome::Failed;
+    }
+    correct_by(file, table, bytes, raw, corrected)
+}
