@@ -1,5 +1,5 @@
-/* The three calls from C: document 01's 3D file is read, looked at and applied, every answer is compared, and so is
- * everything lent that a call may not change. Prints what is wrong, and exits 1 if anything is. */
+/* The calls from C: document 01's 3D file is read, looked at and applied, every answer is compared, and so is everything
+ * lent that a call may not change; then the header's words and version. Prints what is wrong, and exits 1 if anything is. */
 #include <stdio.h>
 #include <stdlib.h>
 #include <string.h>
@@ -132,6 +132,25 @@ static void picture(const struct colour_table *table) {
     expect(memcmp(dst, expected, sizeof dst) == 0, "the picture's codes, and the places after them");
 }
 
+/* Document 01 uses the numbers 0 to 18, 20 to 24 and 30. */
+static int is_used(uint32_t number) { return (number <= 24 && number != 19) || number == 30; }
+
+static void words(void) {
+    uint32_t number;
+    for (number = 0; number < 100; number++) {
+        int is_known = strcmp(erythmoda_words(number), "unknown number") != 0;
+        expect(is_known == is_used(number), "every number of document 01 has words, and no other has");
+    }
+    expect(strcmp(erythmoda_words(UINT32_MAX), "unknown number") == 0, "the greatest number has no words");
+    expect(strcmp(erythmoda_words(ERYTHMODA_TOO_FEW_ROWS), "the file ends with too few rows") == 0, "the words of 18");
+}
+
+static void version(void) {
+    char text[40];
+    sprintf(text, "%d.%d.%d", ERYTHMODA_VERSION_MAJOR, ERYTHMODA_VERSION_MINOR, ERYTHMODA_VERSION_PATCH);
+    expect(strcmp(text, ERYTHMODA_VERSION) == 0, "the version's text is its three numbers");
+}
+
 int main(void) {
     const struct colour_table table = read_cube();
     struct colour_table before;
@@ -140,6 +159,8 @@ int main(void) {
     look(&table);
     picture(&table);
     expect(memcmp(&before, &table, sizeof table) == 0, "look and picture change neither description nor table");
+    words();
+    version();
     if (!wrong) puts("every answer through C is as it should be");
     return wrong ? EXIT_FAILURE : EXIT_SUCCESS;
 }
