@@ -18,7 +18,7 @@ use Rattle.rules.specs.declared.Description.{Description}
 use Rattle.rules.specs.declared.Read.{Read}
 use Rattle.rules.specs.declared.Read.the-variants as R
 use Rattle.rules.proofs.Answers.{checks-is, is-checks, refused-not-0}
-use Rattle.signature.proofs.Reading.Checking.{check-keeps, check-most, checked-then-read, lent-enough, lent-too-few, long-enough, read-accepts, refused-alike}
+use Rattle.signature.proofs.Reading.Checking.{check-keeps, check-places, checked-then-read, lent-enough, lent-too-few, long-enough, read-accepts, refused-alike}
 use Rattle.signature.proofs.Boundary.Reads.{ReadLaid, read-laid}
 
 -- a file's judgement with its answer laid out as numbers
@@ -37,7 +37,7 @@ pub record CheckAccepted (file : List ℕ) (eleven′ : List ℤ) (line′ place
   pub eleven-so : eleven′ ≡ elevenOf d
   pub line-so : line′ ≡ 0
   pub places-so : places′ ≡ 3 * rows d
-  pub places-most : places′ ≤ placeLimit
+  pub places-range : (6 ≤ places′) × (places′ ≤ placeLimit)
 
 module _ {file : List ℕ} {eleven′ : List ℤ} {number line′ places′ : ℕ} where
   pub check-laid : ChecksC file number eleven′ line′ places′ ↔ CheckLaid file number eleven′ line′ places′
@@ -84,7 +84,7 @@ module _ {file : List ℕ} {eleven′ : List ℤ} {number line′ places′ : �
             eleven-so = v;
             line-so = n;
             places-so = p;
-            places-most = rw p (check-most file d accepted);
+            places-range = rw p (check-places file d accepted);
           }
       by (R.Refused reason n) checks e v m p = absurd (refused-not-0 reason (sym e ∙ z))
 

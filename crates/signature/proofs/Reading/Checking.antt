@@ -32,7 +32,7 @@ use Rattle.rules.proofs.Reading.Acceptance.{accepted-keeps, keeps-accepted}
 use Rattle.rules.proofs.Reading.Bridge.{accepted-in-range}
 use Rattle.rules.proofs.Reading.Refusals.{Stopped, at-end, at-line, stopped}
 use Rattle.signature.proofs.Reading.Numbers.{read-13}
-use Rattle.signature.proofs.Reading.Room.{Bounded, line-bounded, room-for-all, start-bounded}
+use Rattle.signature.proofs.Reading.Room.{Bounded, line-bounded, range-rows-least, room-for-all, start-bounded}
 
 -- ---- acceptance: the room is all that the table's length decides
 
@@ -79,10 +79,10 @@ module _ (file : List ℕ) (d : Description) where
     λ k. read-check (3 * rows d) .0 (keeps-accepted file (3 * rows d) d _ k .0) .0,
   )
 
-  -- none needs more than the greatest
-  pub check-most : check file ≡ Accepted d → 3 * rows d ≤ placeLimit
+  -- no table needs fewer places than 6, and none more than the greatest
+  pub check-places : check file ≡ Accepted d → (6 ≤ 3 * rows d) × (3 * rows d ≤ placeLimit)
   unfolding check
-  check-most e = accepted-room placeLimit e .1
+  check-places e = (omega (arith, range-rows-least (d .kind) (d .n) (accepted-in-range file placeLimit d e)), accepted-room placeLimit e .1)
 
 -- ---- a shorter table: the same answer, or 13 no later
 
