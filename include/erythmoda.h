@@ -117,6 +117,18 @@ uint32_t erythmoda_read(const uint8_t *file, size_t file_len,
                         int64_t *table, size_t table_len,
                         int64_t description[11], uint64_t *line);
 
+/* Judges the bytes of one .cube file with no table, for callers who do not know how long a table has to be:
+ *
+ *     check the file, and stop unless the answer is 0; lend `*places` numbers; read the file.
+ *
+ * The answer, `description` and `*line` are those of erythmoda_read with a table that is long enough, so the answer is
+ * never 13. Accepted: `*places` is three for each row, 6 to 50331648, and reading the same bytes into a table of that many
+ * places, or more, is accepted with the same description; into fewer it is refused with 13. Refused: `*places` is 0, and
+ * reading the same bytes into any table is refused too, with the same number, line and description, or with 13 on that
+ * line or an earlier one. The samples are not kept: reading judges the file again. */
+uint32_t erythmoda_check(const uint8_t *file, size_t file_len,
+                         int64_t description[11], uint64_t *line, uint64_t *places);
+
 /* Corrects one pixel, and shows which rows of the table made the codes, and with which weights.
  *
  * 1D: places 2c and 2c + 1 of `rows` and `weights` belong to colour c (0 red, 1 green, 2 blue). 3D: places 0 to 3 are

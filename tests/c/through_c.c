@@ -1,5 +1,6 @@
-/* The calls from C: document 01's 3D file is read, looked at and applied, every answer is compared, and so is everything
- * lent that a call may not change; then the header's words and version. Prints what is wrong, and exits 1 if anything is. */
+/* The four calls from C: document 01's 3D file is judged, read, looked at and applied, every answer is compared, and so is
+ * everything lent that a call may not change; then the header's words and version. Prints what is wrong, and exits 1 if
+ * anything is. */
 #include <stdio.h>
 #include <stdlib.h>
 #include <string.h>
@@ -85,6 +86,46 @@ static void refused_reading(void) {
     expect(line == 2 && all_are(samples, TABLE_PLACES, KEPT), "a short table is kept, and its line is the first data line");
 }
 
+static void check_then_read(void) {
+    int64_t *samples, description[ERYTHMODA_DESCRIPTION_PLACES], read_description[ERYTHMODA_DESCRIPTION_PLACES];
+    uint64_t line = KEPT, places = KEPT;
+    uint32_t answer;
+    fill(description, ERYTHMODA_DESCRIPTION_PLACES, KEPT);
+    answer = erythmoda_check((const uint8_t *)CUBE, sizeof CUBE - 1, description, &line, &places);
+    expect_number(answer, ERYTHMODA_ACCEPTED, "checking the 3D file");
+    expect(line == 0 && places == ROW_PLACES, "an accepted check has line 0, and three places for each row");
+    expect(memcmp(description, CUBE_DESCRIPTION, sizeof CUBE_DESCRIPTION) == 0, "the description without a table");
+    if (places > ROW_PLACES) return;
+    samples = (int64_t *)malloc((size_t)places * sizeof *samples);
+    if (samples == NULL) {
+        expect(0, "memory for the places");
+        return;
+    }
+    answer = erythmoda_read((const uint8_t *)CUBE, sizeof CUBE - 1, samples, (size_t)places, read_description, &line);
+    expect_number(answer, ERYTHMODA_ACCEPTED, "reading into the places that check told");
+    expect(memcmp(read_description, description, sizeof description) == 0, "reading describes what check described");
+    answer = erythmoda_read((const uint8_t *)CUBE, sizeof CUBE - 1, samples, (size_t)places - 1, read_description, &line);
+    expect_number(answer, ERYTHMODA_TABLE_TOO_SHORT, "reading into one place fewer than check told");
+    free(samples);
+}
+
+static void refused_check(void) {
+    static const char size_alone[] = "LUT_3D_SIZE 256\n";
+    int64_t description[ERYTHMODA_DESCRIPTION_PLACES];
+    uint64_t line = KEPT, places = KEPT;
+    uint32_t answer;
+    fill(description, ERYTHMODA_DESCRIPTION_PLACES, KEPT);
+    answer = erythmoda_check((const uint8_t *)size_alone, sizeof size_alone - 1, description, &line, &places);
+    expect_number(answer, ERYTHMODA_TOO_FEW_ROWS, "checking the greatest size with no rows");
+    expect(line == 2 && places == 0, "a refused check has its line, and no places");
+    expect(description[0] == 1 && all_are(description + 1, ERYTHMODA_DESCRIPTION_PLACES - 1, 0),
+           "a refused check describes nothing");
+    places = KEPT;
+    answer = erythmoda_check((const uint8_t *)CUBE, 0, description, &line, &places);
+    expect_number(answer, ERYTHMODA_NO_SIZE, "checking no bytes");
+    expect(line == 1 && places == 0, "no bytes are refused on line 1, with no places");
+}
+
 static void look(const struct colour_table *table) {
     static const uint16_t pixel[3] = {51, 102, 204};
     static const uint16_t codes_expected[3] = {51, 51, 51};
@@ -156,6 +197,8 @@ int main(void) {
     struct colour_table before;
     memcpy(&before, &table, sizeof table);
     refused_reading();
+    check_then_read();
+    refused_check();
     look(&table);
     picture(&table);
     expect(memcmp(&before, &table, sizeof table) == 0, "look and picture change neither description nor table");

@@ -6,15 +6,13 @@ use native.Mathlib.Omega.{arith}
 use borrow.Author.Tests.{le-leb, lt-leb}
 use lib.ListN.{length, drop}
 use Rattle.rules.specs.Answers.{refusalNumber}
-use Rattle.rules.specs.Reading.Lines.{linesOf}
-use Rattle.rules.specs.Reading.{read, samplesOf}
+use Rattle.rules.specs.Reading.{read}
 use Rattle.rules.specs.Reporting.{reportBytes, reportPlaces, report, refusedLine, answerText, reportText, Reports}
 use Rattle.rules.specs.declared.Description.{Description}
 use Rattle.rules.specs.declared.Read.{Read}
 use Rattle.rules.specs.declared.Read.the-variants.{Accepted}
 use Rattle.rules.specs.declared.Refusal.the-variants.{InputTooLong}
-use Rattle.rules.proofs.Reading.Acceptance.{accepted-keeps}
-use Rattle.rules.proofs.Reading.Bridge.{in-range}
+use Rattle.rules.proofs.Reading.Bridge.{accepted-in-range}
 use Rattle.rules.proofs.Reporting.Lengths.{title-inside, report-fits}
 use Rattle.lettering.specs.Putting.{Room, Puts}
 use Rattle.reporting.specs.Telling.{Tellable}
@@ -35,7 +33,7 @@ module _ (input : List ℕ) where
   tellable {d} e =
       let accepted = sym e in
       record {
-        range = in-range input reportPlaces d (samplesOf (linesOf input)) (accepted-keeps input reportPlaces d accepted);
+        range = accepted-in-range input reportPlaces d accepted;
         title = record { within = title-inside input reportPlaces d accepted };
       }
 

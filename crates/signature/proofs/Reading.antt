@@ -6,8 +6,12 @@ pub mod Nines
 -- where numbers stand, and the lines by their numbers
 pub mod Places
 pub mod LineNumbers
--- the numbers that it answers, and what its promise decides
+-- the room that a table needs; the numbers that reading answers, and what its promise decides
+pub mod Room
 pub mod Numbers
 pub mod Promised
--- wrong readers that it rules out
+-- the file judged with no table
+pub mod Checking
+-- wrong readers and checkers that the promises rule out
 pub mod WrongPrograms
+pub mod WrongChecks
