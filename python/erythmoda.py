@@ -166,16 +166,12 @@ def check(file):
 
 def _checked(file):
     lent, count = _borrowed(file, _BYTES, "the file")
-    description, line = (c_int64 * 11)(), c_uint64()
-    # an accepted file has no more rows than lines; where that is too few, a table that holds the samples of every file
-    for places in (3 * bytes(lent).count(b"\n") + 3, 3 * 256**3):
-        number = _library.erythmoda_read(lent, count, (c_int64 * places)(), places, description, byref(line))
-        if number != 13:
-            break
+    description, line, places = (c_int64 * 11)(), c_uint64(), c_uint64()
+    number = _library.erythmoda_check(lent, count, description, byref(line), byref(places))
     kind, n, red, green, blue, to_red, to_green, to_blue, titled, first, length = description
     title = bytes(lent[first : first + length]) if titled else None
     domain = ((red, to_red), (green, to_green), (blue, to_blue))
-    return number, line.value, Description(kind, n, domain, title, 3 * n**kind)
+    return number, line.value, Description(kind, n, domain, title, places.value)
 
 
 def _filled(file, samples):
@@ -248,6 +244,7 @@ def _depth(bits):
 
 _TABLE = (POINTER(c_int64), POINTER(c_int64), c_size_t)
 _TAKES = {
+    "erythmoda_check": (POINTER(c_uint8), c_size_t, POINTER(c_int64), POINTER(c_uint64), POINTER(c_uint64)),
     "erythmoda_read": (POINTER(c_uint8), c_size_t, POINTER(c_int64), c_size_t, POINTER(c_int64), POINTER(c_uint64)),
     "erythmoda_look": (*_TABLE, c_uint32, POINTER(c_uint16), POINTER(c_uint16), POINTER(c_uint32), POINTER(c_int64)),
     "erythmoda_picture": (*_TABLE, c_uint32, POINTER(c_uint16), c_size_t, POINTER(c_uint16), c_size_t),
