@@ -1,15 +1,35 @@
-# test: all proofs and all tests, from nothing. demo: what there is to show.
-# fuzz: the streams of the tests with new seeds, for SECONDS=.. or until it is stopped. bench: figures of speed.
-.PHONY: test demo fuzz bench
+# What there is to make. `make` alone lists it, from the words that stand after each ##.
+.PHONY: help demo lib install uninstall test fuzz bench
 
-test:
-	@tests/run
+# Where `make install` puts things, each below DESTDIR if that is given. PYTHONDIR is found by asking python3.
+PREFIX ?= /usr/local
+BINDIR ?= $(PREFIX)/bin
+LIBDIR ?= $(PREFIX)/lib
+INCLUDEDIR ?= $(PREFIX)/include
+MANDIR ?= $(PREFIX)/share/man
+export DESTDIR PREFIX BINDIR LIBDIR INCLUDEDIR MANDIR PYTHONDIR
 
-demo:
+help: ## this list
+	@awk -F ': ## ' '/^[a-z]+: ## / { printf "make %-11s%s\n", $$1, $$2 }' Makefile
+
+demo: ## the specification's samples reported on, a pixel explained, a small picture corrected
 	@tests/demo
 
-fuzz:
+lib: ## the library, static and shared, proved and compiled for this processor in target/native
+	@tools/native erythmoda target/native
+	@echo "target/native has liberythmoda.a and liberythmoda.so, version $$(tools/version)"
+
+install: ## puts what `make lib` built, with header, manual and Python module, below PREFIX=/usr/local (staged in DESTDIR=)
+	@tools/install put
+
+uninstall: ## takes away what `make install` put
+	@tools/install remove
+
+test: ## all proofs and all tests, from nothing; the last line counts them
+	@tests/run
+
+fuzz: ## the tests' streams with new seeds, for SECONDS=.. or until it is stopped
 	@tests/fuzz $(SECONDS)
 
-bench:
+bench: ## speed, beside the same rules in plain Rust
 	@tests/bench/run

@@ -1,4 +1,4 @@
-/* Erythmoda: .cube colour tables read and applied, every answer proved. Link liberythmoda.a.
+/* Erythmoda: .cube colour tables read and applied, every answer proved. Link liberythmoda.a or liberythmoda.so.
  *
  * Nothing is allocated, kept or shared between calls: all memory is lent by the caller. For each call the caller sees to it that
  *   - a pointer leads to as many places as its length says, or as its type says where there is no length, and is aligned for
@@ -9,7 +9,7 @@
  *   - no other thread writes, during the call, what it reads or writes, or reads what it writes. Calls that share only what
  *     they read may run at once.
  *
- * Each call answers a number, 0 for accepted; erythmoda_number below says what the others mean. */
+ * Each call answers a number, 0 for accepted; erythmoda_words below says what the others mean. */
 #ifndef ERYTHMODA_H
 #define ERYTHMODA_H
 
@@ -19,6 +19,13 @@
 #ifdef __cplusplus
 extern "C" {
 #endif
+
+/* The version of this header and of the library beside it. MAJOR is the number in the shared library's name: it grows when
+ * a call changes, so that a program never meets a library with other calls than it was compiled for. */
+#define ERYTHMODA_VERSION_MAJOR 0
+#define ERYTHMODA_VERSION_MINOR 1
+#define ERYTHMODA_VERSION_PATCH 0
+#define ERYTHMODA_VERSION "0.1.0"
 
 /* What a table is, in eleven numbers:
  *
@@ -41,33 +48,65 @@ extern "C" {
 enum erythmoda_number {
     ERYTHMODA_ACCEPTED = 0,
     /* of a file, with the line */
-    ERYTHMODA_LINE_TOO_LONG = 1,              /* a line over 250 bytes */
-    ERYTHMODA_BYTE_NOT_PERMITTED = 2,         /* a byte other than 0x20 to 0x7E, tab and newline */
-    ERYTHMODA_NEITHER_DATA_NOR_KEYWORD = 3,   /* a line that is neither data nor begins with a known keyword */
-    ERYTHMODA_KEYWORD_AFTER_DATA = 4,         /* a keyword after data */
-    ERYTHMODA_KEYWORD_REPEATED = 5,           /* a keyword for the second time; the two size words count as one */
-    ERYTHMODA_PARAMETERS_WRONG = 6,           /* the parameters of a keyword are wrong in count or form */
-    ERYTHMODA_N_OUT_OF_RANGE = 7,             /* N is out of range */
-    ERYTHMODA_BOUND_WRONG = 8,                /* a domain number is beyond -10 to 10 or no multiple of 0.001 */
-    ERYTHMODA_NO_SIZE = 9,                    /* there is no size */
-    ERYTHMODA_BOUNDS_NOT_IN_ORDER = 10,       /* a lower bound is not below its upper bound */
-    ERYTHMODA_DOMAIN_TOO_WIDE = 11,           /* a domain is wider than 10 */
-    ERYTHMODA_DOMAINS_DIFFER = 12,            /* a 3D table's domains differ between colours */
-    ERYTHMODA_TABLE_TOO_SHORT = 13,           /* the lent table has fewer places than three for each row */
-    ERYTHMODA_TOO_MANY_ROWS = 14,             /* there are more data lines than rows */
-    ERYTHMODA_NOT_THREE_NUMBERS = 15,         /* a data line is not three numbers */
-    ERYTHMODA_SAMPLE_BEYOND = 16,             /* a sample is beyond -1000 to 1000 */
-    ERYTHMODA_SAMPLE_TOO_FINE = 17,           /* a sample is no multiple of 0.0000001 */
-    ERYTHMODA_TOO_FEW_ROWS = 18,              /* the file ends with too few rows */
+    ERYTHMODA_LINE_TOO_LONG = 1,
+    ERYTHMODA_BYTE_NOT_PERMITTED = 2,
+    ERYTHMODA_NEITHER_DATA_NOR_KEYWORD = 3,
+    ERYTHMODA_KEYWORD_AFTER_DATA = 4,
+    ERYTHMODA_KEYWORD_REPEATED = 5,
+    ERYTHMODA_PARAMETERS_WRONG = 6,
+    ERYTHMODA_N_OUT_OF_RANGE = 7,
+    ERYTHMODA_BOUND_WRONG = 8,
+    ERYTHMODA_NO_SIZE = 9,
+    ERYTHMODA_BOUNDS_NOT_IN_ORDER = 10,
+    ERYTHMODA_DOMAIN_TOO_WIDE = 11,
+    ERYTHMODA_DOMAINS_DIFFER = 12,
+    ERYTHMODA_TABLE_TOO_SHORT = 13,
+    ERYTHMODA_TOO_MANY_ROWS = 14,
+    ERYTHMODA_NOT_THREE_NUMBERS = 15,
+    ERYTHMODA_SAMPLE_BEYOND = 16,
+    ERYTHMODA_SAMPLE_TOO_FINE = 17,
+    ERYTHMODA_TOO_FEW_ROWS = 18,
     /* of a look or a picture (19 is not used) */
-    ERYTHMODA_DEPTH_UNKNOWN = 20,             /* the depth is not 8, 10, 12 or 16 bits */
-    ERYTHMODA_PICTURE_LENGTH = 21,            /* the picture's length is no multiple of 3 */
-    ERYTHMODA_OUTPUT_TOO_SHORT = 22,          /* the output is shorter than the picture */
-    ERYTHMODA_CODE_ABOVE_M = 23,              /* a code is above the depth's M */
-    ERYTHMODA_COULD_NOT_BE_READ = 24,         /* reading could not have given this description and this table */
+    ERYTHMODA_DEPTH_UNKNOWN = 20,
+    ERYTHMODA_PICTURE_LENGTH = 21,
+    ERYTHMODA_OUTPUT_TOO_SHORT = 22,
+    ERYTHMODA_CODE_ABOVE_M = 23,
+    ERYTHMODA_COULD_NOT_BE_READ = 24,
     /* of the report program alone */
-    ERYTHMODA_REPORT_INPUT_TOO_LONG = 30      /* the report's input has more than 65536 bytes */
+    ERYTHMODA_REPORT_INPUT_TOO_LONG = 30
 };
+
+/* What a number means. */
+static inline const char *erythmoda_words(uint32_t number) {
+    switch (number) {
+    case ERYTHMODA_ACCEPTED: return "accepted";
+    case ERYTHMODA_LINE_TOO_LONG: return "a line over 250 bytes";
+    case ERYTHMODA_BYTE_NOT_PERMITTED: return "a byte other than 0x20 to 0x7E, tab and newline";
+    case ERYTHMODA_NEITHER_DATA_NOR_KEYWORD: return "a line that is neither data nor begins with a known keyword";
+    case ERYTHMODA_KEYWORD_AFTER_DATA: return "a keyword after data";
+    case ERYTHMODA_KEYWORD_REPEATED: return "a keyword for the second time; the two size words count as one";
+    case ERYTHMODA_PARAMETERS_WRONG: return "the parameters of a keyword are wrong in count or form";
+    case ERYTHMODA_N_OUT_OF_RANGE: return "N is out of range";
+    case ERYTHMODA_BOUND_WRONG: return "a domain number is beyond -10 to 10 or no multiple of 0.001";
+    case ERYTHMODA_NO_SIZE: return "there is no size";
+    case ERYTHMODA_BOUNDS_NOT_IN_ORDER: return "a lower bound is not below its upper bound";
+    case ERYTHMODA_DOMAIN_TOO_WIDE: return "a domain is wider than 10";
+    case ERYTHMODA_DOMAINS_DIFFER: return "a 3D table's domains differ between colours";
+    case ERYTHMODA_TABLE_TOO_SHORT: return "the lent table has fewer places than three for each row";
+    case ERYTHMODA_TOO_MANY_ROWS: return "there are more data lines than rows";
+    case ERYTHMODA_NOT_THREE_NUMBERS: return "a data line is not three numbers";
+    case ERYTHMODA_SAMPLE_BEYOND: return "a sample is beyond -1000 to 1000";
+    case ERYTHMODA_SAMPLE_TOO_FINE: return "a sample is no multiple of 0.0000001";
+    case ERYTHMODA_TOO_FEW_ROWS: return "the file ends with too few rows";
+    case ERYTHMODA_DEPTH_UNKNOWN: return "the depth is not 8, 10, 12 or 16 bits";
+    case ERYTHMODA_PICTURE_LENGTH: return "the picture's length is no multiple of 3";
+    case ERYTHMODA_OUTPUT_TOO_SHORT: return "the output is shorter than the picture";
+    case ERYTHMODA_CODE_ABOVE_M: return "a code is above the depth's M";
+    case ERYTHMODA_COULD_NOT_BE_READ: return "reading could not have given this description and this table";
+    case ERYTHMODA_REPORT_INPUT_TOO_LONG: return "the report's input has more than 65536 bytes";
+    default: return "unknown number";
+    }
+}
 
 /* Reads the bytes of one .cube file.
  *
@@ -77,6 +116,18 @@ enum erythmoda_number {
 uint32_t erythmoda_read(const uint8_t *file, size_t file_len,
                         int64_t *table, size_t table_len,
                         int64_t description[11], uint64_t *line);
+
+/* Judges the bytes of one .cube file with no table, for callers who do not know how long a table has to be:
+ *
+ *     check the file, and stop unless the answer is 0; lend `*places` numbers; read the file.
+ *
+ * The answer, `description` and `*line` are those of erythmoda_read with a table that is long enough, so the answer is
+ * never 13. Accepted: `*places` is three for each row, 6 to 50331648, and reading the same bytes into a table of that many
+ * places, or more, is accepted with the same description; into fewer it is refused with 13. Refused: `*places` is 0, and
+ * reading the same bytes into any table is refused too, with the same number, line and description, or with 13 on that
+ * line or an earlier one. The samples are not kept: reading judges the file again. */
+uint32_t erythmoda_check(const uint8_t *file, size_t file_len,
+                         int64_t description[11], uint64_t *line, uint64_t *places);
 
 /* Corrects one pixel, and shows which rows of the table made the codes, and with which weights.
  *

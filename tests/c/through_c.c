@@ -1,5 +1,6 @@
-/* The three calls from C: document 01's 3D file is read, looked at and applied, every answer is compared, and so is
- * everything lent that a call may not change. Prints what is wrong, and exits 1 if anything is. */
+/* The four calls from C: document 01's 3D file is judged, read, looked at and applied, every answer is compared, and so is
+ * everything lent that a call may not change; then the header's words and version. Prints what is wrong, and exits 1 if
+ * anything is. */
 #include <stdio.h>
 #include <stdlib.h>
 #include <string.h>
@@ -85,6 +86,46 @@ static void refused_reading(void) {
     expect(line == 2 && all_are(samples, TABLE_PLACES, KEPT), "a short table is kept, and its line is the first data line");
 }
 
+static void check_then_read(void) {
+    int64_t *samples, description[ERYTHMODA_DESCRIPTION_PLACES], read_description[ERYTHMODA_DESCRIPTION_PLACES];
+    uint64_t line = KEPT, places = KEPT;
+    uint32_t answer;
+    fill(description, ERYTHMODA_DESCRIPTION_PLACES, KEPT);
+    answer = erythmoda_check((const uint8_t *)CUBE, sizeof CUBE - 1, description, &line, &places);
+    expect_number(answer, ERYTHMODA_ACCEPTED, "checking the 3D file");
+    expect(line == 0 && places == ROW_PLACES, "an accepted check has line 0, and three places for each row");
+    expect(memcmp(description, CUBE_DESCRIPTION, sizeof CUBE_DESCRIPTION) == 0, "the description without a table");
+    if (places > ROW_PLACES) return;
+    samples = (int64_t *)malloc((size_t)places * sizeof *samples);
+    if (samples == NULL) {
+        expect(0, "memory for the places");
+        return;
+    }
+    answer = erythmoda_read((const uint8_t *)CUBE, sizeof CUBE - 1, samples, (size_t)places, read_description, &line);
+    expect_number(answer, ERYTHMODA_ACCEPTED, "reading into the places that check told");
+    expect(memcmp(read_description, description, sizeof description) == 0, "reading describes what check described");
+    answer = erythmoda_read((const uint8_t *)CUBE, sizeof CUBE - 1, samples, (size_t)places - 1, read_description, &line);
+    expect_number(answer, ERYTHMODA_TABLE_TOO_SHORT, "reading into one place fewer than check told");
+    free(samples);
+}
+
+static void refused_check(void) {
+    static const char size_alone[] = "LUT_3D_SIZE 256\n";
+    int64_t description[ERYTHMODA_DESCRIPTION_PLACES];
+    uint64_t line = KEPT, places = KEPT;
+    uint32_t answer;
+    fill(description, ERYTHMODA_DESCRIPTION_PLACES, KEPT);
+    answer = erythmoda_check((const uint8_t *)size_alone, sizeof size_alone - 1, description, &line, &places);
+    expect_number(answer, ERYTHMODA_TOO_FEW_ROWS, "checking the greatest size with no rows");
+    expect(line == 2 && places == 0, "a refused check has its line, and no places");
+    expect(description[0] == 1 && all_are(description + 1, ERYTHMODA_DESCRIPTION_PLACES - 1, 0),
+           "a refused check describes nothing");
+    places = KEPT;
+    answer = erythmoda_check((const uint8_t *)CUBE, 0, description, &line, &places);
+    expect_number(answer, ERYTHMODA_NO_SIZE, "checking no bytes");
+    expect(line == 1 && places == 0, "no bytes are refused on line 1, with no places");
+}
+
 static void look(const struct colour_table *table) {
     static const uint16_t pixel[3] = {51, 102, 204};
     static const uint16_t codes_expected[3] = {51, 51, 51};
@@ -132,14 +173,37 @@ static void picture(const struct colour_table *table) {
     expect(memcmp(dst, expected, sizeof dst) == 0, "the picture's codes, and the places after them");
 }
 
+/* Document 01 uses the numbers 0 to 18, 20 to 24 and 30. */
+static int is_used(uint32_t number) { return (number <= 24 && number != 19) || number == 30; }
+
+static void words(void) {
+    uint32_t number;
+    for (number = 0; number < 100; number++) {
+        int is_known = strcmp(erythmoda_words(number), "unknown number") != 0;
+        expect(is_known == is_used(number), "every number of document 01 has words, and no other has");
+    }
+    expect(strcmp(erythmoda_words(UINT32_MAX), "unknown number") == 0, "the greatest number has no words");
+    expect(strcmp(erythmoda_words(ERYTHMODA_TOO_FEW_ROWS), "the file ends with too few rows") == 0, "the words of 18");
+}
+
+static void version(void) {
+    char text[40];
+    sprintf(text, "%d.%d.%d", ERYTHMODA_VERSION_MAJOR, ERYTHMODA_VERSION_MINOR, ERYTHMODA_VERSION_PATCH);
+    expect(strcmp(text, ERYTHMODA_VERSION) == 0, "the version's text is its three numbers");
+}
+
 int main(void) {
     const struct colour_table table = read_cube();
     struct colour_table before;
     memcpy(&before, &table, sizeof table);
     refused_reading();
+    check_then_read();
+    refused_check();
     look(&table);
     picture(&table);
     expect(memcmp(&before, &table, sizeof table) == 0, "look and picture change neither description nor table");
+    words();
+    version();
     if (!wrong) puts("every answer through C is as it should be");
     return wrong ? EXIT_FAILURE : EXIT_SUCCESS;
 }

@@ -1,14 +1,18 @@
--- A description that was found, or none; and a look at a description that crossed as eleven numbers.
+-- A description that was found, or none; a look at a description that crossed as eleven numbers; and an answer whose table's rows can be counted.
 use mathlib.Core.Path.{_≡_}
+use mathlib.Core.Bool.{true}
 use mathlib.Core.List.{List}
 use mathlib.Core.Option.{Option, none, some}
 use lib.IntN.{ℤ}
+use Rattle.rules.specs.Units.{inRange}
 use Rattle.rules.specs.Answers.{lookNumber, lookCodes, lookRows, lookWeights}
 use Rattle.rules.specs.Boundary.{lookIn}
 use Rattle.rules.specs.declared.Bits.{Bits}
 use Rattle.rules.specs.declared.Codes.{Codes}
 use Rattle.rules.specs.declared.Description.{Description}
 use Rattle.rules.specs.declared.Look.{Look}
+use Rattle.rules.specs.declared.Read.{Read}
+use Rattle.rules.specs.declared.Read.the-variants as R
 use Rattle.erythmoda.specs.declared.layout.DescriptionFound.{DescriptionFound}
 use Rattle.erythmoda.specs.declared.layout.DescriptionFound.the-variants.{Known, Unknown}
 
@@ -22,3 +26,8 @@ pub record LooksIn (eleven table : List ℤ) (bits : Bits) (pixel : Codes) (r : 
   pub codes : lookCodes r ≡ lookCodes (lookIn eleven table bits pixel)
   pub rows : lookRows r ≡ lookRows (lookIn eleven table bits pixel)
   pub weights : lookWeights r ≡ lookWeights (lookIn eleven table bits pixel)
+
+-- the N of an accepted file is in range
+abbrev pub Countable : Read → Type 0
+Countable (R.Accepted d) = inRange (d .kind) (d .n) ≡ true
+Countable (R.Refused r n) = Unit {0}

@@ -1,4 +1,5 @@
 // Document 01's number and values of an answer, as the definitions of rules give them.
+use judge::count_rows;
 use rules::Codes;
 use rules::Description;
 use rules::Domain;
@@ -14,7 +15,8 @@ ghost use mathlib.Core.Path.{_≡_};
 ghost use mathlib.Core.List.{[]};
 ghost use Rattle.rules.specs.Descriptions.{zeros};
 ghost use Rattle.rules.specs.Looking.{six};
-ghost use Rattle.rules.specs.Answers.{readNumber, readLine, readDescription, lookNumber, lookCodes, lookShares, codesOf, sharesOf, pictureNumber};
+ghost use Rattle.rules.specs.Answers.{readNumber, readLine, readDescription, placesNeeded, lookNumber, lookCodes, lookShares, codesOf, sharesOf, pictureNumber};
+ghost use Rattle.erythmoda.specs.Layout.{Countable};
 
 // ---- reading
 
@@ -64,6 +66,20 @@ pub fn description_of(answer: Read) -> Description
     match answer {
         Read::Accepted(d) => d,
         Read::Refused { reason: _, line: _ } => no_description(),
+    }
+}
+
+// Three for each row, none of a file that is refused.
+pub fn places_needed(answer: Read) -> u64
+    requires { ⌜ Countable answer ⌝ }
+    ensures { λ r. ⌜ r ≡ placesNeeded answer ⌝ }
+{
+    match answer {
+        Read::Accepted(d) => {
+            let kind = d.kind;
+            3 * count_rows(kind, d.n) as u64
+        }
+        Read::Refused { reason: _, line: _ } => 0,
     }
 }
 

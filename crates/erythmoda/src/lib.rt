@@ -4,6 +4,7 @@ use answers::look_codes;
 use answers::look_number;
 use answers::look_shares;
 use answers::picture_number;
+use answers::places_needed;
 use answers::read_line;
 use answers::read_number;
 use colour::look;
@@ -15,13 +16,14 @@ use layout::pixel_of;
 use layout::rows_laid;
 use layout::weights_laid;
 use picture::picture;
+use reading::check;
 use reading::read;
 use rules::Codes;
 use rules::Look;
 use rules::Picture;
 use rules::Refusal;
 ghost use Rattle.rules.specs.Units.{sameBits};
-ghost use Rattle.rules.specs.Boundary.{ReadsC, LooksC, PicturesC};
+ghost use Rattle.rules.specs.Boundary.{ReadsC, ChecksC, LooksC, PicturesC};
 ghost use Rattle.erythmoda.specs.Layout.{LooksIn};
 
 mod answers;
@@ -40,6 +42,23 @@ pub extern "C" fn erythmoda_read(
     let answer = read(file, table);
     *description = eleven_of(description_of(answer));
     *line = read_line(answer);
+    read_number(answer)
+}
+
+// Judges a file with no table; the description, the line of a refusal, and the places that a table needs.
+#[no_mangle]
+pub extern "C" fn erythmoda_check(
+    file: &[u8],
+    description: &mut [i64; 11],
+    line: &mut u64,
+    places: &mut u64,
+) -> u32
+    ensures { λ r. ⌜ ChecksC (now (file .entry)) r (now (description .exit)) (now (line .exit)) (now (places .exit)) ⌝ }
+{
+    let answer = check(file);
+    *description = eleven_of(description_of(answer));
+    *line = read_line(answer);
+    *places = places_needed(answer);
     read_number(answer)
 }
 

@@ -20,8 +20,8 @@ use Rattle.rules.specs.declared.Item.the-variants.{Nothing, OfTitle, OfLower, O
 use Rattle.rules.specs.declared.Keyword.{Keyword}
 use Rattle.rules.proofs.Reading.OneLine.{find, found}
 use Rattle.rules.proofs.Reading.Order.{formFor}
+use Rattle.rules.proofs.Sound.{range-rows-most}
 use Rattle.rules.proofs.Tests.{need-none, first-none}
-use Rattle.judge.proofs.Rows.{rows-most}
 use Rattle.reading.specs.View.{view, BoundsWithin, Fit, RowWelcome, Welcome}
 use Rattle.reading.specs.declared.state.State.{State}
 use Rattle.reading.proofs.Sized.{head-sized, head-in-range, rows-described}
@@ -39,7 +39,7 @@ row-welcome places {st} f h =
     let fewer = ltb-true (st .rows) (rows (describe (view st))) (need-none _ _ _ count .0) in
     record {
       sized-so = head-sized f places head;
-      room = omega (arith, fewer, rows-described f, rows-most (s .kind) (s .n) (head-in-range f places head));
+      room = omega (arith, fewer, rows-described f, range-rows-most (s .kind) (s .n) (head-in-range f places head));
     }
 
 -- a line whose bytes pass is short

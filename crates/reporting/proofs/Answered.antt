@@ -7,15 +7,13 @@ use native.Mathlib.Omega.{arith}
 use borrow.Author.Tests.{le-leb, lt-leb}
 use lib.Dec.{leb}
 use lib.ListN.{length, drop}
-use Rattle.rules.specs.Reading.Lines.{linesOf}
-use Rattle.rules.specs.Reading.{read, samplesOf}
+use Rattle.rules.specs.Reading.{read}
 use Rattle.rules.specs.Reporting.{reportBytes, reportPlaces, report, answerText, reportText, Reports}
 use Rattle.rules.specs.declared.Description.{Description}
 use Rattle.rules.specs.declared.Read.{Read}
 use Rattle.rules.specs.declared.Read.the-variants.{Accepted, Refused}
 use Rattle.rules.specs.declared.Refusal.the-variants.{InputTooLong}
-use Rattle.rules.proofs.Reading.Acceptance.{accepted-keeps}
-use Rattle.rules.proofs.Reading.Bridge.{in-range}
+use Rattle.rules.proofs.Reading.Bridge.{accepted-in-range}
 use Rattle.rules.proofs.Reporting.Lengths.{title-inside, report-fits}
 use Rattle.lettering.specs.Putting.{Room, Puts}
 use Rattle.reporting.specs.Telling.{Tellable}
@@ -49,7 +47,7 @@ module _ (input : List ℕ) where
   tellable {d} e =
       let accepted = sym (of-reading e) in
       record {
-        range = in-range input reportPlaces d (samplesOf (linesOf input)) (accepted-keeps input reportPlaces d accepted);
+        range = accepted-in-range input reportPlaces d accepted;
         title = record { within = title-inside input reportPlaces d accepted };
       }
 

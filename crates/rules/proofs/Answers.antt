@@ -8,11 +8,11 @@ use borrow.Author.Tests.{leb-true, leb-false}
 use lib.Dec.{leb}
 use lib.IntN.{ℤ, pos}
 use lib.ListN.{length, getD, List·getD-eq-default}
-use Rattle.rules.specs.Reading.{read, tableAfter}
+use Rattle.rules.specs.Reading.{read, check, tableAfter}
 use Rattle.rules.specs.Looking.{look}
 use Rattle.rules.specs.Picturing.{picture, outputAfter}
 use Rattle.rules.specs.Answers.{refusalNumber, readNumber, readLine, readDescription, lookNumber, lookCodes, lookRows, lookWeights, pictureNumber}
-use Rattle.rules.specs.Promises.{Reads, Looks, Pictures}
+use Rattle.rules.specs.Promises.{Reads, Checks, Looks, Pictures}
 use Rattle.rules.specs.declared.Bits.{Bits}
 use Rattle.rules.specs.declared.Codes.{Codes}
 use Rattle.rules.specs.declared.Description.{Description}
@@ -174,12 +174,25 @@ read-again : (r : Read) → readFrom (refusalOf (readNumber r)) (readLine r) (re
 read-again (R.Accepted d) = refl
 read-again (R.Refused r line) = rw (refusal-of-number r)
 
+-- an answer is its number, its line and its description
+read-same : {r s : Read} → readNumber r ≡ readNumber s → readLine r ≡ readLine s → readDescription r ≡ readDescription s → r ≡ s
+read-same {r} {s} number line description =
+    let again : readFrom (refusalOf (readNumber r)) (readLine r) (readDescription r) ≡ _ =
+    λ i. readFrom (refusalOf (number i)) (line i) (description i) in
+    sym (read-again r) ∙ again ∙ read-again s
+
 module _ {file : List ℕ} {table : List ℤ} where
   pub reads-is : {r : Read} {table′ : List ℤ} → Reads file table r table′ → (r ≡ read file (length table)) × (table′ ≡ tableAfter file table (read file (length table)))
-  reads-is {r} p =
-      let again : readFrom (refusalOf (readNumber r)) (readLine r) (readDescription r) ≡ _ =
-      λ i. readFrom (refusalOf (p .number i)) (p .line i) (p .description i) in
-      (sym (read-again r) ∙ again ∙ read-again (read file (length table)), p .memory)
+  reads-is p = (read-same (p .number) (p .line) (p .description), p .memory)
 
   pub is-reads : {r : Read} {table′ : List ℤ} → r ≡ read file (length table) → table′ ≡ tableAfter file table (read file (length table)) → Reads file table r table′
   is-reads e m = record { number = ap readNumber e; line = ap readLine e; description = ap readDescription e; memory = m }
+
+-- ---- a file judged with no table
+
+module _ {file : List ℕ} where
+  pub checks-is : {r : Read} → Checks file r → r ≡ check file
+  checks-is p = read-same (p .number) (p .line) (p .description)
+
+  pub is-checks : {r : Read} → r ≡ check file → Checks file r
+  is-checks e = record { number = ap readNumber e; line = ap readLine e; description = ap readDescription e }

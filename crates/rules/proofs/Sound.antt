@@ -13,7 +13,7 @@ use lib.Seq.{getD-take, length-take-le}
 use lib.Signed.{_<ℤ_, ltZ, leZ, ≤ℤ-refl, ltZ-yes, leZ-yes}
 use Rattle.whole.proofs.Halves as H
 use Rattle.whole.proofs.Held.{passed, true-by, false-by, le-up}
-use Rattle.rules.specs.Units.{sampleLimit, boundLimit, widthLimit, greatestN, rowsOf, rowLimit}
+use Rattle.rules.specs.Units.{sampleLimit, boundLimit, widthLimit, greatestN, inRange, rowsOf, rowLimit}
 use Rattle.rules.specs.Descriptions.{DomainFits, Sound, rows, domain, width, everyColour, boundsFit, ordered, narrow, sameDomain, agree, roomy, samplesFit, couldBeRead}
 use Rattle.rules.specs.declared.Colour.{Colour}
 use Rattle.rules.specs.declared.Colour.the-variants.{Red, Green, Blue}
@@ -34,6 +34,13 @@ greatest-most ThreeD = omega arith
 pub rows-most : (k : Kind) (n : ℕ) → n ≤ greatestN k → rowsOf k n ≤ rowLimit
 rows-most OneD n h = omega arith
 rows-most ThreeD n h = mul-le-mul (mul-le-mul h h) h
+
+-- and so it has where N is in range
+pub range-most : (k : Kind) (n : ℕ) → inRange k n ≡ true → n ≤ greatestN k
+range-most k n e = leb-true _ _ (and-both (leb 2 n) _ e .1)
+
+pub range-rows-most : (k : Kind) (n : ℕ) → inRange k n ≡ true → rowsOf k n ≤ rowLimit
+range-rows-most k n e = rows-most k n (range-most k n e)
 
 -- ---- a domain by itself
 

@@ -1,8 +1,8 @@
 -- Document 01, "Answers by number": for each case of each answer, the paper's number and values.
-use Prim.Native.Nat.{ℕ}
+use Prim.Native.Nat.{ℕ, _*_}
 use mathlib.Core.List.{List, [], _∷_, map}
 use lib.IntN.{ℤ}
-use Rattle.rules.specs.Descriptions.{zeros}
+use Rattle.rules.specs.Descriptions.{zeros, rows}
 use Rattle.rules.specs.Looking.{six}
 use Rattle.rules.specs.declared.Codes.{Codes}
 use Rattle.rules.specs.declared.Description.{Description}
@@ -43,7 +43,7 @@ refusalNumber CodeTooGreat = 23
 refusalNumber CouldNotBeRead = 24
 refusalNumber InputTooLong = 30
 
--- ---- reading: number, line, description
+-- ---- reading: number, line, description; and, of a file that is judged with no table, the places that one needs
 
 abbrev pub readNumber : Read → ℕ
 readNumber (R.Accepted d) = 0
@@ -56,6 +56,11 @@ readLine (R.Refused r n) = n
 abbrev pub readDescription : Read → Description
 readDescription (R.Accepted d) = d
 readDescription (R.Refused r n) = zeros
+
+-- the places that the file's table needs: three for each row, none of a file that is refused
+abbrev pub placesNeeded : Read → ℕ
+placesNeeded (R.Accepted d) = 3 * rows d
+placesNeeded (R.Refused r n) = 0
 
 -- ---- look: number, three codes, six rows, six weights; a refusal gives zeros
 

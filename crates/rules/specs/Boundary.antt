@@ -1,4 +1,4 @@
--- The C boundary: a description as eleven numbers, and the promises of the three calls by the same definitions.
+-- The C boundary: a description as eleven numbers, and the promises of the calls by the same definitions.
 use Prim.Native.Nat.{ℕ, _+_, _<_}
 use mathlib.Core.Path.{_≡_}
 use mathlib.Core.Bool.{Bool, cond, not}
@@ -8,10 +8,10 @@ use lib.Dec.{eqb}
 use lib.ListN.{length, getD}
 use lib.IntN.{ℤ, pos, natAbs}
 use Rattle.whole.specs.Integers.{up}
-use Rattle.rules.specs.Reading.{read, tableAfter}
+use Rattle.rules.specs.Reading.{read, check, tableAfter}
 use Rattle.rules.specs.Looking.{look}
 use Rattle.rules.specs.Picturing.{pixelOf, picture, outputAfter}
-use Rattle.rules.specs.Answers.{readNumber, readLine, readDescription, lookNumber, lookCodes, lookRows, lookWeights, pictureNumber}
+use Rattle.rules.specs.Answers.{readNumber, readLine, readDescription, placesNeeded, lookNumber, lookCodes, lookRows, lookWeights, pictureNumber}
 use Rattle.rules.specs.declared.Bits.{Bits}
 use Rattle.rules.specs.declared.Codes.{Codes}
 use Rattle.rules.specs.declared.Description.{Description}
@@ -134,6 +134,12 @@ pub record ReadsC (file : List ℕ) (table : List ℤ) (number : ℕ) (table′ 
   pub line-so : line′ ≡ readLine (read file (length table))
   pub description-so : eleven′ ≡ elevenOf (readDescription (read file (length table)))
   pub memory : table′ ≡ tableAfter file table (read file (length table))
+
+pub record ChecksC (file : List ℕ) (number : ℕ) (eleven′ : List ℤ) (line′ places′ : ℕ) : Type 0 where
+  pub number-so : number ≡ readNumber (check file)
+  pub line-so : line′ ≡ readLine (check file)
+  pub description-so : eleven′ ≡ elevenOf (readDescription (check file))
+  pub places-so : places′ ≡ placesNeeded (check file)
 
 pub record LooksC (eleven table : List ℤ) (bits : Bits) (pixel : List ℕ) (number : ℕ) (codes′ rows′ : List ℕ) (weights′ : List ℤ) : Type 0 where
   pub number-so : number ≡ lookNumber (lookIn eleven table bits (pixelIn pixel))

@@ -1,10 +1,10 @@
--- Document 01, "What the signature covers": the promises of reading, look and picture, over input, answer and lent memory.
+-- Document 01, "What the signature covers": the promises of reading, look and picture, over input, answer and lent memory; and that of check, a call of ours.
 use Prim.Native.Nat.{ℕ}
 use mathlib.Core.Path.{_≡_}
 use mathlib.Core.List.{List}
 use lib.ListN.{length}
 use lib.IntN.{ℤ}
-use Rattle.rules.specs.Reading.{read, tableAfter}
+use Rattle.rules.specs.Reading.{read, check, tableAfter}
 use Rattle.rules.specs.Looking.{look}
 use Rattle.rules.specs.Picturing.{picture, outputAfter}
 use Rattle.rules.specs.Answers.{readNumber, readLine, readDescription, lookNumber, lookCodes, lookRows, lookWeights, pictureNumber}
@@ -21,6 +21,12 @@ pub record Reads (file : List ℕ) (table : List ℤ) (r : Read) (table′ : Lis
   pub line : readLine r ≡ readLine (read file (length table))
   pub description : readDescription r ≡ readDescription (read file (length table))
   pub memory : table′ ≡ tableAfter file table (read file (length table))
+
+-- judging the file with no table answers r
+pub record Checks (file : List ℕ) (r : Read) : Type 0 where
+  pub number : readNumber r ≡ readNumber (check file)
+  pub line : readLine r ≡ readLine (check file)
+  pub description : readDescription r ≡ readDescription (check file)
 
 -- looking at one pixel, at depths of so many bits, answers r
 pub record Looks (d : Description) (table : List ℤ) (bits : Bits) (pixel : Codes) (r : Look) : Type 0 where

@@ -4,6 +4,7 @@ use mathlib.Core.List.{List, [], _∷_, _++_}
 use mathlib.Core.Option.{none, some}
 use lib.ListN.{length, drop}
 use lib.IntN.{ℤ}
+use Rattle.rules.specs.Units.{placeLimit}
 use Rattle.rules.specs.Descriptions.{rows}
 use Rattle.rules.specs.Reading.Lines.{linesOf}
 use Rattle.rules.specs.Reading.Items.{numbersOf}
@@ -43,6 +44,10 @@ readLines places p n st (l ∷ ls) = onward (λ st′. readLines places (p + len
 -- what reading a file into a table of so many places answers
 unfoldable pub read : List ℕ → ℕ → Read
 read file places = readLines places 0 0 start (linesOf file)
+
+-- what a file answers that is judged with no table: what reading answers where there is room for every table
+unfoldable pub check : List ℕ → Read
+check file = read file placeLimit
 
 -- the samples of a line
 unfoldable pub samplesIn : Content → List ℤ

@@ -104,6 +104,10 @@ rowsOf ThreeD n = n * n * n
 abbrev pub rowLimit : ℕ
 rowLimit = 16_777_216
 
+-- three numbers to a row: a table of so many places holds every table
+abbrev pub placeLimit : ℕ
+placeLimit = 3 * rowsOf ThreeD (greatestN ThreeD)
+
 -- red index r, green g, blue b is row r + N·g + N·N·b
 abbrev pub rowAt : ℕ → (Colour → ℕ) → ℕ
 rowAt n i = i Red + n * i Green + n * n * i Blue

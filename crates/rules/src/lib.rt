@@ -141,6 +141,9 @@ impl Kind {
     pub const MOST_1D: usize = 65_536;
 
     pub const MOST_3D: usize = 256;
+
+    // The places of the greatest table, three for each row.
+    pub const MOST_PLACES: usize = 3 * Kind::MOST_3D * Kind::MOST_3D * Kind::MOST_3D;
 }
 
 // What a size line gives.

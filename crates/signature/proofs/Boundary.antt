@@ -8,7 +8,9 @@ pub mod Reads
 pub mod Looks
 pub mod Pictures
 pub mod Together
+pub mod Checks
 -- wrong calls that the promises rule out
 pub mod WrongReads
+pub mod WrongChecks
 pub mod WrongLooks
 pub mod WrongPictures

@@ -9,8 +9,12 @@ pub mod LineNumbers
 -- the order of the checks
 pub mod Checks
 pub mod Order
--- the numbers that it answers, and what its promise decides
+-- the room that a table needs; the numbers that reading answers, and what its promise decides
+pub mod Room
 pub mod Numbers
 pub mod Promised
--- wrong readers that it rules out
+-- the file judged with no table
+pub mod Checking
+-- wrong readers and checkers that the promises rule out
 pub mod WrongPrograms
+pub mod WrongChecks

@@ -3,14 +3,14 @@ use Prim.Native.Nat.{ℕ}
 use mathlib.Core.Path.{_≡_, sym, _∙_}
 use mathlib.Core.List.{List}
 use lib.IntN.{ℤ}
-use Rattle.rules.specs.Promises.{Reads, Looks, Pictures}
+use Rattle.rules.specs.Promises.{Reads, Checks, Looks, Pictures}
 use Rattle.rules.specs.declared.Bits.{Bits}
 use Rattle.rules.specs.declared.Codes.{Codes}
 use Rattle.rules.specs.declared.Description.{Description}
 use Rattle.rules.specs.declared.Look.{Look}
 use Rattle.rules.specs.declared.Picture.{Picture}
 use Rattle.rules.specs.declared.Read.{Read}
-use Rattle.rules.proofs.Answers.{looks-is, pictures-is, reads-is}
+use Rattle.rules.proofs.Answers.{checks-is, looks-is, pictures-is, reads-is}
 
 module _ {d : Description} {table : List ℤ} {bits : Bits} {pixel : Codes} where
   pub looks-one : {r s : Look} → Looks d table bits pixel r → Looks d table bits pixel s → r ≡ s
@@ -23,3 +23,6 @@ module _ {d : Description} {table : List ℤ} {bits : Bits} {src dst : List ℕ}
 module _ {file : List ℕ} {table : List ℤ} where
   pub reads-one : {r s : Read} {table′ table″ : List ℤ} → Reads file table r table′ → Reads file table s table″ → (r ≡ s) × (table′ ≡ table″)
   reads-one p q = (reads-is p .0 ∙ sym (reads-is q .0), p .memory ∙ sym (q .memory))
+
+pub checks-one : {file : List ℕ} {r s : Read} → Checks file r → Checks file s → r ≡ s
+checks-one p q = checks-is p ∙ sym (checks-is q)

@@ -4,7 +4,7 @@ use crate::cases::{CUBE, SAMPLE_A2, SAMPLE_A3, SAMPLE_A4};
 use crate::look::{look, Look};
 use crate::paper::{Description, REFUSED_DESCRIPTION};
 use crate::picture::picture;
-use crate::reading::{read, read_into};
+use crate::reading::{check, read, read_into};
 use crate::report::report;
 
 /// The number for a file whose first sample is the word, and that sample if accepted.
@@ -77,6 +77,26 @@ fn sizes() {
     assert_eq!(number_for(CUBE, 23), 13);
     let empty = read(b"", 0);
     assert_eq!((empty.number, empty.line), (9, 1));
+}
+
+/// Judged with no table: number, line and places.
+fn checked(file: &str) -> (u32, u64, u64) {
+    let check = check(file.as_bytes());
+    assert_eq!(check.description == REFUSED_DESCRIPTION, check.number != 0);
+    (check.number, check.line, check.places)
+}
+
+#[test]
+fn with_no_table() {
+    assert_eq!(checked("LUT_1D_SIZE 65536\n"), (18, 2, 0));
+    assert_eq!(checked("LUT_1D_SIZE 65537\n"), (7, 1, 0));
+    assert_eq!(checked("LUT_3D_SIZE 256\n"), (18, 2, 0));
+    assert_eq!(checked("LUT_3D_SIZE 257\n"), (7, 1, 0));
+    assert_eq!(checked(""), (9, 1, 0));
+    assert_eq!(checked("LUT_1D_SIZE 2\n0 0 0\n0 0 x\n"), (15, 3, 0));
+    assert_eq!(checked(CUBE), (0, 0, 24));
+    assert_eq!(checked(SAMPLE_A3), (0, 0, 9));
+    assert_eq!(check(SAMPLE_A3.as_bytes()).description, [1, 3, 0, 0, 0, 1000, 2000, 3000, 1, 7, 4]);
 }
 
 /// 1D, N = 2, 8 bits, all colours alike.

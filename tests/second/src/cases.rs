@@ -8,6 +8,7 @@
 //!
 //! - read: number, line, the eleven numbers of the description, then every place of the
 //!   lent table afterwards. Before the call every place held 7.
+//! - check: number, line, the eleven numbers of the description, then the places.
 //! - look: number, three codes, six rows, six weights.
 //! - picture: number, then every place of the lent output afterwards. Before the call
 //!   every place held 7.
@@ -62,10 +63,24 @@
 //! | picture-of-five-codes | the first five of PIXELS | 6 |
 //! | picture-into-five-places | PIXELS | 5 |
 //! | picture-code-256 | 0 0 256 | 3 |
+//!
+//! Checks, with no table:
+//!
+//! | name | file |
+//! |---|---|
+//! | check-size-1d-65536 | `LUT_1D_SIZE 65536`, NL |
+//! | check-size-1d-65537 | `LUT_1D_SIZE 65537`, NL |
+//! | check-size-3d-256 | `LUT_3D_SIZE 256`, NL |
+//! | check-size-3d-257 | `LUT_3D_SIZE 257`, NL |
+//! | check-empty | nothing |
+//! | check-cube | CUBE |
+//! | check-sample-a3 | sample A.3, each line ended by NL |
+//!
+//! A size that passes is answered 18 here, for want of rows.
 
 use crate::look::look;
 use crate::picture::picture;
-use crate::reading::read_into;
+use crate::reading::{check, read_into};
 use crate::show::list;
 
 pub const CUBE: &str = "LUT_3D_SIZE 2\n0 0 0\n0 0 0\n0 0 0\n0 0 0\n0 0 0\n0 0 0\n0 0 0\n1 1 1\n";
@@ -88,7 +103,16 @@ pub fn printed() -> String {
         picture_line("picture-into-five-places", &pixels, 5),
         picture_line("picture-code-256", &[0, 0, 256], 3),
     ];
-    reads.chain(looks).chain(pictures).map(|line| line + "\n").collect()
+    let checks = [
+        check_line("check-size-1d-65536", "LUT_1D_SIZE 65536\n"),
+        check_line("check-size-1d-65537", "LUT_1D_SIZE 65537\n"),
+        check_line("check-size-3d-256", "LUT_3D_SIZE 256\n"),
+        check_line("check-size-3d-257", "LUT_3D_SIZE 257\n"),
+        check_line("check-empty", ""),
+        check_line("check-cube", CUBE),
+        check_line("check-sample-a3", SAMPLE_A3),
+    ];
+    reads.chain(looks).chain(pictures).chain(checks).map(|line| line + "\n").collect()
 }
 
 fn word(word: &str) -> String {
@@ -159,5 +183,13 @@ fn picture_line(name: &str, source: &[u16], places: usize) -> String {
     let number = picture(&description, &table, 8, source, &mut output);
     let mut fields = vec![i64::from(number)];
     fields.extend(output.into_iter().map(i64::from));
+    format!("{name}\t{}", list(&fields, "\t"))
+}
+
+fn check_line(name: &str, file: &str) -> String {
+    let check = check(file.as_bytes());
+    let mut fields = vec![i64::from(check.number), check.line as i64];
+    fields.extend(check.description);
+    fields.push(check.places as i64);
     format!("{name}\t{}", list(&fields, "\t"))
 }

@@ -5,6 +5,7 @@
 
 use crate::gen::{FileCase, LookCase, PictureCase};
 use crate::look::Look;
+use crate::reading::Check;
 use crate::side::{code_pattern, pattern, PictureAnswer, ReadAnswer, Side};
 use std::fmt::Debug;
 
@@ -16,6 +17,13 @@ extern "C" {
         table_len: usize,
         description: *mut i64,
         line: *mut u64,
+    ) -> u32;
+    fn erythmoda_check(
+        file: *const u8,
+        file_len: usize,
+        description: *mut i64,
+        line: *mut u64,
+        places: *mut u64,
     ) -> u32;
     fn erythmoda_look(
         description: *const i64,
@@ -117,6 +125,31 @@ impl Side for Ours {
             description: eleven,
             table: table.now().to_vec(),
         })
+    }
+
+    fn check(&self, case: &FileCase) -> Result<Check, String> {
+        let mut file = Lent::of(&case.file, 0x0A);
+        let mut description = Lent::new((0..11).map(pattern), -2);
+        let mut line = Lent::of(&[0xDEAD_BEEF_u64], 3);
+        let mut places = Lent::of(&[0xFEED_FACE_u64], 4);
+        // SAFETY: each pointer is to as many places as are told, or as the boundary fixes.
+        let number = unsafe {
+            erythmoda_check(
+                file.pointer(),
+                case.file.len(),
+                description.pointer(),
+                line.pointer(),
+                places.pointer(),
+            )
+        };
+        file.unchanged("the file")?;
+        description.guarded("the description")?;
+        line.guarded("the line")?;
+        places.guarded("the places")?;
+        let mut eleven = [0; 11];
+        eleven.copy_from_slice(description.now());
+        let (line, places) = (line.now()[0], places.now()[0]);
+        Ok(Check { number, line, description: eleven, places })
     }
 
     fn look(&self, case: &LookCase) -> Result<Look, String> {

@@ -18,8 +18,30 @@ pub struct Reading {
     pub samples: Vec<i64>,
 }
 
+/// The complete answer for a file judged with no table.
+#[derive(Clone, PartialEq, Eq, Debug)]
+pub struct Check {
+    pub number: u32,
+    pub line: u64,
+    pub description: Description,
+    pub places: u64,
+}
+
 /// Reads a file for a table of so many places.
 pub fn read(file: &[u8], table_len: usize) -> Reading {
+    judged(file, Some(table_len))
+}
+
+/// Judges a file with no table, so that 13 is not tried. The places that a table needs are as
+/// many as the file has samples; "a refusal" has none.
+pub fn check(file: &[u8]) -> Check {
+    let reading = judged(file, None);
+    let (number, line, description) = (reading.number, reading.line, reading.description);
+    Check { number, line, description, places: reading.samples.len() as u64 }
+}
+
+/// Takes a file line by line; without a table's length there is room for any.
+fn judged(file: &[u8], table_len: Option<usize>) -> Reading {
     let mut file_so_far = SoFar::new(table_len);
     let mut first_place = 0;
     let mut line_number = 0;
@@ -96,7 +118,7 @@ impl Keyword {
 
 /// What the lines so far have said.
 struct SoFar {
-    table_len: usize,
+    table_len: Option<usize>,
     title: Option<Title>,
     lower: Option<[i64; 3]>,
     upper: Option<[i64; 3]>,
@@ -113,7 +135,7 @@ struct Title {
 }
 
 impl SoFar {
-    fn new(table_len: usize) -> SoFar {
+    fn new(table_len: Option<usize>) -> SoFar {
         SoFar {
             table_len,
             title: None,
@@ -217,7 +239,7 @@ impl SoFar {
             return Err(number::DOMAINS_DIFFER);
         }
         let rows = kind.rows(n);
-        if self.table_len < 3 * rows {
+        if self.table_len.is_some_and(|places| places < 3 * rows) {
             return Err(number::TABLE_SHORT);
         }
         Ok(rows)

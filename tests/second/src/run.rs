@@ -4,6 +4,7 @@ use crate::gen::{file_case, look_case, picture_case, FileCase, LookCase, Picture
 use crate::look::Look;
 use crate::met::{met, NAMES};
 use crate::paper::number;
+use crate::reading::Check;
 use crate::show::{list, quoted, shortened, where_not_zero};
 use crate::side::{pattern, PictureAnswer, ReadAnswer, Second, Side};
 use crate::small::{smaller_file, smaller_look, smaller_picture};
@@ -21,6 +22,8 @@ pub struct Wanted {
 
 /// The numbers that each call can answer.
 const READ_NUMBERS: std::ops::RangeInclusive<u32> = number::ACCEPTED..=number::TOO_FEW_ROWS;
+/// Check answers those of reading but this one.
+const NEVER_BY_CHECK: u32 = number::TABLE_SHORT;
 const LOOK_NUMBERS: [u32; 4] =
     [number::ACCEPTED, number::DEPTH_UNKNOWN, number::CODE_ABOVE_M, number::NOT_FROM_READING];
 const PICTURE_NUMBERS: [u32; 6] = [
@@ -36,6 +39,7 @@ const PICTURE_NUMBERS: [u32; 6] = [
 #[derive(Default)]
 pub struct Counts {
     read: BTreeMap<u32, u64>,
+    check: BTreeMap<u32, u64>,
     look: BTreeMap<u32, u64>,
     picture: BTreeMap<u32, u64>,
     met: [u64; NAMES.len()],
@@ -52,7 +56,8 @@ impl Counts {
             NAMES.iter().zip(self.met).map(|(name, many)| format!("{name} {many}")).collect();
         let met = if self.look.is_empty() { String::new() } else { list(&met, ", ") };
         let looks = line("look", &self.look) + &lines_of("looks met", &met);
-        line("read", &self.read) + &looks + &line("picture", &self.picture)
+        let files = line("read", &self.read) + &line("check", &self.check);
+        files + &looks + &line("picture", &self.picture)
     }
 
     fn note_met(&mut self, case: &LookCase, look: &Look) {
@@ -71,6 +76,8 @@ impl Counts {
             missing.extend(unseen.map(|n| format!("{name} {n}")));
         };
         note("read", wanted.tables, &self.read, &READ_NUMBERS.collect::<Vec<_>>());
+        let of_check: Vec<u32> = READ_NUMBERS.filter(|n| *n != NEVER_BY_CHECK).collect();
+        note("check", wanted.tables, &self.check, &of_check);
         note("look", wanted.looks, &self.look, &LOOK_NUMBERS);
         note("picture", wanted.pictures, &self.picture, &PICTURE_NUMBERS);
         let unmet = NAMES.iter().zip(self.met).filter(|(_, many)| wanted.looks > 0 && *many == 0);
@@ -93,8 +100,11 @@ fn lines_of(name: &str, text: &str) -> String {
 pub fn run(wanted: &Wanted, other: Option<&dyn Side>) -> Result<Counts, String> {
     let mut counts = Counts::default();
     for index in 0..wanted.tables {
-        let number = one_file(&file_case(wanted.seed, index), other).map_err(|d| told(index, d))?;
+        let case = file_case(wanted.seed, index);
+        let number = one_file(&case, other).map_err(|d| told(index, d))?;
         *counts.read.entry(number).or_default() += 1;
+        let number = one_check(&case, other).map_err(|d| told(index, d))?;
+        *counts.check.entry(number).or_default() += 1;
     }
     for index in 0..wanted.looks {
         let case = look_case(wanted.seed, index);
@@ -118,10 +128,43 @@ fn one_file(case: &FileCase, other: Option<&dyn Side>) -> Result<u32, String> {
     let own = Second.read(case)?;
     match other {
         Some(side) if side.read(case).as_ref() != Ok(&own) => {
-            Err(tell_file(&smaller_file(case, side), side))
+            let differs = |case: &FileCase| side.read(case) != Second.read(case);
+            Err(tell_file(&smaller_file(case, differs), side))
         }
         _ => Ok(own.number),
     }
+}
+
+fn one_check(case: &FileCase, other: Option<&dyn Side>) -> Result<u32, String> {
+    let own = checked(&Second, case)?;
+    match other {
+        Some(side) if checked(side, case).as_ref() != Ok(&own) => {
+            let differs = |case: &FileCase| checked(side, case) != checked(&Second, case);
+            Err(tell_check(&smaller_file(case, differs), side))
+        }
+        _ => Ok(own.number),
+    }
+}
+
+/// What a side answers for a file with no table, put to what it then reads. An accepted file
+/// has to be read alike into as many places as were told, and to be 13 in one place fewer. A
+/// refused one has to be refused alike in the case's own table, or with 13 on no later line.
+fn checked(side: &dyn Side, case: &FileCase) -> Result<Check, String> {
+    let check = side.check(case)?;
+    let into = |table_len: u64| {
+        let read = side.read(&FileCase { table_len: table_len as usize, ..case.clone() })?;
+        Ok::<_, String>((read.number, read.line, read.description))
+    };
+    let answer = (check.number, check.line, check.description);
+    let agrees = if check.number == number::ACCEPTED {
+        let (short, _, _) = into(check.places.saturating_sub(1))?;
+        into(check.places)? == answer && short == number::TABLE_SHORT
+    } else {
+        let (number, line, description) = into(case.table_len as u64)?;
+        let short = number == number::TABLE_SHORT && line <= check.line;
+        check.places == 0 && (short || (number, line, description) == answer)
+    };
+    agrees.then_some(check.clone()).ok_or(format!("{check:?}, and reading answers otherwise"))
 }
 
 fn one_look(case: &LookCase, other: Option<&dyn Side>) -> Result<Look, String> {
@@ -156,6 +199,17 @@ fn tell_file(case: &FileCase, side: &dyn Side) -> String {
             "number {} line {} description {description} table {table}",
             answer.number, answer.line
         )
+    })
+}
+
+fn tell_check(case: &FileCase, side: &dyn Side) -> String {
+    let mut text = format!("check, made by: {}\n", case.made.join("; "));
+    let _ = writeln!(text, "file:   {}", quoted(&case.file));
+    let _ = writeln!(text, "table places of a reading: {}", case.table_len);
+    text + &two(checked(&Second, case), checked(side, case), |check: &Check| {
+        let description = list(&check.description, " ");
+        let (number, line, places) = (check.number, check.line, check.places);
+        format!("number {number} line {line} description {description} places {places}")
     })
 }
 
@@ -237,6 +291,10 @@ mod tests {
             Ok(answer)
         }
 
+        fn check(&self, case: &FileCase) -> Result<Check, String> {
+            Second.check(case)
+        }
+
         fn look(&self, case: &LookCase) -> Result<Look, String> {
             Second.look(case)
         }
@@ -259,5 +317,37 @@ mod tests {
         assert!(file.len() < 60, "{file}");
         let wanted = Wanted { seed: 1, tables: 0, looks: 10, pictures: 100 };
         assert!(run(&wanted, Some(&FourFields)).is_err());
+    }
+
+    /// A side with another mistake: check tells one place too few.
+    struct OnePlaceFewer;
+
+    impl Side for OnePlaceFewer {
+        fn read(&self, case: &FileCase) -> Result<ReadAnswer, String> {
+            Second.read(case)
+        }
+
+        fn check(&self, case: &FileCase) -> Result<Check, String> {
+            let mut check = Second.check(case)?;
+            check.places = check.places.saturating_sub(1);
+            Ok(check)
+        }
+
+        fn look(&self, case: &LookCase) -> Result<Look, String> {
+            Second.look(case)
+        }
+
+        fn picture(&self, case: &PictureCase) -> Result<PictureAnswer, String> {
+            Second.picture(case)
+        }
+    }
+
+    #[test]
+    fn a_difference_of_check_is_found_and_made_small() {
+        let wanted = Wanted { seed: 1, tables: 100, looks: 0, pictures: 0 };
+        let told = run(&wanted, Some(&OnePlaceFewer)).err().unwrap_or_default();
+        assert!(told.contains("check, made by") && told.contains("answers otherwise"), "{told}");
+        let file = told.lines().find(|line| line.starts_with("file:")).unwrap_or("");
+        assert!(file.len() < 100, "{file}");
     }
 }

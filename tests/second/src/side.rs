@@ -1,11 +1,11 @@
-//! The three calls as a comparison sees them: each side is given the same lent memory,
+//! The four calls as a comparison sees them: each side is given the same lent memory,
 //! filled with the same pattern, and answers with all of it.
 
 use crate::gen::{FileCase, LookCase, PictureCase};
 use crate::look::{look, Look};
 use crate::paper::Description;
 use crate::picture::picture;
-use crate::reading::read_into;
+use crate::reading::{check, read_into, Check};
 
 /// All that reading leaves behind.
 #[derive(Clone, PartialEq, Eq, Debug)]
@@ -23,10 +23,11 @@ pub struct PictureAnswer {
     pub output: Vec<u16>,
 }
 
-/// A program that answers the three calls. An error tells of memory changed that was not
+/// A program that answers the four calls. An error tells of memory changed that was not
 /// lent, or lent for reading only.
 pub trait Side {
     fn read(&self, case: &FileCase) -> Result<ReadAnswer, String>;
+    fn check(&self, case: &FileCase) -> Result<Check, String>;
     fn look(&self, case: &LookCase) -> Result<Look, String>;
     fn picture(&self, case: &PictureCase) -> Result<PictureAnswer, String>;
 }
@@ -50,6 +51,10 @@ impl Side for Second {
         let reading = read_into(&case.file, &mut table);
         let (number, line, description) = (reading.number, reading.line, reading.description);
         Ok(ReadAnswer { number, line, description, table })
+    }
+
+    fn check(&self, case: &FileCase) -> Result<Check, String> {
+        Ok(check(&case.file))
     }
 
     fn look(&self, case: &LookCase) -> Result<Look, String> {

@@ -12,8 +12,7 @@ pub fn fewer_bytes(file: &[u8], tries: usize, differs: impl Fn(&[u8]) -> bool) -
 
 /// A file without the lines, bytes and table places that the difference does not need.
 /// Long files are tried fewer times.
-pub fn smaller_file(case: &FileCase, side: &dyn Side) -> FileCase {
-    let differs = |case: &FileCase| side.read(case) != Second.read(case);
+pub fn smaller_file(case: &FileCase, differs: impl Fn(&FileCase) -> bool) -> FileCase {
     let tries = 200 + 20_000_000 / (case.file.len() + 1);
     let with_file = |file: Vec<u8>| FileCase { file, ..case.clone() };
     let bytes = fewer_bytes(&case.file, tries, |bytes| differs(&with_file(bytes.to_vec())));

@@ -23,7 +23,7 @@ description-of-requires c κs = search needs
 eleven-of-requires : tie.Need-eleven-of-requires
 eleven-of-requires c κs =
     let start = c .before .before .before .before .before in
-    subst Crossable (sym (c .description-of .ensures ∙ c .before .before .read .ensures .description)) (description-fits (now (start .args .file)) (now (start .args .table)) (held start))
+    subst Crossable (sym (c .description-of .ensures ∙ c .before .before .read .ensures .description)) (description-fits (now (start .args .file)) (length (now (start .args .table))) (held start))
 
 read-line-requires : tie.Need-read-line-requires
 read-line-requires c κs = search needs

@@ -11,8 +11,7 @@ use lib.Seq.{length-take-le}
 use Rattle.rules.specs.Units.{inRange, rowLimit}
 use Rattle.rules.specs.Descriptions.{rows, everyColour, boundsFit, ordered, narrow, agree, roomy, samplesFit, couldBeRead}
 use Rattle.rules.specs.declared.Description.{Description}
-use Rattle.rules.proofs.Sound.{too-short}
-use Rattle.judge.proofs.Rows.{rows-most}
+use Rattle.rules.proofs.Sound.{range-rows-most, too-short}
 use Rattle.judge.proofs.could_be_read.Statement.{statement}
 use Rattle.judge.proofs.could_be_read.Tie as tie
 
@@ -51,7 +50,7 @@ agreed c = sym (c .before .agree .ensures) ∙ not-false _ (c .if5 .left)
 small : (c : tie.After-count-rows) → c .count-rows .result ≤ rowLimit
 small c =
     let d = d5 (c .before) in
-    rw (c .count-rows .ensures) (rows-most (d .kind) (d .n) (ranged (c .before .before .before .before .before .before .before .before .before)))
+    rw (c .count-rows .ensures) (range-rows-most (d .kind) (d .n) (ranged (c .before .before .before .before .before .before .before .before .before)))
 
 in-range-requires : tie.Need-in-range-requires
 in-range-requires c κs = search needs

@@ -33,33 +33,33 @@ use Rattle.rules.specs.declared.Share.{Share}
 use Rattle.rules.specs.declared.Title.{Title}
 use Rattle.rules.proofs.Boundary.Described.{called-each}
 use Rattle.rules.proofs.Reading.Acceptance.{accepted-keeps}
-use Rattle.rules.proofs.Reading.Bridge.{bridge}
+use Rattle.rules.proofs.Reading.Bridge.{accepted-in-range}
 use Rattle.rules.proofs.Looking.Demand3.{right}
 use Rattle.rules.proofs.KnownDepths.{depths-bounds}
-use Rattle.rules.proofs.Sound.{rows-most, sound-of}
+use Rattle.rules.proofs.Sound.{range-most, rows-most, sound-of}
 use Rattle.rules.proofs.Reading.Titles.{title-or-none, titled-inside}
 
 -- ---- a description
 
-module _ (file : List ℕ) (table : List ℤ) (held : length file < 9_223_372_036_854_775_808) where
+module _ (file : List ℕ) (places : ℕ) (held : length file < 9_223_372_036_854_775_808) where
   title-fits : (t : Title) → (t ≡ noTitle) ⊎ Titled file t → (t .place < 9_223_372_036_854_775_808) × (t .length < 9_223_372_036_854_775_808)
   title-fits t (inl e) = rw e (omega arith, omega arith)
   title-fits t (inr h) = let inside = titled-inside file t h in (omega (arith, inside, held), omega (arith, inside, held))
 
-  accepted-fits : (d : Description) → read file (length table) ≡ R.Accepted d → Crossable d
+  accepted-fits : (d : Description) → read file places ≡ R.Accepted d → Crossable d
   accepted-fits d e =
-      let t = title-fits (d .title) (title-or-none file (length table) d _ (accepted-keeps file (length table) d e)) in
-      record { size = small (d .kind) (sound-of d _ (bridge file table d e) .most); place = t .0; span = t .1 }
+      let t = title-fits (d .title) (title-or-none file places d _ (accepted-keeps file places d e)) in
+      record { size = small (d .kind) (range-most (d .kind) (d .n) (accepted-in-range file places d e)); place = t .0; span = t .1 }
     where
       small : (k : Kind) → d .n ≤ greatestN k → d .n < 9_223_372_036_854_775_808
       small OneD h = omega arith
       small ThreeD h = omega arith
 
   -- whatever reading describes, of a file that a machine can hold
-  pub description-fits : Crossable (readDescription (read file (length table)))
-  description-fits = by (read file (length table)) refl
+  pub description-fits : Crossable (readDescription (read file places))
+  description-fits = by (read file places) refl
     where
-      by : (r : Read) → read file (length table) ≡ r → Crossable (readDescription r)
+      by : (r : Read) → read file places ≡ r → Crossable (readDescription r)
       by (R.Accepted d) e = accepted-fits d e
       by (R.Refused reason n) e = record { size = omega arith; place = omega arith; span = omega arith }
 

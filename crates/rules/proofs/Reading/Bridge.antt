@@ -56,8 +56,8 @@ only-one P (y ∷ z ∷ more) default x d a e = absurd e
 
 -- ---- a size in range, bounds and samples within their limits
 
-sized : (p : ℕ) (l : List ℕ) (i : Item) (s : Size) → sizeIn i ≡ some s → Line p l i → inRange (s .kind) (s .n) ≡ true
-sized p l i s e h = subst (λ (j : Item). Line p l j) (size-item i s e) h .gives .range
+pub size-in-range : (p : ℕ) (l : List ℕ) (i : Item) (s : Size) → sizeIn i ≡ some s → Line p l i → inRange (s .kind) (s .n) ≡ true
+size-in-range p l i s e h = subst (λ (j : Item). Line p l j) (size-item i s e) h .gives .range
 
 abbrev WithinBounds : Bounds → Type 0
 WithinBounds b = (natAbs (b .red .0) ≤ boundLimit) × ((natAbs (b .green .0) ≤ boundLimit) × (natAbs (b .blue .0) ≤ boundLimit))
@@ -87,7 +87,7 @@ rows-fit (r ∷ rs) a =
 
 module _ (file : List ℕ) (places : ℕ) (d : Description) (samples : List ℤ) (k : Keeps file places d samples) where
   pub in-range : inRange (d .kind) (d .n) ≡ true
-  in-range = (rw (k .size) at (gathered sizeIn (λ s. inRange (s .kind) (s .n) ≡ true) sized 0 (linesOf file) (k .items) (k .lines))) .0
+  in-range = (rw (k .size) at (gathered sizeIn (λ s. inRange (s .kind) (s .n) ≡ true) size-in-range 0 (linesOf file) (k .items) (k .lines))) .0
 
   lowers-within : WithinBounds (lowers d)
   lowers-within = only-one WithinBounds (gather lowerIn (k .items)) lowest (lowers d) (omega arith, (omega arith, omega arith)) (gathered lowerIn WithinBounds low 0 (linesOf file) (k .items) (k .lines)) (k .lower)
@@ -121,6 +121,10 @@ module _ (file : List ℕ) (places : ℕ) (d : Description) (samples : List ℤ)
       (both-and _ _ (k .agree-so)
       (both-and _ _ (le-leb _ _ long)
       (rw (take-at samples rest (3 * rows d) n) samples-fit))))))
+
+-- what is accepted has an N in range
+pub accepted-in-range : (file : List ℕ) (places : ℕ) (d : Description) → read file places ≡ Accepted d → inRange (d .kind) (d .n) ≡ true
+accepted-in-range file places d h = in-range file places d (samplesOf (linesOf file)) (accepted-keeps file places d h)
 
 pub bridge : (file : List ℕ) (table : List ℤ) (d : Description) → read file (length table) ≡ Accepted d → couldBeRead d (tableAfter file table (Accepted d)) ≡ true
 unfolding tableAfter

@@ -7,7 +7,7 @@ use lib.IntN.{ℤ}
 use lib.ListN.{length}
 use Rattle.rules.specs.Looking.{look}
 use Rattle.rules.specs.Picturing.{picture, outputAfter}
-use Rattle.rules.specs.Boundary.{elevenOf, describedIn, lookIn, pictureIn, outputIn, ReadsC, LooksC, PicturesC, called}
+use Rattle.rules.specs.Boundary.{elevenOf, describedIn, lookIn, pictureIn, outputIn, ReadsC, ChecksC, LooksC, PicturesC, called}
 use Rattle.rules.specs.declared.Codes.{Codes}
 use Rattle.rules.specs.declared.Description.{Description}
 use Rattle.rules.specs.declared.Kind.{Kind}
@@ -49,6 +49,10 @@ pub reads-c-one : {file : List ℕ} {table t u v w : List ℤ} {m n k l : ℕ} �
     → (m ≡ n) × (t ≡ u) × (v ≡ w) × (k ≡ l)
 reads-c-one p q =
     (p .number-so ∙ sym (q .number-so), p .memory ∙ sym (q .memory), p .description-so ∙ sym (q .description-so), p .line-so ∙ sym (q .line-so))
+
+pub checks-c-one : {file : List ℕ} {v w : List ℤ} {m n k l p q : ℕ} → ChecksC file m v k p → ChecksC file n w l q → (m ≡ n) × (v ≡ w) × (k ≡ l) × (p ≡ q)
+checks-c-one a b =
+    (a .number-so ∙ sym (b .number-so), a .description-so ∙ sym (b .description-so), a .line-so ∙ sym (b .line-so), a .places-so ∙ sym (b .places-so))
 
 pub looks-c-one : {eleven table v w : List ℤ} {bits : Bits} {m n : ℕ} {pixel a b r s : List ℕ} → LooksC eleven table bits pixel m a r v → LooksC eleven table bits pixel n b s w
     → (m ≡ n) × (a ≡ b) × (r ≡ s) × (v ≡ w)

@@ -1,21 +1,23 @@
--- Reading answers 0 to 18.
-use Prim.Native.Nat.{ℕ, suc, _+_, _≤_}
+-- Reading answers 0 to 18, and 13 only where the table is shorter than the greatest table: so check, which has room for every table, never answers 13.
+use Prim.Native.Nat.{ℕ, suc, _+_, _≤_, _<_}
+use mathlib.Core.Path.{_≡_, refl, sym, _∙_}
 use mathlib.Core.Bool.{Bool, true, false, not, _&&_}
 use mathlib.Core.List.{List, [], _∷_}
 use mathlib.Core.Option.{Option, none, some}
 use native.Mathlib.Omega.{arith}
+use borrow.Author.Tests.{leb-true, eqb-false, not-true}
 use lib.Dec.{eqb, leb, ltb}
 use lib.IntN.{ℤ}
 use lib.ListN.{length}
-use Rattle.rules.specs.Units.{boundLimit, boundPlaces, inRange, sampleLimit, samplePlaces}
+use Rattle.rules.specs.Units.{boundLimit, boundPlaces, inRange, placeLimit, sampleLimit, samplePlaces}
 use Rattle.rules.specs.Descriptions.{agree, everyColour, narrow, ordered, roomy, rows}
 use Rattle.rules.specs.Reading.Lines.{lineLimit, after, blank, every, inTitle, inWord, linesOf, permitted, quote, wordsOf}
 use Rattle.rules.specs.Reading.Numerals.{digits, spell}
 use Rattle.rules.specs.Reading.Contents.{boundsOf, closes, contentBy, contentOf, formOf, parameters, quoted, samplesOn, sizeOf, threeOf, titleOf, valued, values}
 use Rattle.rules.specs.Reading.Judge.{Fault, Verdict, State, byteFault, describe, domainFault, endFault, first, given, go, headFault, judge, need, orderFault, refuse, repeats, start, take-in, unless}
-use Rattle.rules.specs.Reading.{finish, onward, read, readLines}
+use Rattle.rules.specs.Reading.{check, finish, onward, read, readLines}
 use Rattle.rules.specs.Answers.{readNumber, refusalNumber}
-use Rattle.rules.specs.Promises.{Reads}
+use Rattle.rules.specs.Promises.{Checks, Reads}
 use Rattle.rules.specs.declared.Bounds.{Bounds}
 use Rattle.rules.specs.declared.Content.{Content}
 use Rattle.rules.specs.declared.Content.the-variants.{Says, Wrong}
@@ -29,150 +31,202 @@ use Rattle.rules.specs.declared.Kind.{Kind}
 use Rattle.rules.specs.declared.Number.{Number}
 use Rattle.rules.specs.declared.Number.the-variants.{Value, Malformed, Beyond, Finer}
 use Rattle.rules.specs.declared.Read.{Read}
+use Rattle.rules.specs.declared.Read.the-variants.{Accepted, Refused}
 use Rattle.rules.specs.declared.Refusal.{Refusal}
-use Rattle.rules.specs.declared.Refusal.the-variants.{LineTooLong, ByteNotPermitted, KeywordAfterData, KeywordRepeated, ParametersWrong, DomainNumberWrong, NoSize, LowerNotBelowUpper, DomainTooWide, DomainsDiffer, TableTooShort, TooManyRows, NotThreeNumbers, SampleBeyond, SampleTooFine, TooFewRows}
+use Rattle.rules.specs.declared.Refusal.the-variants.{LineTooLong, ByteNotPermitted, NeitherDataNorKeyword, KeywordAfterData, KeywordRepeated, ParametersWrong, SizeOutOfRange, DomainNumberWrong, NoSize, LowerNotBelowUpper, DomainTooWide, DomainsDiffer, TableTooShort, TooManyRows, NotThreeNumbers, SampleBeyond, SampleTooFine, TooFewRows}
 use Rattle.rules.specs.declared.Three.{Three}
+use Rattle.rules.proofs.Tests.{and-both}
 use Rattle.signature.proofs.Either.{either}
+use Rattle.signature.proofs.Reading.Room.{Bounded, line-bounded, no-room, start-bounded}
 
--- a refusal of reading
-abbrev Low : Refusal → Type 0
-Low r = refusalNumber r ≤ 18
+module _ (places : ℕ) where
+  -- a refusal of reading: 1 to 18, and 13 only of a table that is shorter than the greatest
+  abbrev Low : Refusal → Type 0
+  Low r = (refusalNumber r ≤ 18) × (refusalNumber r ≡ 13 → places < placeLimit)
 
-abbrev LowFault : Fault → Type 0
-LowFault none = Unit
-LowFault (some r) = Low r
+  -- of any but 13 a computed test says so
+  other : (r : Refusal) → leb (refusalNumber r) 18 && not (eqb (refusalNumber r) 13) ≡ true → Low r
+  other r e =
+      let (low, not-13) = and-both (leb (refusalNumber r) 18) _ e in
+      (leb-true _ _ low, λ q. absurd (eqb-false _ _ (not-true _ not-13) q))
 
-abbrev LowContent : Content → Type 0
-LowContent (Says i) = Unit
-LowContent (Wrong r) = Low r
+  abbrev LowFault : Fault → Type 0
+  LowFault none = Unit
+  LowFault (some r) = Low r
 
-abbrev LowVerdict : Verdict → Type 0
-LowVerdict (go st) = Unit
-LowVerdict (refuse r) = Low r
+  abbrev LowContent : Content → Type 0
+  LowContent (Says i) = Unit
+  LowContent (Wrong r) = Low r
 
-need-low : (t : Bool) (r : Refusal) (f : Fault) → Low r → LowFault f → LowFault (need t r f)
-unfolding need
-need-low true r f a b = b
-need-low false r f a b = a
+  abbrev LowVerdict : Verdict → Type 0
+  LowVerdict (go st) = Unit
+  LowVerdict (refuse r) = Low r
 
-first-low : (f g : Fault) → LowFault f → LowFault g → LowFault (first f g)
-unfolding first
-first-low none g a b = b
-first-low (some r) g a b = a
+  abbrev LowAnswer : Read → Type 0
+  LowAnswer (Accepted d) = Unit
+  LowAnswer (Refused r n) = Low r
 
--- 9 to 13
-head-low : (places : ℕ) (st : State) → LowFault (headFault places st)
-unfolding headFault domainFault refusalNumber
-head-low places st = either LowFault (eqb (st .rows) 0) _ none (need-low (given (st .size)) NoSize _ (omega arith) domain-low) tt
-  where
-    d : Description
-    d = describe st
+  need-low : (t : Bool) (r : Refusal) (f : Fault) → (t ≡ false → Low r) → LowFault f → LowFault (need t r f)
+  unfolding need
+  need-low true r f a b = b
+  need-low false r f a b = a refl
 
-    domain-low : LowFault (domainFault places d)
-    domain-low =
-        need-low (everyColour ordered d) LowerNotBelowUpper _ (omega arith)
-        (need-low (everyColour narrow d) DomainTooWide _ (omega arith)
-        (need-low (agree (d .kind) d) DomainsDiffer _ (omega arith)
-        (need-low (roomy places d) TableTooShort none (omega arith) tt)))
+  first-low : (f g : Fault) → LowFault f → LowFault g → LowFault (first f g)
+  unfolding first
+  first-low none g a b = b
+  first-low (some r) g a b = a
 
--- 1 and 2
-byte-low : (l : List ℕ) → LowFault (byteFault l)
-unfolding byteFault refusalNumber
-byte-low l = need-low (leb (length l) lineLimit) LineTooLong _ (omega arith) (need-low (every permitted l) ByteNotPermitted none (omega arith) tt)
+  -- 9 to 13
+  head-low : (st : State) → Bounded (describe st) → LowFault (headFault places st)
+  unfolding headFault domainFault refusalNumber
+  head-low st small = either LowFault (eqb (st .rows) 0) _ none (need-low (given (st .size)) NoSize _ (λ _. other NoSize refl) domain-low) tt
+    where
+      d : Description
+      d = describe st
 
--- 4 and 5; 9 to 13 and 14
-order-low : (places : ℕ) (st : State) (f : Form) → LowFault (orderFault places st f)
-unfolding orderFault refusalNumber
-order-low places st Idle = tt
-order-low places st (Keyed k) = need-low (eqb (st .rows) 0) KeywordAfterData _ (omega arith) (need-low (not (repeats k st)) KeywordRepeated none (omega arith) tt)
-order-low places st Data = first-low (headFault places st) _ (head-low places st) (need-low (ltb (st .rows) (rows (describe st))) TooManyRows none (omega arith) tt)
-order-low places st Neither = tt
+      domain-low : LowFault (domainFault places d)
+      domain-low =
+          need-low (everyColour ordered d) LowerNotBelowUpper _ (λ _. other LowerNotBelowUpper refl)
+          (need-low (everyColour narrow d) DomainTooWide _ (λ _. other DomainTooWide refl)
+          (need-low (agree (d .kind) d) DomainsDiffer _ (λ _. other DomainsDiffer refl)
+          (need-low (roomy places d) TableTooShort none (λ short. (omega arith, λ _. no-room places d small short)) tt)))
 
--- 9 to 13 and 18
-end-low : (places : ℕ) (st : State) → LowFault (endFault places st)
-unfolding endFault refusalNumber
-end-low places st = first-low (headFault places st) _ (head-low places st) (need-low (leb (rows (describe st)) (st .rows)) TooFewRows none (omega arith) tt)
+  -- 1 and 2
+  byte-low : (l : List ℕ) → LowFault (byteFault l)
+  unfolding byteFault refusalNumber
+  byte-low l =
+      need-low (leb (length l) lineLimit) LineTooLong _ (λ _. other LineTooLong refl)
+      (need-low (every permitted l) ByteNotPermitted none (λ _. other ByteNotPermitted refl) tt)
 
--- three numbers
-module _ (unformed beyond finer : Refusal) (a : Low unformed) (b : Low beyond) (c : Low finer) where
-  valued-low : (n : Number) (next : ℤ → Content) → ((x : ℤ) → LowContent (next x)) → LowContent (valued unformed beyond finer n next)
-  valued-low (Value v) next h = h v
-  valued-low Malformed next h = a
-  valued-low Beyond next h = b
-  valued-low Finer next h = c
+  -- 4 and 5; 9 to 13 and 14
+  order-low : (st : State) → Bounded (describe st) → (f : Form) → LowFault (orderFault places st f)
+  unfolding orderFault refusalNumber
+  order-low st small Idle = tt
+  order-low st small (Keyed k) =
+      need-low (eqb (st .rows) 0) KeywordAfterData _ (λ _. other KeywordAfterData refl)
+      (need-low (not (repeats k st)) KeywordRepeated none (λ _. other KeywordRepeated refl) tt)
+  order-low st small Data =
+      first-low (headFault places st) _ (head-low st small) (need-low (ltb (st .rows) (rows (describe st))) TooManyRows none (λ _. other TooManyRows refl) tt)
+  order-low st small Neither = tt
 
-  values-low : (o : Option Three) (next : ℤ → ℤ → ℤ → Content) → ((x y z : ℤ) → LowContent (next x y z)) → LowContent (values unformed beyond finer o next)
-  values-low none next h = a
-  values-low (some t) next h =
-      valued-low (t .first) _ (λ x. valued-low (t .second) _ (λ y. valued-low (t .third) _ (λ z. h x y z)))
+  -- 9 to 13 and 18
+  end-low : (st : State) → Bounded (describe st) → LowFault (endFault places st)
+  unfolding endFault refusalNumber
+  end-low st small =
+      first-low (headFault places st) _ (head-low st small) (need-low (leb (rows (describe st)) (st .rows)) TooFewRows none (λ _. other TooFewRows refl) tt)
 
-bounds-low : (side : Bounds → Item) (ws : List (List ℕ)) → LowContent (boundsOf side ws)
-unfolding boundsOf refusalNumber
-bounds-low side ws =
-    values-low ParametersWrong DomainNumberWrong DomainNumberWrong (omega arith) (omega arith) (omega arith) (threeOf boundPlaces boundLimit ws) _ (λ x y z. tt)
+  -- three numbers
+  module _ (unformed beyond finer : Refusal) (a : Low unformed) (b : Low beyond) (c : Low finer) where
+    valued-low : (n : Number) (next : ℤ → Content) → ((x : ℤ) → LowContent (next x)) → LowContent (valued unformed beyond finer n next)
+    valued-low (Value v) next h = h v
+    valued-low Malformed next h = a
+    valued-low Beyond next h = b
+    valued-low Finer next h = c
 
-samples-low : (ws : List (List ℕ)) → LowContent (samplesOn ws)
-unfolding samplesOn refusalNumber
-samples-low ws =
-    values-low NotThreeNumbers SampleBeyond SampleTooFine (omega arith) (omega arith) (omega arith) (threeOf samplePlaces sampleLimit ws) _ (λ x y z. tt)
+    values-low : (o : Option Three) (next : ℤ → ℤ → ℤ → Content) → ((x y z : ℤ) → LowContent (next x y z)) → LowContent (values unformed beyond finer o next)
+    values-low none next h = a
+    values-low (some t) next h =
+        valued-low (t .first) _ (λ x. valued-low (t .second) _ (λ y. valued-low (t .third) _ (λ z. h x y z)))
 
-size-low : (k : Kind) (ws : List (List ℕ)) → LowContent (sizeOf k ws)
-unfolding sizeOf refusalNumber
-size-low k [] = omega arith
-size-low k (w ∷ []) = either LowContent (digits w) _ _ (either LowContent (inRange k (spell 0 w)) _ _ tt (omega arith)) (omega arith)
-size-low k (w ∷ v ∷ more) = omega arith
+  bounds-low : (side : Bounds → Item) (ws : List (List ℕ)) → LowContent (boundsOf side ws)
+  unfolding boundsOf refusalNumber
+  bounds-low side ws =
+      let form = other ParametersWrong refl in
+      let value = other DomainNumberWrong refl in
+      values-low ParametersWrong DomainNumberWrong DomainNumberWrong form value value (threeOf boundPlaces boundLimit ws) _ (λ x y z. tt)
 
-quoted-low : (end : ℕ) (x : List ℕ) → LowContent (quoted end x)
-unfolding quoted refusalNumber
-quoted-low end [] = omega arith
-quoted-low end (b ∷ rest) = either LowContent (quote b && closes (after inTitle rest)) _ _ tt (omega arith)
+  samples-low : (ws : List (List ℕ)) → LowContent (samplesOn ws)
+  unfolding samplesOn refusalNumber
+  samples-low ws =
+      values-low NotThreeNumbers SampleBeyond SampleTooFine (other NotThreeNumbers refl) (other SampleBeyond refl) (other SampleTooFine refl) (threeOf samplePlaces sampleLimit ws) _
+      (λ x y z. tt)
 
--- 3, 6, 7, 8, 15, 16, 17
-content-low : (f : Form) (p : ℕ) (l : List ℕ) → LowContent (contentBy f p l)
-unfolding contentBy titleOf refusalNumber
-content-low Idle p l = tt
-content-low (Keyed ATitle) p l = quoted-low (p + length l) (after blank (after inWord (after blank l)))
-content-low (Keyed ALower) p l = bounds-low OfLower (parameters (wordsOf l))
-content-low (Keyed AnUpper) p l = bounds-low OfUpper (parameters (wordsOf l))
-content-low (Keyed (ASize k)) p l = size-low k (parameters (wordsOf l))
-content-low Data p l = samples-low (wordsOf l)
-content-low Neither p l = omega arith
+  size-low : (k : Kind) (ws : List (List ℕ)) → LowContent (sizeOf k ws)
+  unfolding sizeOf refusalNumber
+  size-low k [] = other ParametersWrong refl
+  size-low k (w ∷ []) =
+      either LowContent (digits w) _ _ (either LowContent (inRange k (spell 0 w)) _ _ tt (other SizeOutOfRange refl)) (other ParametersWrong refl)
+  size-low k (w ∷ v ∷ more) = other ParametersWrong refl
 
-unless-low : (f : Fault) (j : Verdict) → LowFault f → LowVerdict j → LowVerdict (unless f j)
-unfolding unless
-unless-low none j a b = b
-unless-low (some r) j a b = a
+  quoted-low : (end : ℕ) (x : List ℕ) → LowContent (quoted end x)
+  unfolding quoted refusalNumber
+  quoted-low end [] = other ParametersWrong refl
+  quoted-low end (b ∷ rest) = either LowContent (quote b && closes (after inTitle rest)) _ _ tt (other ParametersWrong refl)
 
-taken-low : (st : State) (c : Content) → LowContent c → LowVerdict (take-in st c)
-unfolding take-in
-taken-low st (Says i) h = tt
-taken-low st (Wrong r) h = h
+  -- 3, 6, 7, 8, 15, 16, 17
+  content-low : (f : Form) (p : ℕ) (l : List ℕ) → LowContent (contentBy f p l)
+  unfolding contentBy titleOf refusalNumber
+  content-low Idle p l = tt
+  content-low (Keyed ATitle) p l = quoted-low (p + length l) (after blank (after inWord (after blank l)))
+  content-low (Keyed ALower) p l = bounds-low OfLower (parameters (wordsOf l))
+  content-low (Keyed AnUpper) p l = bounds-low OfUpper (parameters (wordsOf l))
+  content-low (Keyed (ASize k)) p l = size-low k (parameters (wordsOf l))
+  content-low Data p l = samples-low (wordsOf l)
+  content-low Neither p l = other NeitherDataNorKeyword refl
 
-judged-low : (places : ℕ) (st : State) (p : ℕ) (l : List ℕ) → LowVerdict (judge places st p l)
-unfolding judge
-judged-low places st p l =
-    unless-low (byteFault l) _ (byte-low l)
-    (unless-low (orderFault places st (formOf l)) _ (order-low places st (formOf l)) (taken-low st (contentOf p l) (content-low (formOf l) p l)))
+  unless-low : (f : Fault) (j : Verdict) → LowFault f → LowVerdict j → LowVerdict (unless f j)
+  unfolding unless
+  unless-low none j a b = b
+  unless-low (some r) j a b = a
 
-lines-low : (places p n : ℕ) (st : State) (ls : List (List ℕ)) → readNumber (readLines places p n st ls) ≤ 18
-unfolding readLines
-lines-low places p n st [] = split (endFault places st) (end-low places st)
-  where
-    split : (f : Fault) → LowFault f → readNumber (finish n st f) ≤ 18
-    split none h = omega arith
-    split (some r) h = h
-lines-low places p n st (l ∷ ls) = split (judge places st p l) (judged-low places st p l) (λ st′. lines-low places (p + length l + 1) (suc n) st′ ls)
-  where
-    split : (j : Verdict) → LowVerdict j → ((st′ : State) → readNumber (readLines places (p + length l + 1) (suc n) st′ ls) ≤ 18)
-        → readNumber (onward (λ st′. readLines places (p + length l + 1) (suc n) st′ ls) (suc n) j) ≤ 18
-    split (go st′) h next = next st′
-    split (refuse r) h next = h
+  taken-low : (st : State) (c : Content) → LowContent c → LowVerdict (take-in st c)
+  unfolding take-in
+  taken-low st (Says i) h = tt
+  taken-low st (Wrong r) h = h
+
+  judged-low : (st : State) → Bounded (describe st) → (p : ℕ) (l : List ℕ) → LowVerdict (judge places st p l)
+  unfolding judge
+  judged-low st small p l =
+      unless-low (byteFault l) _ (byte-low l)
+      (unless-low (orderFault places st (formOf l)) _ (order-low st small (formOf l)) (taken-low st (contentOf p l) (content-low (formOf l) p l)))
+
+  lines-low : (p n : ℕ) (st : State) (ls : List (List ℕ)) → Bounded (describe st) → LowAnswer (readLines places p n st ls)
+  unfolding readLines
+  lines-low p n st [] small = split (endFault places st) (end-low st small)
+    where
+      split : (f : Fault) → LowFault f → LowAnswer (finish n st f)
+      split none h = tt
+      split (some r) h = h
+  lines-low p n st (l ∷ ls) small =
+      split (judge places st p l) refl (judged-low st small p l) (λ st′. lines-low (p + length l + 1) (suc n) st′ ls)
+    where
+      split : (j : Verdict) → judge places st p l ≡ j → LowVerdict j
+          → ((st′ : State) → Bounded (describe st′) → LowAnswer (readLines places (p + length l + 1) (suc n) st′ ls))
+          → LowAnswer (onward (λ st′. readLines places (p + length l + 1) (suc n) st′ ls) (suc n) j)
+      split (go st′) e h next = next st′ (line-bounded places st p l st′ e small)
+      split (refuse r) e h next = h
+
+  read-low : (file : List ℕ) → LowAnswer (read file places)
+  unfolding read
+  read-low file = lines-low 0 0 start (linesOf file) start-bounded
 
 -- reading answers 0 to 18
 pub read-number : (file : List ℕ) (places : ℕ) → readNumber (read file places) ≤ 18
-unfolding read
-read-number file places = lines-low places 0 0 start (linesOf file)
+read-number file places = by (read file places) (read-low places file)
+  where
+    by : (r : Read) → LowAnswer places r → readNumber r ≤ 18
+    by (Accepted d) h = omega arith
+    by (Refused r n) h = h .0
 
 -- and so does every call that keeps reading's promise
 pub reads-number : {file : List ℕ} {table table′ : List ℤ} {r : Read} → Reads file table r table′ → readNumber r ≤ 18
 reads-number {file} {table} h = omega (arith, h .number, read-number file (length table))
+
+-- 13 only of a table that is shorter than the greatest
+pub read-13 : (file : List ℕ) (places : ℕ) → readNumber (read file places) ≡ 13 → places < placeLimit
+read-13 file places e = by (read file places) (read-low places file) e
+  where
+    by : (r : Read) → LowAnswer places r → readNumber r ≡ 13 → places < placeLimit
+    by (Accepted d) h e = absurd (omega arith)
+    by (Refused r n) h e = h .1 e
+
+-- check answers 0 to 18, and never 13
+pub check-number : (file : List ℕ) → (readNumber (check file) ≤ 18) × (readNumber (check file) ≡ 13 → ⊥)
+unfolding check
+check-number file = (read-number file placeLimit, λ e. not-below (read-13 file placeLimit e))
+  where
+    not-below : placeLimit < placeLimit → ⊥
+    not-below h = omega arith
+
+pub checks-number : {file : List ℕ} {r : Read} → Checks file r → (readNumber r ≤ 18) × (readNumber r ≡ 13 → ⊥)
+checks-number {file} h = (omega (arith, h .number, check-number file .0), λ e. check-number file .1 (sym (h .number) ∙ e))

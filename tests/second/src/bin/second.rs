@@ -3,6 +3,7 @@
 //! ```text
 //! second report < FILE            what the report program prints
 //! second read FILE                the answer of reading, with room for any table
+//! second check FILE               the answer where there is no table
 //! second look FILE BITS R G B     one pixel through a file's table
 //! second cases                    document 01's cases (src/cases.rs gives the format)
 //! second stream SEED TABLES LOOKS PICTURES
@@ -14,7 +15,7 @@
 use second::gen::report_input;
 use second::look::look;
 use second::paper::{number, place, Kind};
-use second::reading::{read, Reading};
+use second::reading::{check, read, Reading};
 use second::report::report;
 use second::run::{run, Wanted};
 use second::show::{escaped, list, quoted};
@@ -31,13 +32,14 @@ fn main() -> ExitCode {
     let done = match words.as_slice() {
         ["report"] => print_report(),
         ["read", file] => print_read(file),
+        ["check", file] => print_check(file),
         ["look", file, bits, r, g, b] => print_look(file, bits, [r, g, b]),
         ["cases"] => put(cases::printed().as_bytes()),
         ["stream", numbers @ ..] => stream(numbers),
         ["reports", seed, count, program @ ..] if !program.is_empty() => {
             reports(seed, count, program)
         }
-        _ => Err("usage: second report | read FILE | look FILE BITS R G B | cases | \
+        _ => Err("usage: second report | read FILE | check FILE | look FILE BITS R G B | cases | \
                   stream SEED TABLES LOOKS PICTURES | reports SEED COUNT PROGRAM [ARGUMENT...]"
             .to_string()),
     };
@@ -62,10 +64,21 @@ fn print_report() -> Result<(), String> {
     put(&report(&input))
 }
 
+fn bytes_of(file: &str) -> Result<Vec<u8>, String> {
+    std::fs::read(file).map_err(|fault| format!("{file}: {fault}"))
+}
+
 /// Reads a file with as many places as the largest table needs.
 fn open(file: &str) -> Result<Reading, String> {
-    let bytes = std::fs::read(file).map_err(|fault| format!("{file}: {fault}"))?;
-    Ok(read(&bytes, 3 * Kind::ThreeD.rows(256)))
+    Ok(read(&bytes_of(file)?, 3 * Kind::ThreeD.rows(256)))
+}
+
+fn print_check(file: &str) -> Result<(), String> {
+    let check = check(&bytes_of(file)?);
+    println!("number {} line {}", check.number, check.line);
+    println!("description {}", list(&check.description, " "));
+    println!("places {}", check.places);
+    Ok(())
 }
 
 fn print_read(file: &str) -> Result<(), String> {

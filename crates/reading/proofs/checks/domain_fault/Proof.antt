@@ -9,7 +9,7 @@ use Rattle.rules.specs.Units.{rowLimit}
 use Rattle.rules.specs.Descriptions.{everyColour, ordered, narrow, agree, roomy}
 use Rattle.rules.specs.Reading.Judge.{domainFault, need}
 use Rattle.rules.specs.declared.Description.{Description}
-use Rattle.judge.proofs.Rows.{rows-most}
+use Rattle.rules.proofs.Sound.{range-rows-most}
 use Rattle.reading.proofs.checks.domain_fault.Statement.{statement}
 use Rattle.reading.proofs.checks.domain_fault.Tie as tie
 
@@ -36,7 +36,7 @@ agreed c = sym (c .before .agree .ensures) ∙ not-false _ (c .if3 .left)
 small : (c : tie.After-count-rows) → c .count-rows .result ≤ rowLimit
 small c =
     let s = c .before .before .before .before .before .before .before in
-    rw (c .count-rows .ensures) (rows-most (s .args .d .kind) (s .args .d .n) (s .pre .0))
+    rw (c .count-rows .ensures) (range-rows-most (s .args .d .kind) (s .args .d .n) (s .pre .0))
 
 domains-keep-requires : tie.Need-domains-keep-requires
 domains-keep-requires c κs = search needs
