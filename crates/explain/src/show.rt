@@ -176,7 +176,7 @@ pub fn explain(d: Description, file: &[u8], table: &[i64], bits: u32, pixel: Pix
         Look::Refused(reason) => say_refusal(b"explain", reason),
         Look::Accepted { codes, shares } => {
             show_pixel(raw, bits);
-            show_look(d, file, table, depth.greatest, codes, shares);
+            show_look(d, file, table, depth.greatest(), codes, shares);
         }
     }
 }

@@ -38,9 +38,9 @@ impl TenMillionths {
     pub const GREATEST: i64 = 10_000_000_000;
 }
 
-// A depth, held as its greatest code M.
+// A depth, held as its greatest code M. Only `Depth::of` makes one, so M is that of a known depth.
 pub struct Depth {
-    pub greatest: u16,
+    greatest: u16,
 }
 
 pub enum DepthFound {
@@ -76,6 +76,13 @@ impl Depth {
             }),
             _ => DepthFound::Unknown,
         }
+    }
+
+    // M.
+    pub fn greatest(self) -> u16
+        ensures { λ r. ⌜ r ≡ self .greatest ⌝ }
+    {
+        self.greatest
     }
 }
 
