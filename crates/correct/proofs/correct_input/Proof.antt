@@ -1,7 +1,6 @@
 -- The header keeps its limits, and a scale that is found is that of a known depth.
-use mathlib.Core.Path.{sym, ap, subst, _∙_}
+use mathlib.Core.Path.{sym, subst, _∙_}
 use Rattle.ppm.specs.Header.{Sized}
-use Rattle.ppm.specs.Scales.{depthWith}
 use Rattle.ppm.proofs.Scaling.{scale-fits}
 use borrow.Author.Needs.{needs}
 use Rattle.correct.proofs.correct_input.Statement.{statement}
@@ -54,10 +53,7 @@ pass-requires c κs =
     let scale = c .before .before .before .before in
     let found = scale .before .before in
     let fits = scale-fits (found .before .before .header .given .0 .0 .maxval) _ (sym (found .scale-of .ensures) ∙ scale .scale .given .1) in (
-      record {
-        could = found .before .before .before .before .before .pre;
-        known = fits .depth ∙ ap depthWith (sym (fits .greatest));
-      },
+      record { could = found .before .before .before .before .before .pre; known = fits .depth },
       c .pixels .ensures .1,
     )
 
