@@ -30,7 +30,7 @@ fn code_of(sum: Whole, unit: u64, depths: Depths) -> u16
     ensures { λ r. ⌜ r ≡ code (pos (correctedM depths) *ℤ sum .0) (rawM depths * unit) (correctedM depths) ⌝ }
 {
     let corrected = depths.corrected;
-    let m = corrected.greatest;
+    let m = corrected.greatest();
     sum.nearest(unit, m as u64) as u16
 }
 

@@ -103,7 +103,7 @@ pub fn look(d: Description, table: &[i64], bits: u32, pixel: Codes) -> Look
         return Look::Refused(Refusal::DepthUnknown);
     };
     let raw = depths.raw;
-    if !codes_within(raw.greatest, pixel) {
+    if !codes_within(raw.greatest(), pixel) {
         return Look::Refused(Refusal::CodeTooGreat);
     }
     let plan = plan_of(d, depths);

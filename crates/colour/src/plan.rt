@@ -76,7 +76,7 @@ pub fn plan_of(d: Description, depths: Depths) -> Plan
     let n = d.n;
     let square = n * n;
     let raw = depths.raw;
-    let m = raw.greatest;
+    let m = raw.greatest();
     Plan {
         kind,
         cells: n - 1,

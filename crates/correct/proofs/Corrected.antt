@@ -15,7 +15,6 @@ use Rattle.rules.specs.Looking.{look}
 use Rattle.rules.specs.Answers.{codesIn}
 use Rattle.rules.specs.Picturing.{corrected, outputAfter}
 use Rattle.rules.specs.Promises.{Pictures}
-use Rattle.rules.specs.declared.Depth.{Depth}
 use Rattle.rules.specs.declared.Description.{Description}
 use Rattle.rules.specs.declared.Picture.{Picture}
 use Rattle.rules.proofs.KnownDepths.{same-known}
@@ -23,6 +22,7 @@ use Rattle.rules.proofs.Picturing.Checks.{each-length, picture-0}
 use Rattle.rules.proofs.Tests.{both-and}
 use Rattle.scan.proofs.Runs.{run-le}
 use Rattle.ppm.specs.Raster.{bytesOf, byteCount, codeCount, codesOf, Copied}
+use Rattle.ppm.specs.Scales.{depthIn}
 use Rattle.ppm.specs.declared.depth.Scale.{Scale}
 use Rattle.ppm.proofs.Codes.{bytes-length, codes-length}
 use Rattle.ppm.proofs.Putting.{copied-all}
@@ -69,8 +69,7 @@ module _ (d : Description) (table : List ℤ) (s : Scale) (able : Readable d tab
   accepted {r} {dst} {dst′} room p =
       let pixels : length (take q codes) % 3 ≡ 0 = omega (arith, first-length) in
       let bits = sameBits (s .bits) in
-      let depth : Depth = record { greatest = s .greatest } in
-      let is = picture-0 d table bits (take q codes) (length dst) (sameDepth depth) (able .could) (same-known (s .bits) depth (able .known)) pixels (omega (arith, first-length))
+      let is = picture-0 d table bits (take q codes) (length dst) (sameDepth (depthIn s)) (able .could) (same-known (s .bits) (depthIn s) (able .known)) pixels (omega (arith, first-length))
       (every-first (λ c. leb c (s .greatest)) codes q first) in
       ap (take q) (p .memory ∙ ap (outputAfter d table bits (take q codes) dst) is)
       ∙ take-at (corrected d table bits (take q codes)) _ q (each-length (λ pixel. codesIn (look d table bits pixel)) (take q codes) pixels ∙ first-length)

@@ -10,10 +10,11 @@ use Rattle.rules.specs.Descriptions.{couldBeRead}
 use Rattle.rules.specs.Reading.Lines.{run}
 use Rattle.rules.specs.Picturing.{corrected}
 use Rattle.rules.specs.Units.{depthOf, sameBits}
+use Rattle.rules.specs.declared.DepthFound.the-variants.{Known}
 use Rattle.rules.specs.declared.Description.{Description}
 use Rattle.ppm.specs.Header.{mostSize}
 use Rattle.ppm.specs.Raster.{bytesOf, codeCount, codesOf}
-use Rattle.ppm.specs.Scales.{depthWith}
+use Rattle.ppm.specs.Scales.{depthIn}
 use Rattle.ppm.specs.declared.depth.Scale.{Scale}
 use Rattle.desk.specs.declared.outcomes.Outcome.{Outcome}
 use Rattle.desk.specs.declared.outcomes.Outcome.the-variants.{Done, Refused, Failed}
@@ -29,7 +30,7 @@ pixelBytes true = 6
 -- a table that was read, at a known depth
 pub record Readable (d : Description) (table : List ℤ) (s : Scale) : Type 0 where
   pub could : couldBeRead d table ≡ true
-  pub known : depthOf (s .bits) ≡ depthWith (s .greatest)
+  pub known : depthOf (s .bits) ≡ Known (depthIn s)
 
 -- room for the codes that n bytes are, raw and corrected
 pub record Room (s : Scale) (n bytes raw corrected : ℕ) : Type 0 where

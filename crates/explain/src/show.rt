@@ -192,8 +192,8 @@ pub fn explain(d: Description, file: &[u8], table: &[i64], bits: u32, pixel: Pix
     match look(d, table, bits, raw) {
         Look::Refused(reason) => refuse(reason),
         Look::Accepted { codes, shares } => {
-            let written = show_pixel(raw, bits)
-                && show_look(d, file, table, depth.greatest, codes, shares);
+            let m = depth.greatest();
+            let written = show_pixel(raw, bits) && show_look(d, file, table, m, codes, shares);
             Outcome::Done.if_written(written, b"erythmoda explain")
         }
     }

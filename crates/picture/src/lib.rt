@@ -98,7 +98,7 @@ pub fn picture(d: Description, table: &[i64], bits: u32, src: &[u16], dst: &mut 
     if dst.len() < src.len() {
         return Picture::Refused(Refusal::OutputTooShort);
     }
-    if raw.greatest < greatest(src) {
+    if raw.greatest() < greatest(src) {
         return Picture::Refused(Refusal::CodeTooGreat);
     }
     correct_all(plan_of(d, depths), table, src, dst);

@@ -1,10 +1,12 @@
--- The scale that is found fits its maxval, whichever test finds it.
+-- The scale that is found fits its maxval, since the depth that is found by its greatest code is the depth of its bits.
 use Prim.Native.Nat.{ℕ}
-use mathlib.Core.Path.{_≡_, refl, sym, subst}
-use mathlib.Core.Bool.{Bool, true, false, cond}
-use borrow.Author.Tests.{eqb-true}
-use lib.Dec.{eqb}
-use Rattle.ppm.specs.Scales.{scaleOf, ScaleFits}
+use mathlib.Core.Path.{_≡_, refl, ap, subst}
+use lib.Dec.{ltb}
+use Rattle.rules.specs.Units.{depthWith}
+use Rattle.rules.specs.declared.DepthFound.{DepthFound}
+use Rattle.rules.specs.declared.DepthFound.the-variants.{Known as KnownDepth, Unknown as UnknownDepth}
+use Rattle.rules.proofs.KnownDepths.{depth-with}
+use Rattle.ppm.specs.Scales.{scaleBy, scaleOf, ScaleFits}
 use Rattle.ppm.specs.declared.depth.Scale.{Scale}
 use Rattle.ppm.specs.declared.depth.ScaleFound.{ScaleFound}
 use Rattle.ppm.specs.declared.depth.ScaleFound.the-variants.{Known, Unknown}
@@ -15,21 +17,10 @@ Found maxval (Known s) = ScaleFits maxval s
 Found maxval Unknown = Unit {0}
 
 module _ (maxval : ℕ) where
-  -- one test, and those after it
-  tested : (m : ℕ) (s : Scale) (others : ScaleFound) → ScaleFits m s → Found maxval others → Found maxval (cond (eqb maxval m) (Known s) others)
-  tested m s others f later = by (eqb maxval m) refl
-    where
-      by : (t : Bool) → eqb maxval m ≡ t → Found maxval (cond t (Known s) others)
-      by true e = subst (λ n. ScaleFits n s) (sym (eqb-true maxval m e)) f
-      by false e = later
-
-  found : Found maxval (scaleOf maxval)
-  found =
-      tested 255 _ _ (record { depth = refl; greatest = refl; wide = refl })
-      (tested 1023 _ _ (record { depth = refl; greatest = refl; wide = refl })
-      (tested 4095 _ _ (record { depth = refl; greatest = refl; wide = refl })
-      (tested 65535 _ _ (record { depth = refl; greatest = refl; wide = refl }) tt)))
+  by-depth : (x : DepthFound) → depthWith maxval ≡ x → Found maxval (scaleBy x)
+  by-depth (KnownDepth d) e = let k = depth-with maxval d e in record { depth = k .1; greatest = k .0; wide = ap (ltb 255) (k .0) }
+  by-depth UnknownDepth e = tt
 
   -- a scale that is found fits
   pub scale-fits : (s : Scale) → scaleOf maxval ≡ Known s → ScaleFits maxval s
-  scale-fits s e = subst (Found maxval) e found
+  scale-fits s e = subst (Found maxval) e (by-depth (depthWith maxval) refl)

@@ -1,32 +1,28 @@
 -- What a maxval says of the codes: the depth whose greatest code it is, and one or two bytes for each code.
 use Prim.Native.Nat.{ℕ}
 use mathlib.Core.Path.{_≡_}
-use mathlib.Core.Bool.{Bool, true, false, cond}
-use lib.Dec.{eqb, ltb}
-use Rattle.rules.specs.Units.{depthOf}
+use lib.Dec.{ltb}
+use Rattle.rules.specs.Units.{depthOf, depthWith}
+use Rattle.rules.specs.declared.Depth.{Depth}
 use Rattle.rules.specs.declared.DepthFound.{DepthFound}
-use Rattle.rules.specs.declared.DepthFound.the-variants.{Known as KnownDepth}
+use Rattle.rules.specs.declared.DepthFound.the-variants.{Known as KnownDepth, Unknown as UnknownDepth}
 use Rattle.ppm.specs.declared.depth.Scale.{Scale}
 use Rattle.ppm.specs.declared.depth.ScaleFound.{ScaleFound}
 use Rattle.ppm.specs.declared.depth.ScaleFound.the-variants.{Known, Unknown}
 
-abbrev scale : ℕ → ℕ → Bool → ScaleFound
-scale bits greatest wide = Known (record { bits = bits; greatest = greatest; wide = wide })
+abbrev pub scaleBy : DepthFound → ScaleFound
+scaleBy (KnownDepth d) = Known (record { bits = d .bits; greatest = d .greatest; wide = ltb 255 (d .greatest) })
+scaleBy UnknownDepth = Unknown
 
 abbrev pub scaleOf : ℕ → ScaleFound
-scaleOf maxval =
-    cond (eqb maxval 255) (scale 8 255 false)
-    (cond (eqb maxval 1023) (scale 10 1023 true)
-    (cond (eqb maxval 4095) (scale 12 4095 true)
-    (cond (eqb maxval 65535) (scale 16 65535 true)
-    Unknown)))
+scaleOf maxval = scaleBy (depthWith maxval)
 
--- a depth's greatest code m, as document 01 has it
-abbrev pub depthWith : ℕ → DepthFound
-depthWith m = KnownDepth (record { greatest = m })
+-- the depth that a scale is of
+abbrev pub depthIn : Scale → Depth
+depthIn s = record { bits = s .bits; greatest = s .greatest }
 
--- a scale fits a maxval: maxval is the greatest code of its depth, and above 255 a code is two bytes
+-- a scale fits a maxval: its depth is known and has maxval as greatest code, and above 255 a code is two bytes
 pub record ScaleFits (maxval : ℕ) (s : Scale) : Type 0 where
-  pub depth : depthOf (s .bits) ≡ depthWith maxval
+  pub depth : depthOf (s .bits) ≡ KnownDepth (depthIn s)
   pub greatest : s .greatest ≡ maxval
   pub wide : s .wide ≡ ltb 255 maxval

@@ -1,5 +1,6 @@
-// What a maxval says of the codes; of the maxvals the greatest codes of document 01's four depths are known.
+// What a maxval says of the codes: the depth whose greatest code it is, and one or two bytes for each code.
 use rules::Depth;
+use rules::DepthFound;
 ghost use mathlib.Core.Path.{_≡_};
 ghost use Rattle.ppm.specs.Scales.{scaleOf};
 
@@ -15,30 +16,19 @@ pub enum ScaleFound {
     Unknown,
 }
 
+// The greatest code that one byte holds.
+const BYTE_GREATEST: u16 = 255;
+
 pub fn scale_of(maxval: u64) -> ScaleFound
     ensures { λ r. ⌜ r ≡ scaleOf maxval ⌝ }
 {
-    match maxval {
-        255 => ScaleFound::Known(Scale {
-            bits: 8,
-            greatest: Depth::BITS_8,
-            wide: false,
-        }),
-        1023 => ScaleFound::Known(Scale {
-            bits: 10,
-            greatest: Depth::BITS_10,
-            wide: true,
-        }),
-        4095 => ScaleFound::Known(Scale {
-            bits: 12,
-            greatest: Depth::BITS_12,
-            wide: true,
-        }),
-        65535 => ScaleFound::Known(Scale {
-            bits: 16,
-            greatest: Depth::BITS_16,
-            wide: true,
-        }),
-        _ => ScaleFound::Unknown,
-    }
+    let DepthFound::Known(depth) = Depth::with_greatest(maxval) else {
+        return ScaleFound::Unknown;
+    };
+    let greatest = depth.greatest();
+    ScaleFound::Known(Scale {
+        bits: depth.bits(),
+        greatest,
+        wide: greatest > BYTE_GREATEST,
+    })
 }

@@ -1,7 +1,7 @@
 -- The loop of the first pass in the rules' terms: reading the file is reading the lines from the cursor on, in the state so far.
 -- How that begins, goes on past a line, stops on one, and ends.
 use Prim.Native.Nat.{ℕ, suc, _+_, _-_}
-use mathlib.Core.Path.{_≡_, sym, ap, subst, _∙_}
+use mathlib.Core.Path.{_≡_, sym, ap, _∙_}
 use mathlib.Core.List.{List}
 use lib.ListN.{length, drop, take}
 use Rattle.rules.specs.Reading.Judge.{start, endFault, judge, State as Given}
@@ -11,11 +11,12 @@ use Rattle.rules.specs.declared.Read.{Read}
 use Rattle.rules.specs.declared.Read.the-variants.{Refused}
 use Rattle.text.specs.LinesFrom.{linesFrom}
 use Rattle.text.specs.declared.cursor.Cursor.{Cursor}
+use Rattle.text.specs.declared.lines.Checked.the-variants as C
+use Rattle.text.specs.declared.lines.Checked.the-variants.{Passed}
 use Rattle.text.proofs.Standing.{Standing, passed, Beginning, LineFound, EndFound, step-first}
 use Rattle.reading.specs.View.{view, Fit}
-use Rattle.reading.specs.Verdicts.{judgedOf, FitJudged, stopped}
+use Rattle.reading.specs.Verdicts.{verdictOf, judgedOf}
 use Rattle.reading.specs.declared.lines.Judged.{Judged}
-use Rattle.reading.specs.declared.lines.Judged.the-variants.{Go, Refuse}
 use Rattle.reading.specs.declared.state.State.{State}
 
 -- what the lines from the cursor on decide, in this state, is what the file decides
@@ -46,18 +47,18 @@ module _ {file : List ℕ} {places : ℕ} {st : State} {c : Cursor} (here : Onwa
         ∙ ap (readLines places (c .at) (passed file c) (view st)) (f .lines)
         ∙ sym (ap (λ (p : ℕ). onward (rest p) (suc (passed file c)) (judge places (view st) p text)) (f .here))
 
-    pub goes-on : (j : Judged) (st′ : State) → j ≡ Go st′ → judgedOf j ≡ judge places (view st) from text → FitJudged j → Onward file places st′ next
-    goes-on j st′ e says k = record {
+    pub goes-on : (j : Judged) → j .checked ≡ Passed → judgedOf j ≡ judge places (view st) from text → Fit (j .after) → Onward file places (j .after) next
+    goes-on j e says k = record {
       standing = f .next-standing;
-      fit = subst FitJudged e k;
-      same = turns ∙ ap (onward (rest from) (suc (passed file c))) (sym says ∙ ap judgedOf e) ∙ sym (λ i. readLines places (f .place i) (f .next-passed i) (view st′) (linesFrom file (next .at)));
+      fit = k;
+      same = turns
+          ∙ ap (onward (rest from) (suc (passed file c))) (sym says ∙ ap (λ x. verdictOf x (j .after)) e)
+          ∙ sym (λ i. readLines places (f .place i) (f .next-passed i) (view (j .after)) (linesFrom file (next .at)));
     }
 
-    pub stops : (j : Judged) (r : Refusal) → j ≡ Refuse r → judgedOf j ≡ judge places (view st) from text → stopped places line (judgedOf j) ≡ read file places
+    pub stops : (j : Judged) (r : Refusal) → j .checked ≡ C.Refused r → judgedOf j ≡ judge places (view st) from text → Refused r line ≡ read file places
     stops j r e says =
-        ap (λ (v : Judged). stopped places line (judgedOf v)) e
-        ∙ ap (Refused r) (f .number)
-        ∙ sym (turns ∙ ap (onward (rest from) (suc (passed file c))) (sym says ∙ ap judgedOf e))
+        ap (Refused r) (f .number) ∙ sym (turns ∙ ap (onward (rest from) (suc (passed file c))) (sym says ∙ ap (λ x. verdictOf x (j .after)) e))
 
   pub ends : EndFound file c → finish (c .line) (view st) (endFault places (view st)) ≡ read file places
   unfolding readLines

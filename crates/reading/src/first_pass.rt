@@ -1,9 +1,9 @@
 // The first pass: the whole file judged, line by line. Nothing is written.
 use crate::checks::conclude;
-use crate::lines::Judged;
 use crate::lines::judge_line;
 use crate::state::State;
 use rules::Read;
+use text::Checked;
 use text::Cursor;
 use text::Step;
 ghost use mathlib.Core.Path.{_≡_};
@@ -26,10 +26,12 @@ pub fn judge_file(file: &[u8], places: usize) -> Read
             return conclude(st, c.line, places);
         };
         let judged = judge_line(st, &file[start..end], start, places);
-        let Judged::Go(after) = judged else {
-            return judged.answer(line, places);
+        let checked = judged.checked;
+        let Checked::Refused(reason) = checked else {
+            st = judged.after;
+            c = next;
+            continue;
         };
-        st = after;
-        c = next;
+        return Read::Refused { reason, line };
     }
 }

@@ -1,11 +1,8 @@
 // One line judged, in document 01's order of checks: its bytes, its place among the others, what it says.
-use crate::checks::conclude;
 use crate::checks::order_fault;
 use crate::state::State;
 use content::content_by;
 use rules::Content;
-use rules::Read;
-use rules::Refusal;
 use text::Checked;
 use text::byte_fault;
 use text::form_of;
@@ -14,25 +11,12 @@ ghost use Prim.Native.Nat.{_+_, _≤_};
 ghost use lib.ListN.{length};
 ghost use Rattle.rules.specs.Reading.Judge.{judge};
 ghost use Rattle.reading.specs.View.{view, Fit};
-ghost use Rattle.reading.specs.Verdicts.{judgedOf, FitJudged, stopped};
+ghost use Rattle.reading.specs.Verdicts.{judgedOf};
 
-// The state after a line, or why it is refused.
-pub enum Judged {
-    Go(State),
-    Refuse(Refusal),
-}
-
-impl Judged {
-    // The answer where reading stops on this line: its refusal, or else that of a file that ends here.
-    pub fn answer(self, line: usize, places: usize) -> Read
-        requires { ⌜ FitJudged self ⌝ }
-        ensures { λ r. ⌜ r ≡ stopped places line (judgedOf self) ⌝ }
-    {
-        match self {
-            Judged::Refuse(reason) => Read::Refused { reason, line },
-            Judged::Go(st) => conclude(st, line, places),
-        }
-    }
+// Whether a line passes, and the state after it; a line that is refused leaves the state as it was.
+pub struct Judged {
+    pub checked: Checked,
+    pub after: State,
 }
 
 // A line that begins at a place of the file, for a table of so many places.
@@ -40,17 +24,31 @@ pub fn judge_line(st: State, l: &[u8], place: usize, places: usize) -> Judged
     requires { ⌜ Fit st ⌝ }
     requires { ⌜ place + length (now l) ≤ 18_446_744_073_709_551_615 ⌝ }
     ensures says { λ r. ⌜ judgedOf r ≡ judge places (view st) place (now (l .entry)) ⌝ }
-    ensures fit { λ r. ⌜ FitJudged r ⌝ }
+    ensures fit { λ r. ⌜ Fit (r .after) ⌝ }
 {
-    if let Checked::Refused(reason) = byte_fault(l) {
-        return Judged::Refuse(reason);
-    }
+    let bytes = byte_fault(l);
+    let Checked::Passed = bytes else {
+        return Judged {
+            checked: bytes,
+            after: st,
+        };
+    };
     let form = form_of(l);
-    if let Checked::Refused(reason) = order_fault(st, form, places) {
-        return Judged::Refuse(reason);
-    }
+    let order = order_fault(st, form, places);
+    let Checked::Passed = order else {
+        return Judged {
+            checked: order,
+            after: st,
+        };
+    };
     match content_by(form, l, place) {
-        Content::Wrong(reason) => Judged::Refuse(reason),
-        Content::Says(item) => Judged::Go(st.with_item(item)),
+        Content::Wrong(reason) => Judged {
+            checked: Checked::Refused(reason),
+            after: st,
+        },
+        Content::Says(item) => Judged {
+            checked: Checked::Passed,
+            after: st.with_item(item),
+        },
     }
 }

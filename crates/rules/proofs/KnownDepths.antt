@@ -1,10 +1,12 @@
--- A known depth's greatest code M is from 1 to 65535: each of the four is, whichever test finds it; and two depths are known where each is.
+-- What holds of each of the four depths holds of the one that is found: M is from 1 to 65535, and a depth that is found by its M is that of its bits.
+-- Two depths are known where each is.
 use Prim.Native.Nat.{ℕ, _≤_, _<_}
 use mathlib.Core.Path.{_≡_, refl, sym, ap, ap₂, subst, _∙_}
 use mathlib.Core.Bool.{Bool, true, false, cond}
 use native.Mathlib.Omega.{arith}
+use borrow.Author.Tests.{eqb-true}
 use lib.Dec.{eqb, lit<, lit≤}
-use Rattle.rules.specs.Units.{depthOf, depthsOf, together, sameBits, sameDepth, rawM, correctedM}
+use Rattle.rules.specs.Units.{ofBits, orElse, depthThat, depthOf, depthWith, depthsOf, together, sameBits, sameDepth, rawM, correctedM}
 use Rattle.rules.specs.declared.Bits.{Bits}
 use Rattle.rules.specs.declared.Depth.{Depth}
 use Rattle.rules.specs.declared.Depths.{Depths}
@@ -12,30 +14,48 @@ use Rattle.rules.specs.declared.DepthsFound.the-variants.{Both}
 use Rattle.rules.specs.declared.DepthFound.{DepthFound}
 use Rattle.rules.specs.declared.DepthFound.the-variants.{Known, Unknown}
 
-Bounded : DepthFound → Type 0
-Bounded (Known m) = (0 < m .greatest) × (m .greatest ≤ 65535)
-Bounded Unknown = Unit {0}
+-- ---- one of the four
 
-abbrev known : ℕ → DepthFound
-known m = Known (record { greatest = m })
+-- a property of the depth that is found
+abbrev Of : (Depth → Type 0) → DepthFound → Type 0
+Of P (Known depth) = P depth
+Of P Unknown = Unit {0}
 
-each-bounded : (a b c d : Bool) → Bounded (cond a (known 255) (cond b (known 1023) (cond c (known 4095) (cond d (known 65535) Unknown))))
-unfolding Bounded
-each-bounded true b c d = (lit< tt, lit≤ tt)
-each-bounded false true c d = (lit< tt, lit≤ tt)
-each-bounded false false true d = (lit< tt, lit≤ tt)
-each-bounded false false false true = (lit< tt, lit≤ tt)
-each-bounded false false false false = tt
+module _ (takes : Depth → Bool) (P : Depth → Type 0) where
+  -- of one of the four that is taken
+  abbrev Taken : ℕ → ℕ → Type 0
+  Taken bits m = takes (ofBits bits m) ≡ true → P (ofBits bits m)
 
-pub depth-bounds : (bits : ℕ) (m : Depth) → depthOf bits ≡ Known m → (0 < m .greatest) × (m .greatest ≤ 65535)
-unfolding Bounded
-depth-bounds bits m e = subst Bounded e (each-bounded (eqb bits 8) (eqb bits 10) (eqb bits 12) (eqb bits 16))
+  tried : (depth : Depth) (other : DepthFound) → (takes depth ≡ true → P depth) → Of P other → Of P (orElse takes depth other)
+  tried depth other so later = by (takes depth) refl
+    where
+      by : (t : Bool) → takes depth ≡ t → Of P (cond t (Known depth) other)
+      by true e = so e
+      by false e = later
 
--- ---- two depths
+  each : Taken 8 255 → Taken 10 1023 → Taken 12 4095 → Taken 16 65535 → (depth : Depth) → depthThat takes ≡ Known depth → P depth
+  each a b c d depth e = subst (Of P) e (tried _ _ a (tried _ _ b (tried _ _ c (tried _ _ d tt))))
 
 -- an M from 1 to 65535
 abbrev pub Deep : ℕ → Type 0
 Deep m = (0 < m) × (m ≤ 65535)
+
+pub depth-bounds : (bits : ℕ) (depth : Depth) → depthOf bits ≡ Known depth → Deep (depth .greatest)
+depth-bounds bits =
+    let in-bounds : Depth → Type 0 = λ depth. Deep (depth .greatest) in
+    each (λ depth. eqb bits (depth .bits)) in-bounds (λ e. (lit< tt, lit≤ tt)) (λ e. (lit< tt, lit≤ tt)) (λ e. (lit< tt, lit≤ tt)) (λ e. (lit< tt, lit≤ tt))
+
+-- a depth that is found by its greatest code has it, and is the depth of its bits
+pub depth-with : (m : ℕ) (depth : Depth) → depthWith m ≡ Known depth → (depth .greatest ≡ m) × (depthOf (depth .bits) ≡ Known depth)
+depth-with m =
+    let its-bits : Depth → Type 0 = λ depth. (depth .greatest ≡ m) × (depthOf (depth .bits) ≡ Known depth) in
+    each (λ depth. eqb m (depth .greatest)) its-bits
+    (λ e. (sym (eqb-true m 255 e), refl))
+    (λ e. (sym (eqb-true m 1023 e), refl))
+    (λ e. (sym (eqb-true m 4095 e), refl))
+    (λ e. (sym (eqb-true m 65535 e), refl))
+
+-- ---- two depths
 
 -- both depths of a pair are known by themselves
 pub record EachKnown (bits : Bits) (depths : Depths) : Type 0 where

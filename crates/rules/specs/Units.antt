@@ -50,17 +50,30 @@ widthLimit = 10_000
 
 -- ---- depths
 
-abbrev known : ℕ → DepthFound
-known m = Known (record { greatest = m })
+-- so many bits, with greatest code M
+abbrev pub ofBits : ℕ → ℕ → Depth
+ofBits bits m = record { bits = bits; greatest = m }
 
--- four depths are known, with greatest code M
-abbrev pub depthOf : ℕ → DepthFound
-depthOf bits =
-    cond (eqb bits 8) (known 255)
-    (cond (eqb bits 10) (known 1023)
-    (cond (eqb bits 12) (known 4095)
-    (cond (eqb bits 16) (known 65535)
+-- a depth where the test takes it, and else another
+abbrev pub orElse : (Depth → Bool) → Depth → DepthFound → DepthFound
+orElse takes depth other = cond (takes depth) (Known depth) other
+
+-- four depths are known: the one that the test takes
+abbrev pub depthThat : (Depth → Bool) → DepthFound
+depthThat takes =
+    orElse takes (ofBits 8 255)
+    (orElse takes (ofBits 10 1023)
+    (orElse takes (ofBits 12 4095)
+    (orElse takes (ofBits 16 65535)
     Unknown)))
+
+-- the depth of a width in bits
+abbrev pub depthOf : ℕ → DepthFound
+depthOf bits = depthThat (λ depth. eqb bits (depth .bits))
+
+-- the depth whose greatest code this is
+abbrev pub depthWith : ℕ → DepthFound
+depthWith m = depthThat (λ depth. eqb m (depth .greatest))
 
 -- two depths, of raw and of corrected codes, where both are known
 abbrev pub together : DepthFound → DepthFound → DepthsFound

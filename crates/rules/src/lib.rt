@@ -1,7 +1,7 @@
 // The types of document 01. What the calls answer and promise over them is in specs/, the theorems are in proofs/.
 ghost use mathlib.Core.Path.{_≡_};
 ghost use Rattle.rules.specs.Answers.{refusalNumber};
-ghost use Rattle.rules.specs.Units.{depthOf, depthsOf, sameBits};
+ghost use Rattle.rules.specs.Units.{depthOf, depthWith, depthsOf, sameBits};
 
 // ---- units and depths
 
@@ -38,9 +38,10 @@ impl TenMillionths {
     pub const GREATEST: i64 = 10_000_000_000;
 }
 
-// A depth, held as its greatest code M.
+// A depth: its width in bits, and its greatest code M. Only the constructors make one, so it is one of the four that are known.
 pub struct Depth {
-    pub greatest: u16,
+    bits: u32,
+    greatest: u16,
 }
 
 pub enum DepthFound {
@@ -63,19 +64,55 @@ impl Depth {
     {
         match bits {
             8 => DepthFound::Known(Depth {
+                bits,
                 greatest: Depth::BITS_8,
             }),
             10 => DepthFound::Known(Depth {
+                bits,
                 greatest: Depth::BITS_10,
             }),
             12 => DepthFound::Known(Depth {
+                bits,
                 greatest: Depth::BITS_12,
             }),
             16 => DepthFound::Known(Depth {
+                bits,
                 greatest: Depth::BITS_16,
             }),
             _ => DepthFound::Unknown,
         }
+    }
+
+    // The depth whose greatest code this is.
+    pub fn with_greatest(m: u64) -> DepthFound
+        ensures { λ r. ⌜ r ≡ depthWith m ⌝ }
+    {
+        if m == Depth::BITS_8 as u64 {
+            return Depth::of(8);
+        }
+        if m == Depth::BITS_10 as u64 {
+            return Depth::of(10);
+        }
+        if m == Depth::BITS_12 as u64 {
+            return Depth::of(12);
+        }
+        if m == Depth::BITS_16 as u64 {
+            return Depth::of(16);
+        }
+        DepthFound::Unknown
+    }
+
+    pub fn bits(self) -> u32
+        ensures { λ r. ⌜ r ≡ self .bits ⌝ }
+    {
+        self.bits
+    }
+
+    // M.
+    pub fn greatest(self) -> u16
+        ensures { λ r. ⌜ r ≡ self .greatest ⌝ }
+    {
+        self.greatest
     }
 }
 

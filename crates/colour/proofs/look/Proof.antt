@@ -30,7 +30,7 @@ abbrev depths : tie.After-depths → Depths
 depths c = c .depths .given .0 .0
 
 abbrev told : tie.Else2 → tie.After-depths
-told c = c .before .before .before .before
+told c = c .before .before .before .before .before
 
 -- ---- what has been passed
 
@@ -45,9 +45,14 @@ found c = sym (c .of .ensures ∙ ap depthsOf (c .before .same .ensures))
 known : (c : tie.After-depths) → depthsOf (sameBits (entry (asked c) .args .bits)) ≡ Both (depths c)
 known c = found (c .before .before) ∙ c .depths .given .1
 
+-- 23 was asked of the M of raw codes
+asked-within : (c : tie.After-codes-within) → let k = c .before .before .before .before in
+    c .codes-within .result ≡ within (rawM (depths k)) (entry (asked k) .args .pixel)
+asked-within c = let k = c .before .before .before .before in c .codes-within .ensures ∙ ap (λ m. within m (entry (asked k) .args .pixel)) (c .before .greatest .ensures)
+
 -- not 23
 inside : (c : tie.Else2) → within (rawM (depths (told c))) (entry (asked (told c)) .args .pixel) ≡ true
-inside c = sym (c .before .codes-within .ensures) ∙ not-false _ (c .if2 .left)
+inside c = sym (asked-within (c .before)) ∙ not-false _ (c .if2 .left)
 
 -- so there is a plan
 abbrev plan-there : (c : tie.After-plan-of) → Planned (c .plan-of .result) (now (entry (asked (told (c .before))) .args .table))
@@ -78,14 +83,16 @@ returns-2 c =
     let of = c .before .before in
     is-looks (sym (look-20 _ _ _ _ (could (of .before .before)) (found of ∙ c .enum-told .given .1)))
 
+greatest-requires : tie.Need-greatest-requires
+greatest-requires c κs = search needs
+
 codes-within-requires : tie.Need-codes-within-requires
 codes-within-requires c κs = search needs
 
 returns-3 : tie.Need-returns-3
 returns-3 c =
-    let at = c .before .before .before in
-    let k = at .before in
-    is-looks (sym (look-23 _ _ _ _ (depths k) (could (asked k)) (known k) (sym (c .before .codes-within .ensures) ∙ not-true _ (c .if2 .taken))))
+    let k = c .before .before .before .before .before in
+    is-looks (sym (look-23 _ _ _ _ (depths k) (could (asked k)) (known k) (sym (asked-within (c .before)) ∙ not-true _ (c .if2 .taken))))
 
 plan-of-requires : tie.Need-plan-of-requires
 plan-of-requires c κs = (_, could (asked (told c)))
@@ -119,6 +126,7 @@ look-spec =
     enum-known-depths
     enum-told
     returns-2
+    greatest-requires
     codes-within-requires
     returns-3
     plan-of-requires

@@ -1,6 +1,5 @@
 -- The buffers hold a piece, and a scale that is found is that of a known depth.
-use mathlib.Core.Path.{sym, ap, _∙_}
-use Rattle.ppm.specs.Scales.{depthWith}
+use mathlib.Core.Path.{sym, _∙_}
 use Rattle.ppm.proofs.Scaling.{scale-fits}
 use borrow.Author.Needs.{needs}
 use native.Mathlib.Omega.{arith}
@@ -43,7 +42,7 @@ pass-all-requires c κs =
     let found = scale .before .before in
     let s = found .before .before .before .before in
     let fits = scale-fits (s .args .frame .maxval) _ (sym (found .scale-of .ensures) ∙ scale .scale .given .1) in (
-      record { could = s .pre .0; known = fits .depth ∙ ap depthWith (sym (fits .greatest)) },
+      record { could = s .pre .0; known = fits .depth },
       (s .pre .1 .1, c .before .before .before .pixels .ensures .1),
     )
 

@@ -6,6 +6,7 @@ use mathlib.Core.Bool.{true}
 use mathlib.Core.List.{List, _++_}
 use borrow.Author.Needs.{needs}
 use borrow.Author.Tests.{not-true, not-false, le-leb, lt-leb}
+use lib.Dec.{leb}
 use lib.IntN.{ℤ}
 use lib.ListN.{length, drop}
 use Rattle.rules.specs.Units.{depthsOf, sameBits, rawM}
@@ -77,9 +78,16 @@ known c = found (c .before .before) ∙ c .depths .given .1
 passed : (c : tie.Else4) → let a = entry (asked (told c)) .args in Fillable (now (a .src)) (length (now (a .dst)))
 passed c = let room = c .before .before .before in record { whole = room .before .if2 .left; room = room .if3 .left }
 
+-- 23 is asked of the M of raw codes
+asked-within : (c : tie.After-greatest2) → let k = c .before .before .before .before .before .before in
+    leb (c .greatest2 .result) (c .before .greatest .result) ≡ within-all (rawM (depths k)) (now (entry (asked k) .args .src))
+asked-within c =
+    let k = c .before .before .before .before .before .before in
+    c .greatest2 .ensures (c .before .greatest .result) ∙ ap (λ m. within-all m (now (entry (asked k) .args .src))) (c .before .greatest .ensures)
+
 -- nor 23
 inside : (c : tie.Else4) → within-all (rawM (depths (told c))) (now (entry (asked (told c)) .args .src)) ≡ true
-inside c = sym (c .before .before .greatest .ensures (rawM (depths (told c)))) ∙ le-leb _ _ (c .if4 .left)
+inside c = sym (asked-within (c .before)) ∙ le-leb _ _ (c .if4 .left)
 
 -- so there is a plan
 abbrev plan-there : (c : tie.After-plan-of) → Planned (c .plan-of .result) (now (entry (asked (told (c .before))) .args .table))
@@ -125,14 +133,16 @@ returns-4 c =
 greatest-requires : tie.Need-greatest-requires
 greatest-requires c κs = search needs
 
+greatest-requires-2 : tie.Need-greatest-requires-2
+greatest-requires-2 c κs = search needs
+
 returns-5 : tie.Need-returns-5
 returns-5 c =
-    let most = c .before .before in
-    let room = most .before in
+    let room = c .before .before .before in
     let k = room .before .before .before .before in
     refuses
     (picture-23 _ _ _ _ _ (depths k) (could (asked k)) (known k) (room .before .if2 .left) (room .if3 .left)
-    (sym (most .greatest .ensures (rawM (depths k))) ∙ lt-leb _ _ (c .if4 .taken)))
+    (sym (asked-within (c .before)) ∙ lt-leb _ _ (c .if4 .taken)))
 
 plan-of-requires : tie.Need-plan-of-requires
 plan-of-requires c κs = (_, could (asked (told c)))
@@ -164,6 +174,7 @@ picture-spec =
     returns-3
     returns-4
     greatest-requires
+    greatest-requires-2
     returns-5
     plan-of-requires
     correct-all-requires

@@ -1,5 +1,7 @@
 -- What the look ensures is all that is asked of one that is shown.
-use mathlib.Core.Path.{sym, _∙_}
+use denote.Ref.{now}
+use mathlib.Core.Path.{sym, subst, _∙_}
+use Rattle.explain.specs.Spans.{Seen}
 use Rattle.explain.proofs.Between.{seen}
 use native.Mathlib.Omega.{arith}
 use borrow.Author.Needs.{needs}
@@ -48,12 +50,17 @@ enum-known-codes c = search needs
 show-pixel-requires : tie.Need-show-pixel-requires
 show-pixel-requires c κs = search needs
 
+greatest-requires : tie.Need-greatest-requires
+greatest-requires c κs = search needs
+
 show-look-requires : tie.Need-show-look-requires
 show-look-requires c κs =
     let codes = c .before .before .before in
     let look = codes .before .before in
     let depth = look .before .before .before .before .before in
-    seen (look .look .ensures) (codes .codes .given .1) (depth .depth .given .0 .0) (sym (depth .before .before .of .ensures) ∙ depth .depth .given .1)
+    let by-depth = seen (look .look .ensures) (codes .codes .given .1) (depth .depth .given .0 .0) (sym (depth .before .before .of .ensures) ∙ depth .depth .given .1) in
+    let a = depth .before .before .before .before .args in
+    subst (λ m. Seen (a .d) (now (a .table)) m (codes .codes .given .0 .1 .0)) (sym (c .greatest .ensures)) by-depth
 
 slice-aggregate-if-written : tie.Need-slice-aggregate-if-written
 slice-aggregate-if-written c = search needs
@@ -85,6 +92,7 @@ explain-spec =
     refuse-requires-3
     enum-known-codes
     show-pixel-requires
+    greatest-requires
     show-look-requires
     slice-aggregate-if-written
     if-written-requires

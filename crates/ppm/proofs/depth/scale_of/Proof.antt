@@ -1,24 +1,49 @@
--- Each arm of the match knows the maxval; the last knows that it is none of the four.
-use borrow.Author.Tests.{ne-eqb}
+-- The depth that is found decides: its bits and greatest code are read off it.
+use mathlib.Core.Path.{_≡_, sym, ap, ap₂, _∙_}
+use borrow.Author.Needs.{needs}
+use lib.Dec.{ltb}
+use Rattle.rules.specs.declared.DepthFound.{DepthFound}
+use Rattle.ppm.specs.Scales.{scaleBy, scaleOf}
+use Rattle.ppm.specs.declared.depth.ScaleFound.the-variants.{Known}
 use Rattle.ppm.proofs.depth.scale_of.Statement.{statement}
 use Rattle.ppm.proofs.depth.scale_of.Tie as tie
 
+-- the scale of what was found
+found : (c : tie.After-with-greatest) (x : DepthFound) → c .with-greatest .result ≡ x → scaleBy x ≡ scaleOf (c .before .args .maxval)
+found c x e = ap scaleBy (sym e ∙ c .with-greatest .ensures)
+
+with-greatest-requires : tie.Need-with-greatest-requires
+with-greatest-requires c κs = search needs
+
+enum-known-depth : tie.Need-enum-known-depth
+enum-known-depth c = search needs
+
+enum-told : tie.Need-enum-told
+enum-told c = search needs
+
 returns : tie.Need-returns
-returns c = rw (c .match .keys1)
+returns c = found (c .before .before) _ (c .enum-told .given .1)
+
+greatest-requires : tie.Need-greatest-requires
+greatest-requires c κs = search needs
+
+bits-requires : tie.Need-bits-requires
+bits-requires c κs = search needs
 
 returns-2 : tie.Need-returns-2
-returns-2 c = rw (c .match .keys2)
-
-returns-3 : tie.Need-returns-3
-returns-3 c = rw (c .match .keys3)
-
-returns-4 : tie.Need-returns-4
-returns-4 c = rw (c .match .keys4)
-
-returns-5 : tie.Need-returns-5
-returns-5 c =
-    let not = c .match .rest in
-    rw (ne-eqb _ 255 (not .0 .0 .0 .1), ne-eqb _ 1023 (not .0 .0 .1), ne-eqb _ 4095 (not .0 .1), ne-eqb _ 65535 (not .1))
+returns-2 c =
+    let depth = c .before .before .before in
+    ap₂ (λ bits m. Known (record { bits = bits; greatest = m; wide = ltb 255 m })) (c .bits .ensures) (c .before .greatest .ensures)
+    ∙ found (depth .before .before) _ (depth .depth .given .1)
 
 pub scale-of-spec : {M : Type 1} → statement M
-scale-of-spec = tie.close (tie.spec returns returns-2 returns-3 returns-4 returns-5)
+scale-of-spec =
+    tie.close
+    (tie.spec
+    with-greatest-requires
+    enum-known-depth
+    enum-told
+    returns
+    greatest-requires
+    bits-requires
+    returns-2)

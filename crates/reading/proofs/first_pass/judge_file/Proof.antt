@@ -71,20 +71,11 @@ judge-line-requires c κs =
     let found = line-found f in
     (f .before .before .before .loop .inv .fit, omega (arith, found .place, found .next-standing .inside))
 
-enum-known-judged : tie.Need-enum-known-judged Inv-loop μ-loop
-enum-known-judged c = search needs
+enum-known-checked : tie.Need-enum-known-checked Inv-loop μ-loop
+enum-known-checked c = search needs
 
 enum-told-2 : tie.Need-enum-told-2 Inv-loop μ-loop
 enum-told-2 c = search needs
-
-answer-requires : tie.Need-answer-requires Inv-loop μ-loop
-answer-requires c κs = c .before .before .judge-line .ensures .1
-
-returns-2 : tie.Need-returns-2 Inv-loop μ-loop
-returns-2 c =
-    let j = c .before .before .before in
-    let f = j .before .before .before in
-    c .answer .ensures ∙ stops (f .before .before .before .loop .inv) (line-found f) _ _ (c .before .enum-told2 .given .1) (j .judge-line .ensures .0)
 
 loop-less : tie.Need-loop-less Inv-loop μ-loop
 loop-less c =
@@ -95,7 +86,13 @@ loop-again : tie.Need-loop-again Inv-loop μ-loop
 loop-again c =
     let j = c .before .before .before in
     let f = j .before .before .before in
-    goes-on (f .before .before .before .loop .inv) (line-found f) _ _ (c .before .judged .given .1) (j .judge-line .ensures .0) (j .judge-line .ensures .1)
+    goes-on (f .before .before .before .loop .inv) (line-found f) _ (c .before .enum-told2 .given .1) (j .judge-line .ensures .0) (j .judge-line .ensures .1)
+
+returns-2 : tie.Need-returns-2 Inv-loop μ-loop
+returns-2 c =
+    let j = c .before .before .before in
+    let f = j .before .before .before in
+    stops (f .before .before .before .loop .inv) (line-found f) _ _ (c .before .checked .given .1) (j .judge-line .ensures .0)
 
 pub judge-file-spec : {M : Type 1} → statement M
 judge-file-spec =
@@ -115,9 +112,8 @@ judge-file-spec =
     part-judge-line-start
     part-judge-line-end
     judge-line-requires
-    enum-known-judged
+    enum-known-checked
     enum-told-2
-    answer-requires
-    returns-2
     loop-less
-    loop-again)
+    loop-again
+    returns-2)

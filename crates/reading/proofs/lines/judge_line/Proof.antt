@@ -10,6 +10,7 @@ use Rattle.rules.specs.Reading.Judge.{byteFault, go, judge, orderFault, take-in
 use Rattle.rules.specs.declared.Form.{Form}
 use Rattle.text.specs.Answers.{faultOf}
 use Rattle.reading.specs.View.{view}
+use Rattle.reading.specs.Verdicts.{verdictOf}
 use Rattle.reading.proofs.Welcomed.{short-line, welcomed}
 use Rattle.reading.proofs.lines.judge_line.Statement.{statement}
 use Rattle.reading.proofs.lines.judge_line.Tie as tie
@@ -28,9 +29,9 @@ place-fault c =
     let s = c .before .before .before .before .before .before in
     sym (c .order-fault .ensures ∙ ap (orderFault (s .args .places) (view (s .args .st))) (c .before .form-of .ensures))
 
-placed : (c : tie.After-enum-told2)
+placed : (c : tie.After-enum-told3)
     → let s = c .before .before .before .before .before .before .before .before in orderFault (s .args .places) (view (s .args .st)) (formOf (text s)) ≡ none
-placed c = place-fault (c .before .before) ∙ ap faultOf (c .enum-told2 .given .1)
+placed c = place-fault (c .before .before) ∙ ap faultOf (c .enum-told3 .given .1)
 
 -- what it says, by that form
 said : (c : tie.After-content-by) → let s = c .before .before .before .before .before .before .before .before .before in contentOf (s .args .place) (text s) ≡ c .content-by .result
@@ -42,15 +43,18 @@ said c =
 byte-fault-requires : tie.Need-byte-fault-requires
 byte-fault-requires c κs = search needs
 
-enum-known-reason : tie.Need-enum-known-reason
-enum-known-reason c = search needs
+enum-told : tie.Need-enum-told
+enum-told c = search needs
+
+enum-told-2 : tie.Need-enum-told-2
+enum-told-2 c = search needs
 
 returns : tie.Need-returns
 unfolding judge unless
-returns c = (rw (sym (c .before .before .before .byte-fault .ensures) ∙ ap faultOf (c .before .reason .given .1)), tt)
-
-enum-told : tie.Need-enum-told
-enum-told c = search needs
+returns c =
+    let b = c .before .before in
+    let s = b .before .before in
+    (ap (λ x. verdictOf x (s .args .st)) (c .enum-told2 .given .1) ∙ rw (sym (b .byte-fault .ensures) ∙ ap faultOf (c .enum-told2 .given .1)), s .pre .0)
 
 form-of-requires : tie.Need-form-of-requires
 form-of-requires c κs = search needs
@@ -58,25 +62,28 @@ form-of-requires c κs = search needs
 order-fault-requires : tie.Need-order-fault-requires
 order-fault-requires c κs = search needs
 
-enum-known-reason-2 : tie.Need-enum-known-reason-2
-enum-known-reason-2 c = search needs
+enum-told-3 : tie.Need-enum-told-3
+enum-told-3 c = search needs
+
+enum-told-4 : tie.Need-enum-told-4
+enum-told-4 c = search needs
 
 returns-2 : tie.Need-returns-2
 unfolding judge unless
 returns-2 c =
-    let o = c .before .before .before in
-    (rw (bytes-pass (o .before .before), place-fault o ∙ ap faultOf (c .before .reason2 .given .1)), tt)
-
-enum-told-2 : tie.Need-enum-told-2
-enum-told-2 c = search needs
+    let o = c .before .before in
+    let s = o .before .before .before .before .before .before in (
+      ap (λ x. verdictOf x (s .args .st)) (c .enum-told4 .given .1) ∙ rw (bytes-pass (o .before .before), place-fault o ∙ ap faultOf (c .enum-told4 .given .1)),
+      s .pre .0,
+    )
 
 content-by-requires : tie.Need-content-by-requires
 content-by-requires c κs =
     let o = c .before .before in
     (short-line _ (bytes-pass (o .before .before)), o .before .before .before .before .before .before .pre .1)
 
-enum-known-reason-3 : tie.Need-enum-known-reason-3
-enum-known-reason-3 c = search needs
+enum-known-reason : tie.Need-enum-known-reason
+enum-known-reason c = search needs
 
 enum-known-item : tie.Need-enum-known-item
 enum-known-item c = search needs
@@ -94,7 +101,8 @@ unfolding judge unless take-in
 returns-3 c =
     let found = c .before .before .before in
     let t = found .before in
-    (rw (bytes-pass (t .before .before .before .before), placed t, said found ∙ c .before .reason3 .given .1), tt)
+    let s = t .before .before .before .before .before .before .before .before in
+    (rw (bytes-pass (t .before .before .before .before), placed t, said found ∙ c .before .reason .given .1), s .pre .0)
 
 returns-4 : tie.Need-returns-4
 unfolding judge unless take-in
@@ -109,16 +117,16 @@ judge-line-spec =
     tie.close
     (tie.spec
     byte-fault-requires
-    enum-known-reason
-    returns
     enum-told
+    enum-told-2
+    returns
     form-of-requires
     order-fault-requires
-    enum-known-reason-2
+    enum-told-3
+    enum-told-4
     returns-2
-    enum-told-2
     content-by-requires
-    enum-known-reason-3
+    enum-known-reason
     enum-known-item
     with-item-requires
     returns-3
