@@ -1,0 +1,3 @@
+-- What the command is asked for, and what it answers.
+pub mod Verbs
+pub mod Statuses

@@ -1,0 +1,58 @@
+// What the first argument asks for.
+use text::is_named;
+ghost use mathlib.Core.Path.{_≡_};
+ghost use mathlib.Core.Bool.{_||_};
+ghost use Rattle.rules.specs.Reading.Lines.{bytes, same};
+ghost use Rattle.command.specs.Verbs.{verbOf, asksHelp};
+
+pub enum Verb {
+    Report,
+    Explain,
+    Correct,
+    Help,
+    Version,
+    Unknown,
+}
+
+const REPORT: [u8; 6] = *b"report";
+
+const EXPLAIN: [u8; 7] = *b"explain";
+
+const CORRECT: [u8; 7] = *b"correct";
+
+const VERSION: [u8; 9] = *b"--version";
+
+const LONG_HELP: [u8; 6] = *b"--help";
+
+const SHORT_HELP: [u8; 2] = *b"-h";
+
+// Whether a word asks for help.
+pub fn asks_help(word: &[u8]) -> bool
+    ensures { λ r. ⌜ r ≡ asksHelp (now (word .entry)) ⌝ }
+{
+    if is_named(word, &LONG_HELP) {
+        return true;
+    }
+    is_named(word, &SHORT_HELP)
+}
+
+pub fn verb_of(word: &[u8]) -> Verb
+    ensures { λ r. ⌜ r ≡ verbOf (now (word .entry)) ⌝ }
+{
+    if is_named(word, &REPORT) {
+        return Verb::Report;
+    }
+    if is_named(word, &EXPLAIN) {
+        return Verb::Explain;
+    }
+    if is_named(word, &CORRECT) {
+        return Verb::Correct;
+    }
+    if is_named(word, &VERSION) {
+        return Verb::Version;
+    }
+    if asks_help(word) {
+        return Verb::Help;
+    }
+    Verb::Unknown
+}
