@@ -1,8 +1,6 @@
 // What the first argument asks for.
 use text::is_named;
 ghost use mathlib.Core.Path.{_≡_};
-ghost use mathlib.Core.Bool.{_||_};
-ghost use Rattle.rules.specs.Reading.Lines.{bytes, same};
 ghost use Rattle.command.specs.Verbs.{verbOf, asksHelp};
 
 pub enum Verb {

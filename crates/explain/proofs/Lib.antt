@@ -3,3 +3,4 @@ pub mod Seeking
 pub mod RowsOwnLine
 pub mod Spanning
 pub mod Between
+mod Ends

@@ -30,9 +30,12 @@ use rules::TenMillionths;
 ghost use mathlib.Core.Path.{_≡_};
 ghost use mathlib.Core.Bool.{true};
 ghost use Prim.Native.Nat.{_*_};
-ghost use Rattle.rules.specs.Units.{inRange};
+ghost use Rattle.rules.specs.Looking.{look};
+ghost use Rattle.rules.specs.Units.{inRange, sameBits};
 ghost use Rattle.colour.specs.Adding.{RowAt};
+ghost use Rattle.desk.specs.Outcomes.{EndsAs};
 ghost use Rattle.desk.specs.declared.outcomes.Outcome.the-variants.{Refused};
+ghost use Rattle.explain.specs.Questions.{askedAs, lookedAs};
 ghost use Rattle.explain.specs.Spans.{Seen};
 
 fn say_number(n: u64) -> bool {
@@ -181,13 +184,12 @@ fn refuse(reason: Refusal) -> Outcome
     Outcome::Refused
 }
 
-// The look at a pixel, explained or refused: a loaded table is never 24, and then come 20 and 23.
-pub fn explain(d: Description, file: &[u8], table: &[i64], bits: u32, pixel: Pixel) -> Outcome {
+// The look at a pixel of 16-bit codes, explained or refused.
+fn explain_held(d: Description, file: &[u8], table: &[i64], bits: u32, raw: Codes) -> Outcome
+    ensures { λ r. ⌜ EndsAs (lookedAs (look d (now (table .entry)) (sameBits bits) raw)) r ⌝ }
+{
     let DepthFound::Known(depth) = Depth::of(bits) else {
         return refuse(Refusal::DepthUnknown);
-    };
-    let Pixel::Held(raw) = pixel else {
-        return refuse(Refusal::CodeTooGreat);
     };
     match look(d, table, bits, raw) {
         Look::Refused(reason) => refuse(reason),
@@ -196,5 +198,25 @@ pub fn explain(d: Description, file: &[u8], table: &[i64], bits: u32, pixel: Pix
             let written = show_pixel(raw, bits) && show_look(d, file, table, m, codes, shares);
             Outcome::Done.if_written(written, b"erythmoda explain")
         }
+    }
+}
+
+// A code that no depth has: 20 comes before 23.
+fn refuse_beyond(bits: u32) -> Outcome
+    ensures { λ r. ⌜ r ≡ Refused ⌝ }
+{
+    match Depth::of(bits) {
+        DepthFound::Known(_) => refuse(Refusal::CodeTooGreat),
+        DepthFound::Unknown => refuse(Refusal::DepthUnknown),
+    }
+}
+
+// The answer to a question about a table that was loaded, which is never 24: then come 20 and 23.
+pub fn explain(d: Description, file: &[u8], table: &[i64], bits: u32, pixel: Pixel) -> Outcome
+    ensures { λ r. ⌜ EndsAs (askedAs d (now (table .entry)) bits pixel) r ⌝ }
+{
+    match pixel {
+        Pixel::Held(raw) => explain_held(d, file, table, bits, raw),
+        Pixel::Beyond => refuse_beyond(bits),
     }
 }

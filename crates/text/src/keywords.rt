@@ -43,8 +43,8 @@ pub fn keyword_of(w: &[u8]) -> KeywordFound
     KeywordFound::Unknown
 }
 
-// Whether a word is a keyword's name.
-fn is_named(w: &[u8], name: &[u8]) -> bool
+// Whether a word is a name, byte for byte.
+pub fn is_named(w: &[u8], name: &[u8]) -> bool
     ensures { λ r. ⌜ r ≡ same (now (w .entry)) (now (name .entry)) ⌝ }
 {
     check::same(w, name)

@@ -9,6 +9,7 @@ mod words;
 pub use cursor::Cursor;
 pub use cursor::Step;
 pub use keywords::KeywordFound;
+pub use keywords::is_named;
 pub use keywords::keyword_of;
 pub use lines::Checked;
 pub use lines::byte_fault;

@@ -3,7 +3,6 @@ use mathlib.Core.Path.{sym, _∙_}
 use borrow.Author.Tests.{not-false}
 use Rattle.correct.proofs.Sizes.{room-for}
 use borrow.Author.Needs.{needs}
-use native.Mathlib.Omega.{arith}
 use Rattle.correct.proofs.correct.Statement.{statement}
 use Rattle.correct.proofs.correct.Tie as tie
 

@@ -4,7 +4,6 @@ use mathlib.Core.Path.{subst}
 use Rattle.desk.specs.Loads.{Loads}
 use Rattle.correct.proofs.Loading.{loaded-could}
 use borrow.Author.Needs.{needs}
-use native.Mathlib.Omega.{arith}
 use Rattle.correct.proofs.correct_by.Statement.{statement}
 use Rattle.correct.proofs.correct_by.Tie as tie
 

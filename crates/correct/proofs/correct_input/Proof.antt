@@ -3,7 +3,6 @@ use mathlib.Core.Path.{subst}
 use Rattle.ppm.specs.Header.{Sized}
 use Rattle.correct.specs.Headers.{SizedHeading}
 use borrow.Author.Needs.{needs}
-use native.Mathlib.Omega.{arith}
 use Rattle.correct.proofs.correct_input.Statement.{statement}
 use Rattle.correct.proofs.correct_input.Tie as tie
 

@@ -2,7 +2,6 @@
 use mathlib.Core.Path.{sym, _∙_}
 use Rattle.ppm.proofs.Scaling.{scale-fits}
 use borrow.Author.Needs.{needs}
-use native.Mathlib.Omega.{arith}
 use Rattle.correct.proofs.correct_pixels.Statement.{statement}
 use Rattle.correct.proofs.correct_pixels.Tie as tie
 

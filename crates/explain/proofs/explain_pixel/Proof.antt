@@ -6,7 +6,6 @@ use lib.ListN.{length}
 use lib.Seq.{length-take-le}
 use Rattle.desk.specs.Loads.{Loads}
 use Rattle.desk.proofs.WhatIsLoaded.{first-bytes}
-use native.Mathlib.Omega.{arith}
 use borrow.Author.Needs.{needs}
 use Rattle.explain.proofs.explain_pixel.Statement.{statement}
 use Rattle.explain.proofs.explain_pixel.Tie as tie

@@ -1,7 +1,6 @@
 -- Longer input is refused at once; else the answer is reading's.
 use Rattle.rules.proofs.Answers.{reads-is}
 use Rattle.reporting.proofs.Answered.{too-long, short-enough}
-use native.Mathlib.Omega.{arith}
 use borrow.Author.Needs.{needs}
 use Rattle.reporting.proofs.answer_to.Statement.{statement}
 use Rattle.reporting.proofs.answer_to.Tie as tie

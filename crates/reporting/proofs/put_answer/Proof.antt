@@ -5,7 +5,6 @@ use Rattle.rules.specs.Answers.{refusalNumber}
 use Rattle.rules.specs.Reporting.{refusedLine, answerText, reportText}
 use Rattle.rules.specs.declared.Read.the-variants.{Accepted}
 use Rattle.reporting.proofs.Answered.{answered, tellable, room, reports}
-use native.Mathlib.Omega.{arith}
 use borrow.Author.Needs.{needs}
 use Rattle.reporting.proofs.put_answer.Statement.{statement}
 use Rattle.reporting.proofs.put_answer.Tie as tie

@@ -1,7 +1,6 @@
 -- The tests are the definition's, in its order.
 use borrow.Author.Tests.{lt-leb, le-leb}
 use Rattle.correct.specs.Pieces.{hasRoom}
-use native.Mathlib.Omega.{arith}
 use borrow.Author.Needs.{needs}
 use Rattle.correct.proofs.pieces.has_room.Statement.{statement}
 use Rattle.correct.proofs.pieces.has_room.Tie as tie

@@ -1,6 +1,5 @@
 -- The variant found is what the definition says of it.
 use Rattle.correct.specs.Pieces.{outcomeOf}
-use native.Mathlib.Omega.{arith}
 use borrow.Author.Needs.{needs}
 use Rattle.correct.proofs.pieces.outcome_of.Statement.{statement}
 use Rattle.correct.proofs.pieces.outcome_of.Tie as tie

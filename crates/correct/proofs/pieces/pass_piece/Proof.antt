@@ -7,7 +7,6 @@ use mir.Syntax.{w64}
 use mir.Val.{Fits}
 use lib.Seq.{length-take-le}
 use Rattle.desk.specs.Loads.{Fills}
-use Rattle.ppm.specs.Raster.{codeCount}
 use Rattle.correct.specs.Pieces.{pixelBytes}
 use Rattle.correct.proofs.Sizes.{piece-bytes, piece-codes, pixel-there}
 use native.Mathlib.Omega.{arith}

@@ -1,7 +1,6 @@
 -- What was filled is a count of the file's bytes.
 use mathlib.Core.Path.{subst}
 use Rattle.desk.specs.Loads.{Fills}
-use native.Mathlib.Omega.{arith}
 use borrow.Author.Needs.{needs}
 use Rattle.desk.proofs.loading.fetch.Statement.{statement}
 use Rattle.desk.proofs.loading.fetch.Tie as tie

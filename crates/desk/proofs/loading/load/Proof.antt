@@ -2,7 +2,6 @@
 use mathlib.Core.Path.{refl}
 use Rattle.desk.specs.declared.loading.Fetched.the-variants.{Failed}
 use borrow.Author.Needs.{needs}
-use native.Mathlib.Omega.{arith}
 use Rattle.desk.proofs.loading.load.Statement.{statement}
 use Rattle.desk.proofs.loading.load.Tie as tie
 

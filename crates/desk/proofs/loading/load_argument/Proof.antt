@@ -1,7 +1,6 @@
 -- A name that is too long has fetched nothing.
 use mathlib.Core.Path.{refl}
 use Rattle.desk.specs.declared.loading.Fetched.the-variants.{Failed}
-use native.Mathlib.Omega.{arith}
 use borrow.Author.Needs.{needs}
 use Rattle.desk.proofs.loading.load_argument.Statement.{statement}
 use Rattle.desk.proofs.loading.load_argument.Tie as tie

@@ -6,7 +6,6 @@ use lib.ListN.{length}
 use lib.Seq.{length-take-le}
 use Rattle.desk.specs.Loads.{Fetches}
 use Rattle.desk.proofs.WhatIsLoaded.{of-bytes-fetched, of-too-long, of-failed}
-use native.Mathlib.Omega.{arith}
 use borrow.Author.Needs.{needs}
 use Rattle.desk.proofs.loading.load_fetched.Statement.{statement}
 use Rattle.desk.proofs.loading.load_fetched.Tie as tie

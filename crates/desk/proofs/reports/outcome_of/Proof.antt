@@ -1,6 +1,5 @@
 -- The variant found is what the definition says of it.
 use Rattle.desk.specs.Outcomes.{outcomeOf}
-use native.Mathlib.Omega.{arith}
 use borrow.Author.Needs.{needs}
 use Rattle.desk.proofs.reports.outcome_of.Statement.{statement}
 use Rattle.desk.proofs.reports.outcome_of.Tie as tie

@@ -4,7 +4,6 @@ use mathlib.Core.Path.{sym, subst}
 use lib.ListN.{length}
 use lib.Seq.{length-take-le}
 use Rattle.desk.specs.Loads.{Fills}
-use native.Mathlib.Omega.{arith}
 use borrow.Author.Needs.{needs}
 use Rattle.desk.proofs.reports.report_input.Statement.{statement}
 use Rattle.desk.proofs.reports.report_input.Tie as tie

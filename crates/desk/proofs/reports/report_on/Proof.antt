@@ -4,7 +4,6 @@ use lib.Seq.{length-take-le}
 use Rattle.rules.proofs.Reporting.Lengths.{text-inside}
 use Rattle.desk.specs.Outcomes.{outcomeOf, EndsAs}
 use Rattle.desk.proofs.Ends.{ends-as}
-use native.Mathlib.Omega.{arith}
 use borrow.Author.Needs.{needs}
 use Rattle.desk.proofs.reports.report_on.Statement.{statement}
 use Rattle.desk.proofs.reports.report_on.Tie as tie

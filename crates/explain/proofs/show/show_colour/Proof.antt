@@ -5,7 +5,6 @@ use Rattle.rules.specs.Demands.{Each}
 use Rattle.colour.specs.Adding.{RowAt}
 use Rattle.explain.specs.Spans.{listed}
 use Rattle.explain.proofs.Spanning.{listed-stand}
-use native.Mathlib.Omega.{arith}
 use borrow.Author.Needs.{needs}
 use Rattle.explain.proofs.show.show_colour.Statement.{statement}
 use Rattle.explain.proofs.show.show_colour.Tie as tie

@@ -1,6 +1,5 @@
 -- A table that could have been read has an N in range.
 use Rattle.explain.proofs.Spanning.{in-range}
-use native.Mathlib.Omega.{arith}
 use borrow.Author.Needs.{needs}
 use Rattle.explain.proofs.show.show_look.Statement.{statement}
 use Rattle.explain.proofs.show.show_look.Tie as tie

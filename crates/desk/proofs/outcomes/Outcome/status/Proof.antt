@@ -1,5 +1,4 @@
 -- The variant found has the definition's number.
-use mathlib.Core.Path.{sym, ap}
 use borrow.Author.Needs.{needs}
 use Rattle.desk.specs.Outcomes.{statusOf}
 use Rattle.desk.proofs.outcomes.Outcome.status.Statement.{statement}

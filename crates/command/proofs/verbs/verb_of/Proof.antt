@@ -1,0 +1,119 @@
+-- Each verb in turn, in the order of the definition; a word that a test has passed by is not that verb.
+use denote.Ref.{now}
+use Prim.Native.Nat.{ℕ}
+use mathlib.Core.List.{List}
+use mathlib.Core.Bool.{false}
+use mathlib.Core.Path.{_≡_, sym, _∙_}
+use Rattle.rules.specs.Reading.Lines.{bytes, same}
+use Rattle.command.specs.Verbs.{verbOf}
+use borrow.Author.Needs.{needs}
+use Rattle.command.proofs.verbs.verb_of.Statement.{statement}
+use Rattle.command.proofs.verbs.verb_of.Tie as tie
+
+-- the word, and the place past one test from the place past the next
+abbrev word : tie.Else1 → List ℕ
+word c = now (c .before .before .before .before .args .word)
+
+abbrev one : tie.Else2 → tie.Else1
+one c = c .before .before .before
+
+abbrev two : tie.Else3 → tie.Else2
+two c = c .before .before .before
+
+abbrev three : tie.Else4 → tie.Else3
+three c = c .before .before .before
+
+no-report : (c : tie.Else1) → same (word c) (bytes "report") ≡ false
+unfolding bytes
+no-report c = sym (c .before .is-named .ensures) ∙ c .if1 .left
+
+no-explain : (c : tie.Else2) → same (word (one c)) (bytes "explain") ≡ false
+unfolding bytes
+no-explain c = sym (c .before .is-named2 .ensures) ∙ c .if2 .left
+
+no-correct : (c : tie.Else3) → same (word (one (two c))) (bytes "correct") ≡ false
+unfolding bytes
+no-correct c = sym (c .before .is-named3 .ensures) ∙ c .if3 .left
+
+no-version : (c : tie.Else4) → same (word (one (two (three c)))) (bytes "--version") ≡ false
+unfolding bytes
+no-version c = sym (c .before .is-named4 .ensures) ∙ c .if4 .left
+
+slice-aggregate-is-named : tie.Need-slice-aggregate-is-named
+slice-aggregate-is-named c = search needs
+
+is-named-requires : tie.Need-is-named-requires
+is-named-requires c κs = search needs
+
+returns : tie.Need-returns
+unfolding verbOf bytes
+returns c = rw (sym (c .before .is-named .ensures) ∙ c .if1 .taken)
+
+slice-aggregate-is-named-2 : tie.Need-slice-aggregate-is-named-2
+slice-aggregate-is-named-2 c = search needs
+
+is-named-requires-2 : tie.Need-is-named-requires-2
+is-named-requires-2 c κs = search needs
+
+returns-2 : tie.Need-returns-2
+unfolding verbOf bytes
+returns-2 c = rw (no-report (c .before .before .before), sym (c .before .is-named2 .ensures) ∙ c .if2 .taken)
+
+slice-aggregate-is-named-3 : tie.Need-slice-aggregate-is-named-3
+slice-aggregate-is-named-3 c = search needs
+
+is-named-requires-3 : tie.Need-is-named-requires-3
+is-named-requires-3 c κs = search needs
+
+returns-3 : tie.Need-returns-3
+unfolding verbOf bytes
+returns-3 c =
+    let d = c .before .before .before in
+    rw (no-report (one d), no-explain d, sym (c .before .is-named3 .ensures) ∙ c .if3 .taken)
+
+slice-aggregate-is-named-4 : tie.Need-slice-aggregate-is-named-4
+slice-aggregate-is-named-4 c = search needs
+
+is-named-requires-4 : tie.Need-is-named-requires-4
+is-named-requires-4 c κs = search needs
+
+returns-4 : tie.Need-returns-4
+unfolding verbOf bytes
+returns-4 c =
+    let d = c .before .before .before in
+    rw (no-report (one (two d)), no-explain (two d), no-correct d, sym (c .before .is-named4 .ensures) ∙ c .if4 .taken)
+
+asks-help-requires : tie.Need-asks-help-requires
+asks-help-requires c κs = search needs
+
+returns-5 : tie.Need-returns-5
+unfolding verbOf bytes
+returns-5 c =
+    let d = c .before .before in
+    rw (no-report (one (two (three d))), no-explain (two (three d)), no-correct (three d), no-version d, sym (c .before .asks-help .ensures) ∙ c .if5 .taken)
+
+returns-6 : tie.Need-returns-6
+unfolding verbOf bytes
+returns-6 c =
+    let d = c .before .before in
+    rw (no-report (one (two (three d))), no-explain (two (three d)), no-correct (three d), no-version d, sym (c .before .asks-help .ensures) ∙ c .if5 .left)
+
+pub verb-of-spec : {M : Type 1} → statement M
+verb-of-spec =
+    tie.close
+    (tie.spec
+    slice-aggregate-is-named
+    is-named-requires
+    returns
+    slice-aggregate-is-named-2
+    is-named-requires-2
+    returns-2
+    slice-aggregate-is-named-3
+    is-named-requires-3
+    returns-3
+    slice-aggregate-is-named-4
+    is-named-requires-4
+    returns-4
+    asks-help-requires
+    returns-5
+    returns-6)
