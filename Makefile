@@ -1,5 +1,5 @@
-# What there is to make. `make help` lists it, from the words that stand after each ##.
-.PHONY: all lib command install uninstall demo test fuzz bench help
+# What there is to make. `make` alone lists it, from the words that stand after each ##.
+.PHONY: help build lib command install uninstall demo test fuzz bench
 # each proves in the same folder, target
 .NOTPARALLEL:
 
@@ -11,7 +11,10 @@ INCLUDEDIR ?= $(PREFIX)/include
 MANDIR ?= $(PREFIX)/share/man
 export DESTDIR PREFIX BINDIR LIBDIR INCLUDEDIR MANDIR PYTHONDIR
 
-all: lib command ## the library and the command: what `make` alone makes
+help: ## this list
+	@awk -F ' ## ' '/^[a-z]+:.* ## / { sub(/:.*/, "", $$1); printf "make %-11s%s\n", $$1, $$2 }' Makefile
+
+build: lib command ## the library and the command
 
 lib: ## the library, static and shared, proved and compiled for this processor in target/native
 	@tools/native erythmoda target/native
@@ -21,7 +24,7 @@ command: ## the command erythmoda, proved but for command/main.c, in target/nati
 	@tools/command target/native
 	@echo "target/native has the command erythmoda, version $$(tools/version)"
 
-install: ## puts what `make` built, with header, manual and Python module, below PREFIX=/usr/local (staged in DESTDIR=)
+install: ## puts what `make build` made, with header, manual and Python module, below PREFIX=/usr/local (staged in DESTDIR=)
 	@tools/install put
 
 uninstall: ## takes away what `make install` put
@@ -38,6 +41,3 @@ fuzz: ## the tests' streams with new seeds, for SECONDS=.. or until it is stoppe
 
 bench: ## speed, beside the same rules in plain Rust
 	@tests/bench/run
-
-help: ## this list
-	@awk -F ' ## ' '/^[a-z]+:.* ## / { sub(/:.*/, "", $$1); printf "make %-11s%s\n", $$1, $$2 }' Makefile
