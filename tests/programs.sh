@@ -13,7 +13,7 @@ command=$root/target/native/erythmoda
 room=$(mktemp -d) || exit 2
 trap 'rm -rf "$room"' EXIT
 cd "$room" || exit 2
-export LC_ALL=C   # the system's own words, as the cases have them
+export LC_ALL=C   # a byte is a byte, to awk and its kin
 exec </dev/null   # a case that is given no input has none, and waits for no one
 shopt -s lastpipe # a case at the end of a pipe is counted as well
 # A case may say `to=FILE` before its first word: standard output goes there, and `to=-` closes it. It may say `broken=FILE`:
