@@ -1,6 +1,7 @@
 // Document 01's cases that are not marked P, with samples A.2, A.3 and A.4, answered by the proved code.
 // One line for each: its name, then all that the call answered and left in lent memory, parted by tabs.
 // tests/second/src/cases.rs has the format, and prints the same bytes by other means.
+mod longest;
 mod looks;
 mod pictures;
 mod print;
