@@ -3,10 +3,6 @@
 use crate::print;
 use erythmoda::erythmoda_check;
 
-fn show_description(description: &[i64; 11]) {
-    print::numbers(description);
-}
-
 fn show(name: &[u8], file: &[u8]) {
     let mut description = [7i64; 11];
     let mut line = 7u64;
@@ -15,7 +11,7 @@ fn show(name: &[u8], file: &[u8]) {
     print::raw(name);
     print::count(number as u64);
     print::count(line);
-    show_description(&description);
+    print::description(&description);
     print::count(places);
     print::raw(b"\n");
 }

@@ -1,4 +1,4 @@
-// Pixels looked at: the number, three codes, six rows and six weights. 1D, N = 2, 8 bits, all colours alike.
+// Pixels looked at: the number, three codes, six rows and six weights, all of which held what is no answer. 1D, N = 2, 8 bits, all colours alike.
 use crate::print;
 use erythmoda::erythmoda_look;
 
@@ -23,9 +23,9 @@ fn show_weights(weights: &[i64; 6]) {
 fn show(name: &[u8], lower: i64, upper: i64, last: i64, code: u16) {
     let description = [1, 2, lower, lower, lower, upper, upper, upper, 0, 0, 0];
     let table = [0, 0, 0, last, last, last];
-    let mut codes = [0u16; 3];
-    let mut rows = [0u32; 6];
-    let mut weights = [0i64; 6];
+    let mut codes = [777u16; 3];
+    let mut rows = [777u32; 6];
+    let mut weights = [-7i64; 6];
     let number = erythmoda_look(
         &description,
         &table,
@@ -46,4 +46,5 @@ fn show(name: &[u8], lower: i64, upper: i64, last: i64, code: u16) {
 pub(crate) fn run() {
     show(b"look-half-3", 0, 1000, 5_000_000, 3);
     show(b"look-quarter-255", 250, 750, 10_000_000, 255);
+    show(b"look-code-256", 0, 1000, 5_000_000, 256);
 }

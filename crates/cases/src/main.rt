@@ -2,6 +2,7 @@
 // One line for each: its name, then all that the call answered and left in lent memory, parted by tabs.
 // tests/second/src/cases.rs has the format, and prints the same bytes by other means.
 mod checks;
+mod longest;
 mod looks;
 mod pictures;
 mod print;

@@ -41,3 +41,7 @@ pub(crate) fn codes(list: &[u16]) {
         i += 1;
     }
 }
+
+pub(crate) fn description(eleven: &[i64; 11]) {
+    numbers(eleven);
+}

@@ -1,19 +1,21 @@
-// Files read: the number, the line, the description, and every place of a table that held 7s.
+// Files read: the number, the line, the description, and every place of a table that held 7s. The line and the description held what is no answer.
+use crate::longest;
 use crate::print;
 use erythmoda::erythmoda_read;
 
-fn show_description(description: &[i64; 11]) {
-    print::numbers(description);
-}
-
-fn into(name: &[u8], file: &[u8], table: &mut [i64]) {
-    let mut description = [0i64; 11];
-    let mut line = 0u64;
-    let number = erythmoda_read(file, &mut *table, &mut description, &mut line);
+// What a read answers, without the table.
+pub(crate) fn answered(name: &[u8], file: &[u8], table: &mut [i64]) {
+    let mut description = [-7i64; 11];
+    let mut line = 777u64;
+    let number = erythmoda_read(file, table, &mut description, &mut line);
     print::raw(name);
     print::count(number as u64);
     print::count(line);
-    show_description(&description);
+    print::description(&description);
+}
+
+fn into(name: &[u8], file: &[u8], table: &mut [i64]) {
+    answered(name, file, &mut *table);
     print::numbers(table);
     print::raw(b"\n");
 }
@@ -43,16 +45,23 @@ pub(crate) fn words() {
     into_six(b"word-plus", b"LUT_1D_SIZE 2\n+ 0 0\n0 0 0\n");
 }
 
+// A table whose last line is a comment of 250 bytes, or of 251.
+fn long_comment() {
+    let mut file = [b'x'; 277];
+    bytes::copy(b"LUT_1D_SIZE 2\n0 0 0\n1 1 1\n#", &mut file);
+    into_six(b"line-250", &file[..276]);
+    into_six(b"line-251", &file);
+    file[276] = b'\r';
+    into_six(b"line-251-cr", &file);
+}
+
 pub(crate) fn lines() {
-    let mut long = [b'x'; 251];
-    long[0] = b'#';
-    into_none(b"line-250", &long[..250]);
-    into_none(b"line-251", &long);
-    long[250] = b'\r';
-    into_none(b"line-251-cr", &long);
-    long[249] = b'\r';
-    long[250] = b'\n';
-    into_none(b"line-249-crlf", &long);
+    long_comment();
+    let mut first = [b'x'; 251];
+    first[0] = b'#';
+    first[249] = b'\r';
+    first[250] = b'\n';
+    into_none(b"line-249-crlf", &first);
     into_none(b"line-1-crlf", b"#\r\n");
     into_none(b"blank-before-comment", b" #\n");
 }
@@ -60,7 +69,7 @@ pub(crate) fn lines() {
 pub(crate) fn sizes() {
     into_none(b"size-1d-1", b"LUT_1D_SIZE 1\n");
     into_none(b"size-3d-1", b"LUT_3D_SIZE 1\n");
-    into_none(b"size-1d-65536", b"LUT_1D_SIZE 65536\n");
+    longest::run(b"size-1d-65536");
     into_none(b"size-1d-65537", b"LUT_1D_SIZE 65537\n");
     into_none(b"size-3d-256", b"LUT_3D_SIZE 256\n");
     into_none(b"size-3d-257", b"LUT_3D_SIZE 257\n");

@@ -7,7 +7,8 @@
 //! in front if below 0, no plus, no zeros in front. By the kind of case the fields are:
 //!
 //! - read: number, line, the eleven numbers of the description, then every place of the
-//!   lent table afterwards. Before the call every place held 7.
+//!   lent table afterwards. Before the call every place held 7. Of the longest table
+//!   not every place, but how many hold 0 and how many 7.
 //! - check: number, line, the eleven numbers of the description, then the places.
 //! - look: number, three codes, six rows, six weights.
 //! - picture: number, then every place of the lent output afterwards. Before the call
@@ -15,7 +16,8 @@
 //!
 //! What is read, `NL` standing for a newline and `CR` for a carriage return. WORD(w) is
 //! `LUT_1D_SIZE 2 NL w 0 0 NL 0 0 0 NL` without the blanks around NL, and CUBE is
-//! `LUT_3D_SIZE 2 NL`, seven times `0 0 0 NL`, and `1 1 1 NL`, likewise.
+//! `LUT_3D_SIZE 2 NL`, seven times `0 0 0 NL`, and `1 1 1 NL`, likewise. SMALL is
+//! `LUT_1D_SIZE 2 NL 0 0 0 NL 1 1 1 NL`.
 //!
 //! | name | file | places |
 //! |---|---|---|
@@ -25,15 +27,15 @@
 //! | word-1e-minus-thirty-nines | WORD(`1e-` and thirty `9`) | 6 |
 //! | word-5-point | WORD(`5.`) | 6 |
 //! | word-plus | WORD(`+`) | 6 |
-//! | line-250 | `#`, 249 `x` | 0 |
-//! | line-251 | `#`, 250 `x` | 0 |
-//! | line-251-cr | `#`, 249 `x`, CR | 0 |
+//! | line-250 | SMALL, `#`, 249 `x` | 6 |
+//! | line-251 | SMALL, `#`, 250 `x` | 6 |
+//! | line-251-cr | SMALL, `#`, 249 `x`, CR | 6 |
 //! | line-249-crlf | `#`, 248 `x`, CR, NL | 0 |
 //! | line-1-crlf | `#`, CR, NL | 0 |
 //! | blank-before-comment | ` #`, NL | 0 |
 //! | size-1d-1 | `LUT_1D_SIZE 1`, NL | 0 |
 //! | size-3d-1 | `LUT_3D_SIZE 1`, NL | 0 |
-//! | size-1d-65536 | `LUT_1D_SIZE 65536`, NL | 0 |
+//! | size-1d-65536 | `LUT_1D_SIZE 65536`, NL, 65536 times `0 0 0`, NL | 196609 |
 //! | size-1d-65537 | `LUT_1D_SIZE 65537`, NL | 0 |
 //! | size-3d-256 | `LUT_3D_SIZE 256`, NL | 0 |
 //! | size-3d-257 | `LUT_3D_SIZE 257`, NL | 0 |
@@ -44,8 +46,8 @@
 //! | sample-a3 | sample A.3, each line ended by NL | 9 |
 //! | sample-a4 | A.4's first two lines, then r, (3g + b)/4 and b, written 0, 0.25, 0.75 or 1 | 24 |
 //!
-//! A line that passes is answered 9 here, for want of a size, and a size that passes 13,
-//! for want of places.
+//! A 3D table of N = 256 is too long for a program with fixed arrays: that its size passes
+//! is shown by the answer 13, for want of places, where 257 gives 7.
 //!
 //! Looks: 1D, N = 2, no title, 8 bits.
 //!
@@ -53,6 +55,7 @@
 //! |---|---|---|---|
 //! | look-half-3 | 0 to 1000 | 0, 5000000 | 3 3 3 |
 //! | look-quarter-255 | 250 to 750 | 0, 10000000 | 255 255 255 |
+//! | look-code-256 | 0 to 1000 | 0, 5000000 | 256 256 256 |
 //!
 //! Pictures: CUBE's description and its 24 numbers, 8 bits. PIXELS is 51 102 204 255 0 255.
 //!
@@ -90,10 +93,14 @@ pub const SAMPLE_A4: &str = include_str!("../../accept/sample-a4-by-function.cub
 
 /// All lines that `second cases` prints.
 pub fn printed() -> String {
-    let reads = read_cases().into_iter().map(|(name, file, places)| read_line(name, &file, places));
+    let reads = read_cases().into_iter().map(|(name, file, places)| match name {
+        "size-1d-65536" => longest_line(name, &file, places),
+        _ => read_line(name, &file, places),
+    });
     let looks = [
         look_line("look-half-3", [0, 1000], [0, 5_000_000], 3),
         look_line("look-quarter-255", [250, 750], [0, 10_000_000], 255),
+        look_line("look-code-256", [0, 1000], [0, 5_000_000], 256),
     ];
     let pixels = [51, 102, 204, 255, 0, 255];
     let pictures = [
@@ -124,6 +131,11 @@ fn comment(length: usize, ending: &str) -> String {
     format!("#{}{ending}", "x".repeat(length - 1))
 }
 
+/// A small table that is accepted, then a comment as its last line.
+fn commented(length: usize, ending: &str) -> String {
+    format!("LUT_1D_SIZE 2\n0 0 0\n1 1 1\n{}", comment(length, ending))
+}
+
 fn read_cases() -> Vec<(&'static str, String, usize)> {
     let nines = "9".repeat(30);
     vec![
@@ -133,15 +145,15 @@ fn read_cases() -> Vec<(&'static str, String, usize)> {
         ("word-1e-minus-thirty-nines", word(&format!("1e-{nines}")), 6),
         ("word-5-point", word("5."), 6),
         ("word-plus", word("+"), 6),
-        ("line-250", comment(250, ""), 0),
-        ("line-251", comment(251, ""), 0),
-        ("line-251-cr", comment(250, "\r"), 0),
+        ("line-250", commented(250, ""), 6),
+        ("line-251", commented(251, ""), 6),
+        ("line-251-cr", commented(250, "\r"), 6),
         ("line-249-crlf", comment(249, "\r\n"), 0),
         ("line-1-crlf", comment(1, "\r\n"), 0),
         ("blank-before-comment", " #\n".to_string(), 0),
         ("size-1d-1", "LUT_1D_SIZE 1\n".to_string(), 0),
         ("size-3d-1", "LUT_3D_SIZE 1\n".to_string(), 0),
-        ("size-1d-65536", "LUT_1D_SIZE 65536\n".to_string(), 0),
+        ("size-1d-65536", format!("LUT_1D_SIZE 65536\n{}", "0 0 0\n".repeat(65536)), 196_609),
         ("size-1d-65537", "LUT_1D_SIZE 65537\n".to_string(), 0),
         ("size-3d-256", "LUT_3D_SIZE 256\n".to_string(), 0),
         ("size-3d-257", "LUT_3D_SIZE 257\n".to_string(), 0),
@@ -154,12 +166,26 @@ fn read_cases() -> Vec<(&'static str, String, usize)> {
     ]
 }
 
-fn read_line(name: &str, file: &str, places: usize) -> String {
+/// What a read answers, and the table afterwards.
+fn read_fields(file: &str, places: usize) -> (Vec<i64>, Vec<i64>) {
     let mut table = vec![7; places];
     let reading = read_into(file.as_bytes(), &mut table);
     let mut fields = vec![i64::from(reading.number), reading.line as i64];
     fields.extend(reading.description);
+    (fields, table)
+}
+
+fn read_line(name: &str, file: &str, places: usize) -> String {
+    let (mut fields, table) = read_fields(file, places);
     fields.extend(table);
+    format!("{name}\t{}", list(&fields, "\t"))
+}
+
+fn longest_line(name: &str, file: &str, places: usize) -> String {
+    let (mut fields, table) = read_fields(file, places);
+    for held in [0, 7] {
+        fields.push(table.iter().filter(|place| **place == held).count() as i64);
+    }
     format!("{name}\t{}", list(&fields, "\t"))
 }
 
