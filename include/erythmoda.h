@@ -21,11 +21,12 @@ extern "C" {
 #endif
 
 /* The version of this header and of the library beside it. MAJOR is the number in the shared library's name: it grows when
- * a call changes, so that a program never meets a library with other calls than it was compiled for. */
+ * a call changes, so that a program never meets a library with other calls than it was compiled for. MINOR grows when a
+ * rule changes, so that some file or pixel is answered otherwise. */
 #define ERYTHMODA_VERSION_MAJOR 0
-#define ERYTHMODA_VERSION_MINOR 1
+#define ERYTHMODA_VERSION_MINOR 2
 #define ERYTHMODA_VERSION_PATCH 0
-#define ERYTHMODA_VERSION "0.1.0"
+#define ERYTHMODA_VERSION "0.2.0"
 
 /* What a table is, in eleven numbers:
  *
@@ -108,7 +109,9 @@ static inline const char *erythmoda_words(uint32_t number) {
     }
 }
 
-/* Reads the bytes of one .cube file.
+/* Reads the bytes of one .cube file, which keeps the Cube LUT Specification 1.0 within the limits above and those that
+ * the refusals tell. A number is an optional sign, digits with or without a point before, among or after them (.5, 0.5,
+ * 5.), and perhaps an exponent (5e-1, 5.e-1); a point without a digit is none. N is digits alone.
  *
  * Accepted: `table` begins with three numbers for each row, and its later places keep theirs; `description` says what it
  * is, and `*line` is 0. Refused: the answer is 1 to 18, `*line` the line that decided, counted from 1, `description` is

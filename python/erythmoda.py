@@ -20,7 +20,7 @@ from ctypes import POINTER, byref, c_int64, c_size_t, c_uint8, c_uint16, c_uint3
 from pathlib import Path
 from typing import NamedTuple, Optional, Tuple
 
-__version__ = "0.1.0"
+__version__ = "0.2.0"
 __all__ = ["Description", "Look", "Refused", "Table", "WORDS", "check", "read"]
 
 WORDS = {

@@ -86,6 +86,23 @@ static void refused_reading(void) {
     expect(line == 2 && all_are(samples, TABLE_PLACES, KEPT), "a short table is kept, and its line is the first data line");
 }
 
+/* Numbers whose point has nothing after it, of a domain and of samples; and a point without a digit, which is none. */
+static void points(void) {
+    static const char bare[] = "DOMAIN_MAX 2. 2. 2.\nLUT_1D_SIZE 2\n0. -5. 7.E-2\n1. 1. 1.e0\n";
+    static const char lone[] = "LUT_1D_SIZE 2\n0 0 0\n1 -. 1\n";
+    static const int64_t first_row[] = {0, -50000000, 700000};
+    int64_t samples[6], description[ERYTHMODA_DESCRIPTION_PLACES];
+    uint64_t line = KEPT;
+    uint32_t answer;
+    answer = erythmoda_read((const uint8_t *)bare, sizeof bare - 1, samples, 6, description, &line);
+    expect_number(answer, ERYTHMODA_ACCEPTED, "reading points with nothing after them");
+    expect(memcmp(samples, first_row, sizeof first_row) == 0 && all_are(samples + 3, 3, 10000000), "their samples");
+    expect(all_are(description + 2, 3, 0) && all_are(description + 5, 3, 2000), "their domain");
+    answer = erythmoda_read((const uint8_t *)lone, sizeof lone - 1, samples, 6, description, &line);
+    expect_number(answer, ERYTHMODA_NOT_THREE_NUMBERS, "reading a point without a digit");
+    expect(line == 3, "the line of the point without a digit");
+}
+
 static void check_then_read(void) {
     int64_t *samples, description[ERYTHMODA_DESCRIPTION_PLACES], read_description[ERYTHMODA_DESCRIPTION_PLACES];
     uint64_t line = KEPT, places = KEPT;
@@ -197,6 +214,7 @@ int main(void) {
     struct colour_table before;
     memcpy(&before, &table, sizeof table);
     refused_reading();
+    points();
     check_then_read();
     refused_check();
     look(&table);

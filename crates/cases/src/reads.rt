@@ -42,6 +42,11 @@ pub(crate) fn words() {
         b"LUT_1D_SIZE 2\n1e-999999999999999999999999999999 0 0\n0 0 0\n",
     );
     into_six(b"word-5-point", b"LUT_1D_SIZE 2\n5. 0 0\n0 0 0\n");
+    into_six(
+        b"word-7-point-e-minus-2",
+        b"LUT_1D_SIZE 2\n7.E-2 0 0\n0 0 0\n",
+    );
+    into_six(b"word-point", b"LUT_1D_SIZE 2\n. 0 0\n0 0 0\n");
     into_six(b"word-plus", b"LUT_1D_SIZE 2\n+ 0 0\n0 0 0\n");
 }
 
@@ -74,6 +79,7 @@ pub(crate) fn sizes() {
     into_none(b"size-3d-256", b"LUT_3D_SIZE 256\n");
     into_none(b"size-3d-257", b"LUT_3D_SIZE 257\n");
     into_none(b"size-plus-2", b"LUT_1D_SIZE +2\n");
+    into_none(b"size-2-point", b"LUT_1D_SIZE 2.\n");
 }
 
 fn cube(name: &[u8], table: &mut [i64]) {

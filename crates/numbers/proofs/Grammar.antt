@@ -1,8 +1,8 @@
 -- The grammar by places: what stands between the places that the code finds is what the definitions read off the word.
 use Prim.Native.Nat.{ℕ, _+_}
 use mathlib.Core.Path.{_≡_, refl, sym}
-use mathlib.Core.Bool.{Bool, true, false, cond, _&&_}
-use mathlib.Core.List.{List, [], _∷_}
+use mathlib.Core.Bool.{Bool, true, false, cond, _&&_, _||_}
+use mathlib.Core.List.{List, [], _∷_, _++_}
 use mathlib.Core.Option.{Option, none, some}
 use native.Mathlib.Omega.{arith}
 use lib.Dec.{ltb}
@@ -13,8 +13,9 @@ use Rattle.rules.specs.Reading.Lines.{after, digit, eByte, every, minusByte, po
 use Rattle.rules.specs.Reading.Numerals.{Exponent, Mantissa, Numeral, digits, plain, pointed}
 use Rattle.rules.specs.Reading.Numbers.{assemble, exponentOf, numeralWith, numeralOf, unsigned}
 use Rattle.rules.proofs.Reading.Numbers.{digits-parts, spells-of}
-use Rattle.rules.proofs.Reading.Runs.{after-stops, run-starts}
+use Rattle.rules.proofs.Reading.Runs.{after-stops, append-every, run-starts}
 use Rattle.scan.specs.RunEnds.{runEnd}
+use Rattle.scan.proofs.Tests.{or-false}
 use Rattle.scan.proofs.Runs.{drop-to-end, end-further, take-to-end}
 use Rattle.numbers.specs.Parts.{part}
 
@@ -57,21 +58,21 @@ assemble-first false negative whole fraction (some x) = refl
 -- after the whole digits: a point or none, digits, and an exponent
 fraction-by : (negative : Bool) (whole l : List ℕ) → starts digit l ≡ false
     → let r = drop (boolByte (starts pointByte l)) l in
-    numeralWith negative whole l ≡ cond (cond (starts pointByte l) (starts digit r) (starts digit whole)) (assemble true negative whole (run digit r) (exponentOf (after digit r))) none
+    numeralWith negative whole l ≡ cond (starts digit whole || starts digit r) (assemble true negative whole (run digit r) (exponentOf (after digit r))) none
 unfolding numeralWith starts run after
-fraction-by negative whole [] h = assemble-first (starts digit whole) negative whole [] (exponentOf [])
+fraction-by negative whole [] h = rw (← or-false (starts digit whole)) (assemble-first (starts digit whole) negative whole [] (exponentOf []))
 fraction-by negative whole (b ∷ rest) h = by (pointByte b)
   where
     by : (t : Bool)
         → let r = drop (boolByte t) (b ∷ rest) in
-        cond t (assemble (starts digit rest) negative whole (run digit rest) (exponentOf (after digit rest))) (assemble (starts digit whole) negative whole [] (exponentOf (b ∷ rest)))
-        ≡ cond (cond t (starts digit r) (starts digit whole)) (assemble true negative whole (run digit r) (exponentOf (after digit r))) none
-    by true = assemble-first (starts digit rest) negative whole (run digit rest) (exponentOf (after digit rest))
-    by false = rw h (assemble-first (starts digit whole) negative whole [] (exponentOf (b ∷ rest)))
+        cond t (assemble (starts digit whole || starts digit rest) negative whole (run digit rest) (exponentOf (after digit rest))) (assemble (starts digit whole) negative whole [] (exponentOf (b ∷ rest)))
+        ≡ cond (starts digit whole || starts digit r) (assemble true negative whole (run digit r) (exponentOf (after digit r))) none
+    by true = assemble-first (starts digit whole || starts digit rest) negative whole (run digit rest) (exponentOf (after digit rest))
+    by false = rw (h, ← or-false (starts digit whole)) (assemble-first (starts digit whole) negative whole [] (exponentOf (b ∷ rest)))
 
 -- an optional sign up to a, whole digits up to b, a point or none, and digits up to d
 pub numeral-by : (w : List ℕ) (negative : Bool) (a b d : ℕ) (p : Bool) → negative ≡ starts minusByte w → drop a w ≡ unsigned w → b ≡ runEnd digit w a → p ≡ starts pointByte (drop b w) → d ≡ runEnd digit w (b + boolByte p)
-    → cond (cond p (ltb (b + boolByte p) d) (ltb a b)) (assemble true negative (part w a b) (part w (b + boolByte p) d) (exponentOf (drop d w))) none ≡ numeralOf w
+    → cond (ltb a b || ltb (b + boolByte p) d) (assemble true negative (part w a b) (part w (b + boolByte p) d) (exponentOf (drop d w))) none ≡ numeralOf w
 unfolding numeralOf
 numeral-by w negative a b d p sign skip whole-end e end =
     let f = digits-to w a b whole-end in
@@ -89,4 +90,4 @@ numeral-digits w n h = by (spells-of w n h .mantissa-so)
   where
     by : {l : List ℕ} → Mantissa l (n .whole) (n .fraction) → (every digit (n .whole) ≡ true) × (every digit (n .fraction) ≡ true)
     by (plain e f d) = (digits-parts (n .whole) d .1, rw f)
-    by (pointed e d g) = (d, digits-parts (n .fraction) g .1)
+    by (pointed e d) = append-every digit (n .whole) (n .fraction) (digits-parts (n .whole ++ n .fraction) d .1)

@@ -150,7 +150,7 @@ fn power_in(e: &[u8]) -> PowerFound
     })
 }
 
-// An optional sign; digits, or digits, if any, a point, and at least one digit after it; and an exponent or none.
+// An optional sign; digits, or digits with a point before, among or after them; and an exponent or none.
 fn numeral_in(w: &[u8]) -> NumeralFound
     ensures says { λ r. ⌜ numeralAt (now (w .entry)) r ≡ numeralOf (now (w .entry)) ⌝ }
     ensures within { λ r. ⌜ Inside (now (w .entry)) r ⌝ }
@@ -161,12 +161,8 @@ fn numeral_in(w: &[u8]) -> NumeralFound
     let pointed = starts_with(&w[point..], b'.');
     let fraction = point + pointed as usize;
     let end = run_end(w, fraction, ByteKind::Digit);
-    // a point has at least one digit after it; without a point there is a whole digit
-    let there = if pointed {
-        fraction < end
-    } else {
-        whole < point
-    };
+    // a digit stands before the point or after it
+    let there = whole < point || fraction < end;
     if !there {
         return NumeralFound::NoNumber;
     }

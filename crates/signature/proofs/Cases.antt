@@ -25,7 +25,7 @@ use Rattle.rules.specs.Picturing.{eachPixel, pictureWith, picture, outputAfter}
 use Rattle.rules.specs.Answers.{refusalNumber, readNumber, readLine}
 use Rattle.rules.proofs.Tests.{and-both}
 use Rattle.rules.proofs.Reading.Wordings.{same-eq}
-use Rattle.signature.specs.Cases.{Outcome, Case, outcome, marked, numbered, AllMet, ReadA3}
+use Rattle.signature.specs.Cases.{Outcome, Case, outcome, marked, numbered, points, AllMet, ReadA3}
 
 -- ---- a test that antt computes over a whole table, and what it tells
 
@@ -115,6 +115,10 @@ numbered-pass : test numbered ≡ true
 unfolding opened
 numbered-pass = refl
 
+points-pass : test points ≡ true
+unfolding opened
+points-pass = refl
+
 -- the cases of document 01 that are marked P
 pub marked-met : AllMet marked
 marked-met = tested marked marked-pass
@@ -122,6 +126,10 @@ marked-met = tested marked marked-pass
 -- the numbers 1 to 8, 10 to 15, 18 and 20 to 24 are given where document 01 says; 0, 9, 16 and 17 are among the cases marked P
 pub numbered-met : AllMet numbered
 numbered-met = tested numbered numbered-pass
+
+-- document 02's points with nothing after them
+pub points-met : AllMet points
+points-met = tested points points-pass
 
 -- 30, on line 0
 pub report-30 : (input : List ℕ) → reportBytes < length input → (readNumber (report input) ≡ 30) × (readLine (report input) ≡ 0)

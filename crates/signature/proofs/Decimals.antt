@@ -17,7 +17,7 @@ use Rattle.rules.specs.Reading.Numbers.{numberOf}
 use Rattle.rules.specs.declared.Number.the-variants.{Value}
 use Rattle.rules.proofs.Tests.{and-both, both-and}
 use Rattle.rules.proofs.Decimals.{no-places, one-place, no-fraction, some-fraction}
-use Rattle.rules.proofs.Reading.Numbers.{of-exact, spell-append, digits-parts}
+use Rattle.rules.proofs.Reading.Numbers.{of-exact, spell-append, digits-more}
 use Rattle.rules.proofs.Reading.Runs.{every-append}
 
 -- ---- the digits are those of the number
@@ -206,8 +206,8 @@ module _ (places : ℕ) (z : ℤ) where
           plain (ap (λ f. decimal whole ++ f) (ap (afterPoint places) none ∙ no-fraction places) ∙ append-nil (decimal whole)) (ap (placesOf places) none ∙ no-places places) (decimal-digits whole)
       split false e =
           let positive : 0 < rest = omega (arith, eqb-false rest 0 e) in
-          pointed (ap (λ f. decimal whole ++ f) (some-fraction places rest positive)) (digits-parts (decimal whole) (decimal-digits whole) .1)
-          (first-digit (placesOf places rest) (rest-placed .some positive) (rest-placed .each))
+          pointed (ap (λ f. decimal whole ++ f) (some-fraction places rest positive))
+          (digits-more (decimal whole) (placesOf places rest) (decimal-digits whole) (rest-placed .each))
 
   -- a sign, digits, and perhaps a point and digits; no exponent
   abbrev pub numeral : Numeral

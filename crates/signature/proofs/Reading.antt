@@ -3,6 +3,9 @@
 -- what a word says that is no number within its limit; exponents of any length
 pub mod Faults
 pub mod Nines
+-- what document 02 changed of reading, and what it left
+pub mod Moved
+pub mod BarePoints
 -- where numbers stand, and the lines by their numbers
 pub mod Places
 pub mod LineNumbers

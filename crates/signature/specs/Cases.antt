@@ -183,7 +183,7 @@ numbered =
     ∷ refused (bytes "LUT_3D_SIZE 2\nDOMAIN_MAX 1 2 1\n0 0 0") 24 12 3
     ∷ refused (bytes "LUT_3D_SIZE 2\n0 0 0") 23 13 2
     ∷ refused (bytes "LUT_1D_SIZE 2\n0 0 0\n0 0 0\n0 0 0") 6 14 4
-    ∷ refused (bytes "LUT_1D_SIZE 2\n5. 0 0") 6 15 2
+    ∷ refused (bytes "LUT_1D_SIZE 2\n. 0 0") 6 15 2
     ∷ refused (bytes "LUT_1D_SIZE 2\n0 0 0") 6 18 2
     ∷ lookRefused (describedBy zeroAndHalf) 9 (grey 1) 20
     ∷ lookRefused (describedBy zeroAndHalf) 8 (grey 256) 23
@@ -195,6 +195,31 @@ numbered =
     ∷ pictured oneRow 9 (1 ∷ 3 ∷ 1 ∷ 256 ∷ []) 3 24 (77 ∷ 77 ∷ 77 ∷ [])
     ∷ pictured (describedBy zeroAndHalf) 8 (1 ∷ 3 ∷ 1 ∷ 3 ∷ 1 ∷ 3 ∷ []) 7 0 (1 ∷ 2 ∷ 1 ∷ 2 ∷ 1 ∷ 2 ∷ 77 ∷ [])
     ∷ pictured (describedBy zeroAndHalf) 8 [] 1 0 (77 ∷ [])
+    ∷ []
+
+-- ---- document 02, Req 01: digits and a bare point are a number, a lone point is none, and N stays digits alone
+
+abbrev pub points : List Case
+points =
+    word "5." 0 0 (pos 50_000_000 ∷ replicate 5 (pos 0))
+    ∷ word "0." 0 0 (replicate 6 (pos 0))
+    ∷ word "-5." 0 0 (negsuc 49_999_999 ∷ replicate 5 (pos 0))
+    ∷ word "+12.e1" 0 0 (pos 1_200_000_000 ∷ replicate 5 (pos 0))
+    ∷ word "7.E-2" 0 0 (pos 700_000 ∷ replicate 5 (pos 0))
+    ∷ word "+12.e3" 16 2 (untouched 6)
+    ∷ word "1.e-8" 17 2 (untouched 6)
+    ∷ word "." 15 2 (untouched 6)
+    ∷ word "-." 15 2 (untouched 6)
+    ∷ word ".e1" 15 2 (untouched 6)
+    ∷ word "+.E2" 15 2 (untouched 6)
+    ∷ word "1.x" 15 2 (untouched 6)
+    ∷ refused (bytes "LUT_1D_SIZE 2.") 6 6 1
+    ∷ refused (bytes "DOMAIN_MAX . 1 1") 6 6 1
+    ∷ refused (bytes "DOMAIN_MAX 11. 1 1") 6 8 1
+    ∷ record {
+      asked = reading (bytes "DOMAIN_MIN -1. 0. 0\nDOMAIN_MAX 2. 2. 2.\nLUT_1D_SIZE 2\n0. 0. 0.\n1. 1.e0 1.") 6;
+      expected = record { number = 0; line = 0; table = replicate 3 (pos 0) ++ replicate 3 (pos 10_000_000); codes = []; rows = []; weights = [] };
+    }
     ∷ []
 
 -- ---- what the report program prints

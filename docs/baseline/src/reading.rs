@@ -157,7 +157,8 @@ fn decimal(word: &[u8], places: i64, limit: u64) -> Option<i64> {
         at += 1;
     }
     let after_point = point.map_or(0, |point| at - point - 1);
-    if at == 0 || (point.is_some() && after_point == 0) {
+    let digits = at - usize::from(point.is_some());
+    if digits == 0 {
         return None;
     }
     let power = exponent(&unsigned[at..])? + places + left_out - after_point as i64;

@@ -33,7 +33,9 @@ fn words() {
     assert_eq!(first_sample("1000.00000001"), Err(16));
     assert_eq!(first_sample(&format!("1e{nines}")), Err(16));
     assert_eq!(first_sample(&format!("1e-{nines}")), Err(17));
-    assert_eq!(first_sample("5."), Err(15));
+    // document 02, Req 01: "Document 01's number rule and its case 5. change: it is 5."
+    assert_eq!(first_sample("5."), Ok(50_000_000));
+    assert_eq!(first_sample("."), Err(15));
     assert_eq!(first_sample("+"), Err(15));
 }
 
@@ -200,7 +202,7 @@ fn the_samples() {
 #[test]
 fn refusals_keep_the_table_and_acceptance_keeps_later_places() {
     let mut table = [7; 8];
-    assert_eq!(read_into(b"LUT_1D_SIZE 2\n1 1 1\n1 1 5.\n", &mut table).number, 15);
+    assert_eq!(read_into(b"LUT_1D_SIZE 2\n1 1 1\n1 1 .\n", &mut table).number, 15);
     assert_eq!(table, [7; 8]);
     assert_eq!(read_into(b"LUT_1D_SIZE 2\n0 0 0\n0 0 0\n", &mut table).number, 0);
     assert_eq!(table, [0, 0, 0, 0, 0, 0, 7, 7]);

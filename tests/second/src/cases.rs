@@ -26,6 +26,8 @@
 //! | word-1e-thirty-nines | WORD(`1e` and thirty `9`) | 6 |
 //! | word-1e-minus-thirty-nines | WORD(`1e-` and thirty `9`) | 6 |
 //! | word-5-point | WORD(`5.`) | 6 |
+//! | word-7-point-e-minus-2 | WORD(`7.E-2`) | 6 |
+//! | word-point | WORD(`.`) | 6 |
 //! | word-plus | WORD(`+`) | 6 |
 //! | line-250 | SMALL, `#`, 249 `x` | 6 |
 //! | line-251 | SMALL, `#`, 250 `x` | 6 |
@@ -40,6 +42,7 @@
 //! | size-3d-256 | `LUT_3D_SIZE 256`, NL | 0 |
 //! | size-3d-257 | `LUT_3D_SIZE 257`, NL | 0 |
 //! | size-plus-2 | `LUT_1D_SIZE +2`, NL | 0 |
+//! | size-2-point | `LUT_1D_SIZE 2.`, NL | 0 |
 //! | cube-24-places | CUBE | 24 |
 //! | cube-23-places | CUBE | 23 |
 //! | sample-a2 | sample A.2, each line ended by NL | 96 |
@@ -144,6 +147,8 @@ fn read_cases() -> Vec<(&'static str, String, usize)> {
         ("word-1e-thirty-nines", word(&format!("1e{nines}")), 6),
         ("word-1e-minus-thirty-nines", word(&format!("1e-{nines}")), 6),
         ("word-5-point", word("5."), 6),
+        ("word-7-point-e-minus-2", word("7.E-2"), 6),
+        ("word-point", word("."), 6),
         ("word-plus", word("+"), 6),
         ("line-250", commented(250, ""), 6),
         ("line-251", commented(251, ""), 6),
@@ -158,6 +163,7 @@ fn read_cases() -> Vec<(&'static str, String, usize)> {
         ("size-3d-256", "LUT_3D_SIZE 256\n".to_string(), 0),
         ("size-3d-257", "LUT_3D_SIZE 257\n".to_string(), 0),
         ("size-plus-2", "LUT_1D_SIZE +2\n".to_string(), 0),
+        ("size-2-point", "LUT_1D_SIZE 2.\n".to_string(), 0),
         ("cube-24-places", CUBE.to_string(), 24),
         ("cube-23-places", CUBE.to_string(), 23),
         ("sample-a2", SAMPLE_A2.to_string(), 96),

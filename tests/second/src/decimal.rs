@@ -63,12 +63,13 @@ struct Form<'a> {
 
 impl<'a> Form<'a> {
     /// "an optional sign, then digits, or digits and a point and digits, or a point and
-    /// digits; a point has at least one digit after it. Then optionally e or E, an
-    /// optional sign, digits."
+    /// digits. Then optionally e or E, an optional sign, digits." By document 02, Req 01,
+    /// also "digits followed by a bare point, also before an exponent; a lone point stays
+    /// refused".
     fn of(word: &'a [u8]) -> Option<Form<'a>> {
         let (negative, rest) = split_sign(word);
         let (whole, rest) = split_digits(rest);
-        let (fraction, rest) = split_fraction(rest)?;
+        let (fraction, rest) = split_fraction(rest);
         if whole.is_empty() && fraction.is_empty() {
             return None;
         }
@@ -159,11 +160,11 @@ fn split_digits(word: &[u8]) -> (&[u8], &[u8]) {
     word.split_at(end)
 }
 
-/// A point and its digits, if there is a point; none if the digits are missing.
-fn split_fraction(word: &[u8]) -> Option<(&[u8], &[u8])> {
+/// The digits after a point, if there are a point and digits, and the rest.
+fn split_fraction(word: &[u8]) -> (&[u8], &[u8]) {
     match word {
-        [b'.', rest @ ..] => Some(split_digits(rest)).filter(|(digits, _)| !digits.is_empty()),
-        _ => Some((b"", word)),
+        [b'.', rest @ ..] => split_digits(rest),
+        _ => (b"", word),
     }
 }
 
@@ -206,10 +207,10 @@ mod tests {
     #[test]
     fn forms_that_are_no_number() {
         let words = [
-            "", "+", "-", ".", "+.", "5.", "5.e1", ".e1", "e1", "1e", "1e+", "1e-", "1e1.",
-            "1e1.5", "1e1e1", "--1", "+-1", "1-", "1+1", "1..5", "1.5.", "1,5", "0x1", "1f", "1d5",
-            "inf", "nan", "1_0", "1e ", " 1", "1 ", "\t1", "1#", "\"1\"", "1e1-", "1e--1", "1E+-1",
-            "+e",
+            "", "+", "-", ".", "+.", "-.", ".e1", "-.e1", "+.E2", "e1", "1e", "1e+", "1e-", "1.e",
+            "1.e+", "1.x", "1.-", "1..", "..1", "1e1.", "1e1.5", "1e1e1", "--1", "+-1", "1-",
+            "1+1", "1..5", "1.5.", "1,5", "0x1", "1f", "1d5", "inf", "nan", "1_0", "1e ", " 1",
+            "1 ", "\t1", "1#", "\"1\"", "1e1-", "1e--1", "1E+-1", "+e", "5.e1.",
         ];
         for word in words {
             assert_eq!(sample(word), NotANumber, "{word:?}");
@@ -228,8 +229,24 @@ mod tests {
     }
 
     #[test]
+    fn a_bare_point_changes_no_value() {
+        for word in ["1", "0", "-5", "+12e3", "7E-2", "007", "-0e-99", "1000", "-10", "1001e0"] {
+            let at = word.find(['e', 'E']).unwrap_or(word.len());
+            let with_point = format!("{}.{}", &word[..at], &word[at..]);
+            assert_eq!(sample(&with_point), sample(word), "{with_point}");
+            assert_eq!(bound(&with_point), bound(word), "{with_point}");
+        }
+        assert_eq!(sample("5."), Units(50_000_000));
+        assert_eq!(sample("+12.e1"), Units(1_200_000_000));
+        assert_eq!(sample("7.E-2"), Units(700_000));
+        assert_eq!(bound("2."), Units(2_000));
+        assert_eq!(sample("1001."), Beyond);
+        assert_eq!(sample("1.e-8"), Finer);
+    }
+
+    #[test]
     fn nought_in_every_dress() {
-        for word in ["0", "-0", "+0", ".0", "-0.000", "0e999", "0.0E-999", "00000e+00001"] {
+        for word in ["0", "-0", "+0", ".0", "0.", "-0.000", "0e999", "0.0E-999", "00000e+00001"] {
             assert_eq!(sample(word), Units(0), "{word}");
         }
         assert_eq!(sample(&format!("0e{}", "9".repeat(200))), Units(0));
@@ -299,7 +316,7 @@ mod tests {
     fn whole_digits_alone() {
         assert_eq!(whole_digits(b"0002"), Some(&b"2"[..]));
         assert_eq!(whole_digits(b"000"), Some(&b""[..]));
-        for word in [&b""[..], b"+2", b"-2", b"2.0", b"2e0", b"2x"] {
+        for word in [&b""[..], b"+2", b"-2", b"2.0", b"2.", b"2e0", b"2x"] {
             assert_eq!(whole_digits(word), None);
         }
     }

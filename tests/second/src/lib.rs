@@ -1,9 +1,9 @@
 //! A second program for .cube tables, written from the papers alone.
 //!
 //! Document 000 is the Cube LUT Specification 1.0; document 01 decides where
-//! 000 is silent, can be read in two ways, or we are narrower. This program
-//! shares nothing with the proved one but those two papers and the C boundary
-//! over which the two are compared.
+//! 000 is silent, can be read in two ways, or we are narrower; document 02
+//! changes document 01. This program shares nothing with the proved one but
+//! those papers and the C boundary over which the two are compared.
 //!
 //! | module | what document 01 calls it |
 //! |---|---|

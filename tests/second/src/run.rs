@@ -2,7 +2,7 @@
 
 use crate::gen::{file_case, look_case, picture_case, FileCase, LookCase, PictureCase};
 use crate::look::Look;
-use crate::met::{met, NAMES};
+use crate::met::{met, points_met, NAMES, POINTS};
 use crate::paper::number;
 use crate::reading::Check;
 use crate::show::{list, quoted, shortened, where_not_zero};
@@ -35,13 +35,14 @@ const PICTURE_NUMBERS: [u32; 6] = [
     number::NOT_FROM_READING,
 ];
 
-/// How often each call answered each number, and what the accepted looks met.
+/// How often each call answered each number, and what the files and the accepted looks met.
 #[derive(Default)]
 pub struct Counts {
     read: BTreeMap<u32, u64>,
     check: BTreeMap<u32, u64>,
     look: BTreeMap<u32, u64>,
     picture: BTreeMap<u32, u64>,
+    points: [u64; POINTS.len()],
     met: [u64; NAMES.len()],
 }
 
@@ -52,23 +53,25 @@ impl Counts {
             let shown: Vec<String> = counts.iter().map(|(n, many)| format!("{n}:{many}")).collect();
             lines_of(name, &list(&shown, " "))
         };
-        let met: Vec<String> =
-            NAMES.iter().zip(self.met).map(|(name, many)| format!("{name} {many}")).collect();
-        let met = if self.look.is_empty() { String::new() } else { list(&met, ", ") };
-        let looks = line("look", &self.look) + &lines_of("looks met", &met);
-        let files = line("read", &self.read) + &line("check", &self.check);
+        let files = line("read", &self.read)
+            + &met_line("files met", &self.read, &POINTS, &self.points)
+            + &line("check", &self.check);
+        let looks =
+            line("look", &self.look) + &met_line("looks met", &self.look, &NAMES, &self.met);
         files + &looks + &line("picture", &self.picture)
+    }
+
+    fn note_points(&mut self, case: &FileCase, answer: &ReadAnswer) {
+        add_met(&mut self.points, &points_met(case, answer));
     }
 
     fn note_met(&mut self, case: &LookCase, look: &Look) {
         if look.number == number::ACCEPTED {
-            for (many, on) in self.met.iter_mut().zip(met(case, look)) {
-                *many += u64::from(on);
-            }
+            add_met(&mut self.met, &met(case, look));
         }
     }
 
-    /// The numbers never seen on a call that was asked for, and what no look met.
+    /// The numbers never seen on a call that was asked for, and what no file and no look met.
     pub fn missing(&self, wanted: &Wanted) -> Vec<String> {
         let mut missing = Vec::new();
         let mut note = |name: &str, asked: u64, counts: &BTreeMap<u32, u64>, numbers: &[u32]| {
@@ -80,10 +83,30 @@ impl Counts {
         note("check", wanted.tables, &self.check, &of_check);
         note("look", wanted.looks, &self.look, &LOOK_NUMBERS);
         note("picture", wanted.pictures, &self.picture, &PICTURE_NUMBERS);
-        let unmet = NAMES.iter().zip(self.met).filter(|(_, many)| wanted.looks > 0 && *many == 0);
-        missing.extend(unmet.map(|(name, _)| format!("look: {name}")));
+        let mut unmet = |call: &str, asked: u64, names: &[&str], counts: &[u64]| {
+            let unmet = names.iter().zip(counts).filter(|(_, many)| asked > 0 && **many == 0);
+            missing.extend(unmet.map(|(name, _)| format!("{call}: {name}")));
+        };
+        unmet("read", wanted.tables, &POINTS, &self.points);
+        unmet("look", wanted.looks, &NAMES, &self.met);
         missing
     }
+}
+
+fn add_met(counts: &mut [u64], met: &[bool]) {
+    for (many, on) in counts.iter_mut().zip(met) {
+        *many += u64::from(*on);
+    }
+}
+
+/// How often each of the names was met by a call that was made.
+fn met_line(title: &str, call: &BTreeMap<u32, u64>, names: &[&str], counts: &[u64]) -> String {
+    if call.is_empty() {
+        return String::new();
+    }
+    let met: Vec<String> =
+        names.iter().zip(counts).map(|(name, many)| format!("{name} {many}")).collect();
+    lines_of(title, &list(&met, ", "))
 }
 
 /// A name and what is said of it, or nothing if nothing is.
@@ -101,8 +124,9 @@ pub fn run(wanted: &Wanted, other: Option<&dyn Side>) -> Result<Counts, String> 
     let mut counts = Counts::default();
     for index in 0..wanted.tables {
         let case = file_case(wanted.seed, index);
-        let number = one_file(&case, other).map_err(|d| told(index, d))?;
-        *counts.read.entry(number).or_default() += 1;
+        let answer = one_file(&case, other).map_err(|d| told(index, d))?;
+        *counts.read.entry(answer.number).or_default() += 1;
+        counts.note_points(&case, &answer);
         let number = one_check(&case, other).map_err(|d| told(index, d))?;
         *counts.check.entry(number).or_default() += 1;
     }
@@ -124,14 +148,14 @@ fn told(index: u64, difference: String) -> String {
     format!("case {index}\n{difference}")
 }
 
-fn one_file(case: &FileCase, other: Option<&dyn Side>) -> Result<u32, String> {
+fn one_file(case: &FileCase, other: Option<&dyn Side>) -> Result<ReadAnswer, String> {
     let own = Second.read(case)?;
     match other {
         Some(side) if side.read(case).as_ref() != Ok(&own) => {
             let differs = |case: &FileCase| side.read(case) != Second.read(case);
             Err(tell_file(&smaller_file(case, differs), side))
         }
-        _ => Ok(own.number),
+        _ => Ok(own),
     }
 }
 

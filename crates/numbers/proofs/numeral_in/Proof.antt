@@ -2,13 +2,13 @@
 use denote.Ref.{now}
 use Prim.Native.Nat.{ℕ, _+_, _≤_}
 use mathlib.Core.Path.{_≡_, sym, ap, subst, _∙_}
-use mathlib.Core.Bool.{Bool, true, false, cond}
+use mathlib.Core.Bool.{Bool, true, false, cond, _||_}
 use mathlib.Core.List.{List}
 use mathlib.Core.Logic.{⊎-elim}
 use mathlib.Core.Option.{Option, none}
 use native.Mathlib.Omega.{arith}
 use borrow.Author.Needs.{needs}
-use borrow.Author.Tests.{not-true, not-false}
+use borrow.Author.Tests.{le-ltb, lt-ltb, not-true, not-false}
 use lib.Dec.{ltb}
 use lib.ListN.{length, drop, length-drop}
 use lib.Seq.{drop-drop}
@@ -51,8 +51,8 @@ abbrev end : tie.After-run-end2 → ℕ
 end c = c .run-end2 .result
 
 -- whether the digits that must be there are
-abbrev enough : tie.After-run-end2 → Bool → Bool
-enough c pointed = cond pointed (ltb (fraction (c .before)) (end c)) (ltb (whole (c .before)) (point (c .before)))
+abbrev enough : tie.After-run-end2 → Bool
+enough c = ltb (whole (c .before)) (point (c .before)) || ltb (fraction (c .before)) (end c)
 
 -- with an exponent, or none if that is wrong
 abbrev with : tie.After-run-end2 → Option Exponent → Option Numeral
@@ -61,7 +61,7 @@ with c x =
     let w = word k in
     assemble true (k .before .before .before .before .starts-with .result) (part w (whole k) (point k)) (part w (fraction k) (end c)) x
 
-read : (c : tie.After-run-end2) (t : Bool) → enough c (c .before .starts-with2 .result) ≡ t → cond t (with c (exponentOf (drop (end c) (word (c .before))))) none ≡ numeralOf (word (c .before))
+read : (c : tie.After-run-end2) (t : Bool) → enough c ≡ t → cond t (with c (exponentOf (drop (end c) (word (c .before))))) none ≡ numeralOf (word (c .before))
 read c t e =
     let k = c .before in
     let s = k .before .before .before in
@@ -69,8 +69,10 @@ read c t e =
     ∙ numeral-by (word k) (s .before .starts-with .result) (whole k) (point k) (end c) (k .starts-with2 .result) (s .before .starts-with .ensures) (s .sign-length .ensures .0)
     (k .before .before .run-end .ensures .0) (is-pointed k) (c .run-end2 .ensures .0)
 
-tested : (c : tie.Joined1) → c .if1 .there ≡ enough (c .before) (c .before .before .starts-with2 .result)
-tested c = ⊎-elim (λ t. t .1 ∙ sym (ap (enough (c .before)) (t .0 .taken))) (λ t. t .1 ∙ sym (ap (enough (c .before)) (t .0 .left))) (c .if1 .came)
+tested : (c : tie.Joined1) → c .if1 .there ≡ enough (c .before)
+tested c =
+    let k = c .before .before in
+    ⊎-elim (λ t. t .1 ∙ sym (rw (lt-ltb (whole k) (point k) (t .0 .taken)))) (λ t. t .1 ∙ sym (rw (le-ltb (whole k) (point k) (t .0 .left)))) (c .if1 .came)
 
 -- ---- the exponent
 

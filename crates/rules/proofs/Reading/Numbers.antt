@@ -16,9 +16,9 @@ use Rattle.rules.specs.Reading.Numerals.{spell, Exact, Exponent, Mantiss
 use Rattle.rules.specs.Reading.Numbers.{assemble, exponentOf, numeralWith, numberOf, numeralOf, settle, unsigned, valueOf}
 use Rattle.rules.specs.declared.Number.the-variants.{Value, Beyond, Finer}
 use Rattle.rules.proofs.Tests.{no-some, and-both, both-and, or-none, none-or}
-use Rattle.rules.proofs.Reading.Runs.{run-after, run-every, run-starts, run-append, starts-append, starts-other}
+use Rattle.rules.proofs.Reading.Runs.{run-after, run-every, run-starts, run-append, starts-append, starts-either, starts-other, every-append, append-every}
 
-abbrev signByte : ℕ → Bool
+abbrev pub signByte : ℕ → Bool
 signByte b = plusByte b || minusByte b
 
 -- ---- bytes of one kind are of no other
@@ -30,7 +30,7 @@ or-either false b C h f g = g h
 digit-range : (b : ℕ) → digit b ≡ true → (48 ≤ b) × (b ≤ 57)
 digit-range b h = let e = and-both (leb 48 b) (leb b 57) h in (leb-true 48 b (e .0), leb-true b 57 (e .1))
 
-digit-no-sign : (b : ℕ) → digit b ≡ true → signByte b ≡ false
+pub digit-no-sign : (b : ℕ) → digit b ≡ true → signByte b ≡ false
 digit-no-sign b h = let r = digit-range b h in none-or _ _ (ne-eqb b 43 (λ e. omega arith)) (ne-eqb b 45 (λ e. omega arith))
 
 e-no-digit : (b : ℕ) → eByte b ≡ true → digit b ≡ false
@@ -46,7 +46,7 @@ pub record Unsigned (w : List ℕ) : Type 0 where
   pub word : w ≡ sign ++ unsigned w
   pub sign-so : Sign (starts minusByte w) sign
 
-unsign : (w : List ℕ) → Unsigned w
+pub unsign : (w : List ℕ) → Unsigned w
 unfolding unsigned starts
 unsign [] = record { sign = []; word = refl; sign-so = unwritten refl refl }
 unsign (b ∷ rest) = split (eqb b 43) refl (eqb b 45) refl
@@ -61,7 +61,7 @@ unsign (b ∷ rest) = split (eqb b 43) refl (eqb b 45) refl
     split false e false f = record { sign = []; word = rw (e, f); sign-so = unwritten refl f }
 
 -- a sign put in front of what has none
-sign-on : (negative : Bool) (s x : List ℕ) → Sign negative s → starts signByte x ≡ false → (unsigned (s ++ x) ≡ x) × (starts minusByte (s ++ x) ≡ negative)
+pub sign-on : (negative : Bool) (s x : List ℕ) → Sign negative s → starts signByte x ≡ false → (unsigned (s ++ x) ≡ x) × (starts minusByte (s ++ x) ≡ negative)
 unfolding unsigned starts
 sign-on negative s x (plus e n) h = (rw e, rw (e, n))
 sign-on negative s x (minus e n) h = (rw e, rw (e, n))
@@ -82,14 +82,20 @@ pub digits-parts : (w : List ℕ) → digits w ≡ true → (starts digit w ≡ 
 unfolding digits
 digits-parts w h = and-both (starts digit w) (every digit w) h
 
-parts-digits : (w : List ℕ) → starts digit w ≡ true → every digit w ≡ true → digits w ≡ true
+pub parts-digits : (w : List ℕ) → starts digit w ≡ true → every digit w ≡ true → digits w ≡ true
 unfolding digits
 parts-digits w s e = both-and _ _ s e
+
+-- more digits after digits
+pub digits-more : (a b : List ℕ) → digits a ≡ true → every digit b ≡ true → digits (a ++ b) ≡ true
+digits-more a b h e =
+    let k = digits-parts a h in
+    parts-digits (a ++ b) (starts-append digit a b (k .0)) (every-append digit a b (k .1) e)
 
 digits-unsigned : (w : List ℕ) → digits w ≡ true → starts signByte w ≡ false
 digits-unsigned w h = starts-other digit signByte digit-no-sign w (digits-parts w h .0)
 
-power-of : (l : List ℕ) (x : Exponent) → exponentOf l ≡ some x → Power l x
+pub power-of : (l : List ℕ) (x : Exponent) → exponentOf l ≡ some x → Power l x
 unfolding exponentOf
 power-of [] x h = absent refl cc
 power-of (b ∷ rest) x h = split (eByte b && digits (unsigned rest)) refl h
@@ -108,7 +114,7 @@ pub record Exponential (l : List ℕ) (x : Exponent) : Type 0 where
   pub no-digit : starts digit l ≡ false
   pub no-point : starts pointByte l ≡ false
 
-of-power : (l : List ℕ) (x : Exponent) → Power l x → Exponential l x
+pub of-power : (l : List ℕ) (x : Exponent) → Power l x → Exponential l x
 unfolding exponentOf starts
 of-power l x (absent e q) = record { read = rw (e, q); no-digit = rw e; no-point = rw e }
 of-power l x (written mark s e m g d) =
@@ -159,13 +165,13 @@ body-of negative whole [] n d h =
       mantissa-so = plain (a .whole-so) (sym (a .fraction-so)) (rw (a .whole-so) at (parts-digits whole (a .are-there) d));
       power-so = power-of [] (n .exponent) (a .exponent);
     }
-body-of negative whole (b ∷ rest) n d h = split (eqb b 46) refl h
+body-of negative whole (b ∷ rest) n d h = split (eqb b 46) refl
   where
-    split : (t : Bool) → eqb b 46 ≡ t
-        → cond t (assemble (starts digit rest) negative whole (run digit rest) (exponentOf (after digit rest))) (assemble (starts digit whole) negative whole [] (exponentOf (b ∷ rest))) ≡ some n
-        → Body negative (whole ++ b ∷ rest) n
-    split true e g =
-        let a = assembled (starts digit rest) negative whole (run digit rest) (exponentOf (after digit rest)) n g in
+    split : (t : Bool) → eqb b 46 ≡ t → Body negative (whole ++ b ∷ rest) n
+    split true e =
+        let a = assembled (starts digit whole || starts digit rest) negative whole (run digit rest) (exponentOf (after digit rest)) n (rw e at h) in
+        let first : starts digit (whole ++ run digit rest) ≡ true =
+        starts-either digit whole (run digit rest) d ∙ ap (λ (t : Bool). starts digit whole || t) (run-starts digit rest) ∙ a .are-there in
         record {
           negative-so = a .negative-so;
           mantissa = whole ++ b ∷ run digit rest;
@@ -173,12 +179,11 @@ body-of negative whole (b ∷ rest) n d h = split (eqb b 46) refl h
           word = rw (append-assoc) (ap (λ (l : List ℕ). whole ++ b ∷ l) (run-after digit rest));
           mantissa-so = pointed
               (rw (← (a .whole-so), ← (a .fraction-so)) (ap (λ (c : ℕ). whole ++ c ∷ run digit rest) (eqb-true b 46 e)))
-              (rw (a .whole-so) at d)
-              (rw (a .fraction-so) at (parts-digits (run digit rest) (run-starts digit rest ∙ a .are-there) (run-every digit rest)));
+              (rw (a .whole-so, a .fraction-so) at (parts-digits (whole ++ run digit rest) first (every-append digit whole (run digit rest) d (run-every digit rest))));
           power-so = power-of (after digit rest) (n .exponent) (a .exponent);
         }
-    split false e g =
-        let a = assembled (starts digit whole) negative whole [] (exponentOf (b ∷ rest)) n g in
+    split false e =
+        let a = assembled (starts digit whole) negative whole [] (exponentOf (b ∷ rest)) n (rw e at h) in
         record {
           negative-so = a .negative-so;
           mantissa = whole;
@@ -225,13 +230,18 @@ parsed m p n (plain e f d) g =
         → numeralWith (n .negative) (n .whole) p ≡ some n
     plainly [] x q s f = rw (x, s, ← f)
     plainly (b ∷ rest) x q s f = rw (q, x, s, ← f)
-parsed m p n (pointed e w d) g =
+parsed m p n (pointed e d) g =
     let x : Exponential p (n .exponent) = of-power p (n .exponent) g in
-    let k = digits-parts (n .fraction) d in
-    let r = run-append digit (n .fraction) p (k .1) (x .no-digit) in
+    let k = digits-parts (n .whole ++ n .fraction) d in
+    let w = append-every digit (n .whole) (n .fraction) (k .1) in
+    let r = run-append digit (n .fraction) p (w .1) (x .no-digit) in
     let l : m ++ p ≡ n .whole ++ 46 ∷ (n .fraction ++ p) = ap (λ (l : List ℕ). l ++ p) e ∙ append-assoc (n .whole) (46 ∷ n .fraction) p in
-    let q = run-append digit (n .whole) (46 ∷ (n .fraction ++ p)) w refl in
-    record { no-sign = rw l (first-sign (n .whole) w); reads = rw (l, q .0, q .1, r .0, r .1, starts-append digit (n .fraction) p (k .0), x .read) }
+    let q = run-append digit (n .whole) (46 ∷ (n .fraction ++ p)) (w .0) refl in
+    let there : starts digit (n .whole) || starts digit (n .fraction ++ p) ≡ true =
+    sym (starts-either digit (n .whole) (n .fraction ++ p) (w .0))
+    ∙ ap (starts digit) (sym (append-assoc (n .whole) (n .fraction) p))
+    ∙ starts-append digit (n .whole ++ n .fraction) p (k .0) in
+    record { no-sign = rw l (first-sign (n .whole) (w .0)); reads = rw (l, q .0, q .1, r .0, r .1, there, x .read) }
   where
     first-sign : (a : List ℕ) → every digit a ≡ true → starts signByte (a ++ 46 ∷ (n .fraction ++ p)) ≡ false
     first-sign [] h = refl

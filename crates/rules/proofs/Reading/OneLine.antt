@@ -148,8 +148,8 @@ mantissa-starts : (m whole fraction p : List ℕ) → Mantissa m whole fraction 
 unfolding starts every
 mantissa-starts m [] fraction p (plain e f d) = absurd (no-true (sym (digits-parts [] d .0)))
 mantissa-starts m (b ∷ whole) fraction p (plain e f d) = rw e (number-digit b (digits-parts (b ∷ whole) d .0))
-mantissa-starts m [] fraction p (pointed e w d) = rw e
-mantissa-starts m (b ∷ whole) fraction p (pointed e w d) = rw e (number-digit b (and-both (digit b) (every digit whole) w .0))
+mantissa-starts m [] fraction p (pointed e d) = rw e
+mantissa-starts m (b ∷ whole) fraction p (pointed e d) = rw e (number-digit b (digits-parts (b ∷ (whole ++ fraction)) d .0))
 
 spells-starts : (w : List ℕ) (n : Numeral) → Spells w n → starts numberByte w ≡ true
 unfolding starts

@@ -1,7 +1,7 @@
 -- A list is its longest first run of a kind and what stands after it, and nothing else is.
 use Prim.Native.Nat.{ℕ}
 use mathlib.Core.Path.{_≡_, refl, sym, ap}
-use mathlib.Core.Bool.{Bool, true, false, cond}
+use mathlib.Core.Bool.{Bool, true, false, cond, _||_}
 use mathlib.Core.List.{List, [], _∷_, _++_}
 use Rattle.rules.specs.Reading.Lines.{after, every, run, starts}
 use Rattle.rules.proofs.Tests.{no-true, and-both, both-and}
@@ -63,6 +63,20 @@ module _ (kind : ℕ → Bool) where
   every-append (x ∷ a) b p q =
       let h = and-both (kind x) (every kind a) p in
       both-and (kind x) (every kind (a ++ b)) (h .0) (every-append a b (h .1) q)
+
+  pub append-every : (a b : List ℕ) → every kind (a ++ b) ≡ true → (every kind a ≡ true) × (every kind b ≡ true)
+  unfolding every
+  append-every [] b h = (refl, h)
+  append-every (x ∷ a) b h =
+      let e = and-both (kind x) (every kind (a ++ b)) h in
+      let ih = append-every a b (e .1) in
+      (both-and (kind x) (every kind a) (e .0) (ih .0), ih .1)
+
+  -- after bytes of a kind, if there are any, one more starts a list with it
+  pub starts-either : (a b : List ℕ) → every kind a ≡ true → starts kind (a ++ b) ≡ starts kind a || starts kind b
+  unfolding every starts
+  starts-either [] b h = refl
+  starts-either (x ∷ a) b h = rw (and-both (kind x) (every kind a) h .0)
 
 -- a first byte of one kind is of no kind that shares no byte with it
 pub starts-other : (kind other : ℕ → Bool) → ((b : ℕ) → kind b ≡ true → other b ≡ false) → (l : List ℕ) → starts kind l ≡ true → starts other l ≡ false

@@ -26,7 +26,7 @@ pub record Found (p : ℕ) (l : List ℕ) (i : Item) : Type 0 where
 no-refuse : (r : Refusal) (st : State) → refuse r ≡ go st → ⊥
 no-refuse r st e = let z : _≡_ {A = ℕ} 0 1 = cc in omega arith
 
-no-refused : (r : Refusal) (n : ℕ) (d : Description) → Refused r n ≡ Accepted d → ⊥
+pub no-refused : (r : Refusal) (n : ℕ) (d : Description) → Refused r n ≡ Accepted d → ⊥
 no-refused r n d e = let z : _≡_ {A = ℕ} 0 1 = cc in omega arith
 
 -- the judge lets a line pass: no fault in its bytes or its place, and it says something

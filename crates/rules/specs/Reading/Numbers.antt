@@ -26,12 +26,13 @@ assemble there negative whole fraction none = none
 assemble there negative whole fraction (some e) =
     cond there (some (record { negative = negative; whole = whole; fraction = fraction; exponent = e })) none
 
--- after the whole digits: a point and digits, at least one, and an exponent; or the exponent at once, after at least one whole digit
+-- after the whole digits: a point, digits, if any, and an exponent, with a digit before the point or after it; or the exponent at once, after at least
+-- one whole digit
 unfoldable pub numeralWith : Bool → List ℕ → List ℕ → Option Numeral
 numeralWith negative whole [] = assemble (starts digit whole) negative whole [] (exponentOf [])
 numeralWith negative whole (b ∷ rest) =
     cond (pointByte b)
-    (assemble (starts digit rest) negative whole (run digit rest) (exponentOf (after digit rest)))
+    (assemble (starts digit whole || starts digit rest) negative whole (run digit rest) (exponentOf (after digit rest)))
     (assemble (starts digit whole) negative whole [] (exponentOf (b ∷ rest)))
 
 -- an optional sign, whole digits, and what follows them

@@ -30,10 +30,10 @@ pub data Sign (negative : Bool) (s : List ℕ) : Type 0 where
   plus : s ≡ 43 ∷ [] → negative ≡ false → Sign negative s
   minus : s ≡ 45 ∷ [] → negative ≡ true → Sign negative s
 
--- digits; or digits, if any, a point, and at least one digit after it
+-- digits; or digits with a point before, among or after them
 pub data Mantissa (m whole fraction : List ℕ) : Type 0 where
   plain : m ≡ whole → fraction ≡ [] → digits whole ≡ true → Mantissa m whole fraction
-  pointed : m ≡ whole ++ (46 ∷ fraction) → every digit whole ≡ true → digits fraction ≡ true → Mantissa m whole fraction
+  pointed : m ≡ whole ++ (46 ∷ fraction) → digits (whole ++ fraction) ≡ true → Mantissa m whole fraction
 
 -- nothing; or e or E, an optional sign, digits
 pub data Power (e : List ℕ) (x : Exponent) : Type 0 where

@@ -14,6 +14,10 @@ use Rattle.rules.specs.Reading.Numbers.{numberOf, numeralOf, settle, valueOf}
 use Rattle.rules.specs.declared.Number.the-variants.{Value, Malformed, Beyond, Finer}
 use Rattle.rules.proofs.Reading.Numbers.{spells-of, of-spells}
 
+-- a word spells one numeral at most
+pub spelt-one : (w : List ℕ) (n m : Numeral) → Spells w n → Spells w m → n ≡ m
+spelt-one w n m s t = let e : _≡_ {A = Option Numeral} (some n) (some m) = sym (of-spells w n s) ∙ of-spells w m t in cc
+
 module _ (places limit : ℕ) (w : List ℕ) where
   settle-formed : (neg : Bool) (p q : ℕ) → settle limit neg p q ≡ Malformed → ⊥
   unfolding settle

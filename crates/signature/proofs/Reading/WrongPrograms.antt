@@ -30,6 +30,15 @@ place k t = natAbs (getD t k (pos 0))
 abbrev redStep : String
 redStep = "LUT_3D_SIZE 2\n0 0 0\n1 0 0\n0 0 0\n0 0 0\n0 0 0\n0 0 0\n0 0 0\n0 0 0\n"
 
+abbrev barePoint : String
+barePoint = "LUT_1D_SIZE 2\n5. 0 0\n0 0 0"
+
+abbrev lonePoint : String
+lonePoint = "LUT_1D_SIZE 2\n. 0 0\n0 0 0"
+
+abbrev pointInN : String
+pointInN = "LUT_1D_SIZE 2.\n0 0 0\n0 0 0"
+
 module _ (f : Reader) (keeps : ReadsAll f) where
   abbrev answered : String → Read
   answered file = f (bytes file) sevens .0
@@ -76,3 +85,18 @@ module _ (f : Reader) (keeps : ReadsAll f) where
   pub runs-blue-fastest : place 12 (left redStep) ≡ 10_000_000 → ⊥
   unfolding opened
   runs-blue-fastest e = let z : _≡_ {A = ℕ} 0 10_000_000 = sym (ap (place 12) (keeps (bytes redStep) sevens .memory)) ∙ e in omega arith
+
+  -- a point with nothing after it refused, as it was before document 02's Req 01
+  pub refuses-a-bare-point : readNumber (answered barePoint) ≡ 15 → ⊥
+  unfolding opened
+  refuses-a-bare-point e = let z : _≡_ {A = ℕ} 0 15 = sym (keeps (bytes barePoint) sevens .number) ∙ e in omega arith
+
+  -- a lone point taken, for 0 say
+  pub takes-a-lone-point : readNumber (answered lonePoint) ≡ 0 → ⊥
+  unfolding opened
+  takes-a-lone-point e = let z : _≡_ {A = ℕ} 15 0 = sym (keeps (bytes lonePoint) sevens .number) ∙ e in omega arith
+
+  -- N read as a number
+  pub takes-a-point-in-n : readNumber (answered pointInN) ≡ 0 → ⊥
+  unfolding opened
+  takes-a-point-in-n e = let z : _≡_ {A = ℕ} 6 0 = sym (keeps (bytes pointInN) sevens .number) ∙ e in omega arith

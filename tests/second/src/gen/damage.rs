@@ -480,8 +480,7 @@ fn table_any_length(draft: &mut Draft, draws: &mut Draws) {
 // 14 to 18.
 
 fn row_too_many(draft: &mut Draft, draws: &mut Draws) {
-    const LINES: &[&str] =
-        &["0 0 0", "1 1 1", "5. 0 0", "0", "1e9 0 0", "+", "1e-9 0 0", "0 0 0 0"];
+    const LINES: &[&str] = &["0 0 0", "1 1 1", ". 0 0", "0", "1e9 0 0", "+", "1e-9 0 0", "0 0 0 0"];
     for _ in 0..draws.pick(&[1, 1, 2]) {
         let text = one_of(LINES, draws);
         put_after_data(draft, draws, Line { part: Part::Data, text });

@@ -35,7 +35,7 @@ pub fn plain(units: i64, places: usize) -> String {
 /// Nought, by digits and an exponent of any size.
 fn nought(draws: &mut Draws) -> String {
     let sign = draws.pick(&["", "", "", "-", "+"]);
-    let digits = draws.pick(&["0", "0", "0", "0.0", ".0", "000", "0.0000000000"]);
+    let digits = draws.pick(&["0", "0", "0", "0.0", ".0", "0.", "000", "00.", "0.0000000000"]);
     let nines = "9".repeat(draws.below(40) + 1);
     let exponent = match draws.below(12) {
         0 => "e999".to_string(),
@@ -73,7 +73,7 @@ fn pointed(digits: &str, power: i64) -> (String, String) {
     (whole.to_string(), fraction.to_string())
 }
 
-/// Zeros that change nothing, in front and behind.
+/// Zeros that change nothing, in front and behind, and a point that has no digit after it.
 fn dressed(draws: &mut Draws, whole: &str, fraction: &str) -> String {
     let front = if draws.one_in(8) { draws.below(40) + 1 } else { 0 };
     let behind = if draws.one_in(8) { draws.below(20) + 1 } else { 0 };
@@ -82,7 +82,7 @@ fn dressed(draws: &mut Draws, whole: &str, fraction: &str) -> String {
     if whole.is_empty() && (fraction.is_empty() || draws.one_in(2)) {
         whole = "0".to_string();
     }
-    let point = if fraction.is_empty() { "" } else { "." };
+    let point = if fraction.is_empty() && !draws.one_in(4) { "" } else { "." };
     format!("{whole}{point}{fraction}")
 }
 
@@ -134,7 +134,7 @@ pub fn beyond(draws: &mut Draws, limit: usize) -> String {
         1 => format!("{}e1", "2".to_string() + &whole[1..]),
         2 => format!("1e{nines}"),
         3 => format!("0.{zeros}1E+{nines}"),
-        4 => format!("1{zeros}1e{limit}"),
+        4 => format!("1{zeros}1.e{limit}"),
         _ => "1".to_string() + &"0".repeat(limit) + "1e0",
     };
     format!("{sign}{size}")
@@ -150,7 +150,7 @@ pub fn finer(draws: &mut Draws, places: usize) -> String {
         0 => format!("0.{zeros}{digit}"),
         1 => format!(".{zeros}{digit}0"),
         2 => format!("{digit}e-{nines}"),
-        3 => format!("{digit}E-{}", places + 1),
+        3 => format!("{digit}.E-{}", places + 1),
         _ => format!("9.{}{digit}", "9".repeat(places)),
     };
     format!("{sign}{size}")
@@ -159,10 +159,10 @@ pub fn finer(draws: &mut Draws, places: usize) -> String {
 /// A word that is most likely no number.
 pub fn wrong(draws: &mut Draws) -> String {
     const WORDS: &[&str] = &[
-        "5.", "+", "-", ".", "1e", "1e+", "1E-", "1.e5", ".e1", "-.", "+.e5", "1..2", "1,5",
-        "0x10", "--1", "+-1", "1_0", "1e5.0", "1e5e5", "1-", "0#", "1\"", "1d5", "1f", "inf",
-        "nan", "-inf", "e5", "E", "5.+1", "1e+-1", "0e", "0.e0", "..", "0.0.0", "1e1-", "+e1",
-        "9/1", "1:0",
+        "+", "-", ".", ".", "1e", "1e+", "1E-", "1.e", ".e1", "-.", "+.", "+.e5", "-.E2", "1..2",
+        "1..", "1.x", "1,5", "0x10", "--1", "+-1", "1_0", "1e5.0", "1e5.", "1e5e5", "1-", "0#",
+        "1\"", "1d5", "1f", "inf", "nan", "-inf", "e5", "E", "5.+1", "1e+-1", "0e", "0.e", "..",
+        "0.0.0", "1e1-", "+e1", "9/1", "1:0",
     ];
     match draws.below(3) {
         0 => draws.pick(WORDS).to_string(),
