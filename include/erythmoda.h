@@ -109,9 +109,10 @@ static inline const char *erythmoda_words(uint32_t number) {
     }
 }
 
-/* Reads the bytes of one .cube file, which keeps the Cube LUT Specification 1.0 within the limits above and those that
- * the refusals tell. A number is an optional sign, digits with or without a point before, among or after them (.5, 0.5,
- * 5.), and perhaps an exponent (5e-1, 5.e-1); a point without a digit is none. N is digits alone.
+/* Reads the bytes of one .cube file. It is accepted if it keeps the Cube LUT Specification 1.0 within the limits above and
+ * those that the refusals tell, and `table` has three places for each row. A number in it is an optional sign, digits with
+ * or without a point before, among or after them (.5, 0.5, 5.), and perhaps an exponent (5e-1, 5.e-1); a point without a
+ * digit is none. N is digits alone.
  *
  * Accepted: `table` begins with three numbers for each row, and its later places keep theirs; `description` says what it
  * is, and `*line` is 0. Refused: the answer is 1 to 18, `*line` the line that decided, counted from 1, `description` is

@@ -3,16 +3,16 @@ use Prim.Native.Nat.{ℕ, _+_}
 use mathlib.Core.Path.{_≡_, refl, sym}
 use mathlib.Core.Bool.{Bool, true, false, cond, _&&_, _||_}
 use mathlib.Core.List.{List, [], _∷_, _++_}
-use mathlib.Core.Option.{Option, none, some}
+use mathlib.Core.Option.{none, some}
 use native.Mathlib.Omega.{arith}
 use lib.Dec.{ltb}
 use lib.ListN.{length, getD, drop}
 use lib.Seq.{drop-drop}
 use mir.Val.{boolByte}
 use Rattle.rules.specs.Reading.Lines.{after, digit, eByte, every, minusByte, pointByte, run, starts}
-use Rattle.rules.specs.Reading.Numerals.{Exponent, Mantissa, Numeral, digits, plain, pointed}
+use Rattle.rules.specs.Reading.Numerals.{Mantissa, Numeral, digits, plain, pointed}
 use Rattle.rules.specs.Reading.Numbers.{assemble, exponentOf, numeralWith, numeralOf, unsigned}
-use Rattle.rules.proofs.Reading.Numbers.{digits-parts, spells-of}
+use Rattle.rules.proofs.Reading.Numbers.{assemble-first, digits-parts, spells-of}
 use Rattle.rules.proofs.Reading.Runs.{after-stops, append-every, run-starts}
 use Rattle.scan.specs.RunEnds.{runEnd}
 use Rattle.scan.proofs.Tests.{or-false}
@@ -47,13 +47,6 @@ record DigitsTo (w : List ℕ) (a e : ℕ) : Type 0 where
 
 digits-to : (w : List ℕ) (a e : ℕ) → e ≡ runEnd digit w a → DigitsTo w a e
 digits-to w a e h = record { stand = rw h (take-to-end digit w a); then = rw h (drop-to-end digit w a); there = rw h (end-further digit w a) }
-
--- the digits that must be there are asked first
-assemble-first : (there negative : Bool) (whole fraction : List ℕ) (x : Option Exponent)
-    → assemble there negative whole fraction x ≡ cond there (assemble true negative whole fraction x) none
-assemble-first true negative whole fraction x = refl
-assemble-first false negative whole fraction none = refl
-assemble-first false negative whole fraction (some x) = refl
 
 -- after the whole digits: a point or none, digits, and an exponent
 fraction-by : (negative : Bool) (whole l : List ℕ) → starts digit l ≡ false

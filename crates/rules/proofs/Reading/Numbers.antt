@@ -144,6 +144,13 @@ assembled true negative whole fraction (some e) n h =
       fraction-so = ap (λ (m : Numeral). m .fraction) q;
     }
 
+-- the digits that must be there are asked first
+pub assemble-first : (there negative : Bool) (whole fraction : List ℕ) (x : Option Exponent)
+    → assemble there negative whole fraction x ≡ cond there (assemble true negative whole fraction x) none
+assemble-first true negative whole fraction x = refl
+assemble-first false negative whole fraction none = refl
+assemble-first false negative whole fraction (some x) = refl
+
 -- what follows a sign
 pub record Body (negative : Bool) (l : List ℕ) (n : Numeral) : Type 0 where
   pub negative-so : negative ≡ n .negative

@@ -37,17 +37,12 @@ use Rattle.rules.specs.declared.Three.{Three}
 use Rattle.rules.proofs.Answers.{checks-is, reads-is}
 use Rattle.rules.proofs.Tests.{no-some}
 use Rattle.rules.proofs.Reading.Runs.{run-after, run-every, run-append, starts-append, starts-other}
-use Rattle.rules.proofs.Reading.Numbers.{Unsigned, digit-no-sign, digits-parts, of-power, of-spells, parts-digits, power-of, sign-on, signByte, unsign}
+use Rattle.rules.proofs.Reading.Numbers.{Unsigned, assemble-first, digit-no-sign, digits-parts, of-power, of-spells, parts-digits, power-of, sign-on, signByte, unsign}
 use Rattle.rules.proofs.Reading.Walk.{no-refused}
 use Rattle.signature.specs.Before.{BareAmong, BarePoint, Freed, Unformed, Unmoved, boundsBy, formBy, lineBefore, lineBy, lower-bounds, numberBefore, numeralBefore, pointedBefore, readBefore, readBy, readLinesBy, samples, samplesBy, tableBefore, tableBy, threeBy, upper-bounds, withoutPoint}
 use Rattle.signature.proofs.Reading.Moved.{AlikeOrStops, SameOrDiffers, lines-moved, table-alike}
 
 -- ---- words
-
--- where the digits that must be there are missing, there is no numeral
-missing : (negative : Bool) (whole fraction : List ℕ) (x : Option Exponent) → assemble false negative whole fraction x ≡ none
-missing negative whole fraction none = refl
-missing negative whole fraction (some x) = refl
 
 -- a word with a bare point is a number now
 pub bare-now : (w : List ℕ) (n : Numeral) → BarePoint w n → numeralOf w ≡ some n
@@ -72,7 +67,7 @@ bare-before w n b =
     let l : List ℕ = n .whole ++ 46 ∷ b .power in
     let s = sign-on (n .negative) (b .sign) l (b .sign-so) (starts-other digit signByte digit-no-sign l (starts-append digit (n .whole) (46 ∷ b .power) (d .0))) in
     let r = run-append digit (n .whole) (46 ∷ b .power) (d .1) refl in
-    rw (b .word, s .0, s .1, r .0, r .1, x .no-digit) (missing (n .negative) (n .whole) (run digit (b .power)) (exponentOf (after digit (b .power))))
+    rw (b .word, s .0, s .1, r .0, r .1, x .no-digit) (assemble-first false (n .negative) (n .whole) (run digit (b .power)) (exponentOf (after digit (b .power))))
 
 -- it is the same number without its point
 pub bare-without : (w : List ℕ) (n : Numeral) (b : BarePoint w n) → numeralOf (withoutPoint w n b) ≡ some n
@@ -98,7 +93,7 @@ pub lone-point : (negative : Bool) (sign rest : List ℕ) → Sign negative sign
 unfolding numeralOf numeralWith run after starts
 lone-point negative sign rest s h =
     let k = sign-on negative sign (46 ∷ rest) s refl in
-    rw (k .0, k .1, h) (missing negative [] (run digit rest) (exponentOf (after digit rest)))
+    rw (k .0, k .1, h) (assemble-first false negative [] (run digit rest) (exponentOf (after digit rest)))
 
 -- what follows the whole digits, where it is a bare point and an exponent, if any
 record BareTail (whole tail : List ℕ) : Type 0 where
@@ -271,7 +266,7 @@ module _ (l : List ℕ) where
 
 -- ---- a file
 
--- a file is answered as it was, or was refused for a word that is a number now
+-- a file is answered as it was, or was refused on a line with a word that is a number now
 pub read-moved : (file : List ℕ) (places : ℕ) → Unmoved file places ⊎ Freed file places
 unfolding readBy read
 read-moved file places = by (lines-moved lineBefore Marked line-moved places 0 0 start (linesOf file))

@@ -30,7 +30,7 @@ use Rattle.rules.proofs.Answers.{checks-is, reads-is, refused-not-0}
 use Rattle.rules.proofs.Sound.{range-rows-most}
 use Rattle.rules.proofs.Reading.Acceptance.{accepted-keeps, keeps-accepted}
 use Rattle.rules.proofs.Reading.Bridge.{accepted-in-range}
-use Rattle.rules.proofs.Reading.Refusals.{Stopped, at-end, at-line, stopped}
+use Rattle.signature.proofs.Reading.LineNumbers.{no-sooner}
 use Rattle.signature.proofs.Reading.Numbers.{read-13}
 use Rattle.signature.proofs.Reading.Room.{Bounded, line-bounded, range-rows-least, room-for-all, start-bounded}
 
@@ -157,14 +157,6 @@ module _ (places : ℕ) where
       by none (inr e) = inr (ap (λ (g : Fault). unless g j) e)
       by (some r) h = inl refl
 
-  -- a refusal after n lines is on none of them
-  no-sooner : (p n : ℕ) (st : State) (ls : List (List ℕ)) (r : Refusal) (m : ℕ) → readLines placeLimit p n st ls ≡ Refused r m → (n ≤ m) × (0 < length ls → n < m)
-  no-sooner p n st ls r m e = by (stopped placeLimit p n st ls r m e)
-    where
-      by : Stopped placeLimit p n st ls r m → (n ≤ m) × (0 < length ls → n < m)
-      by (at-line before l rest is x y k a u) = (omega arith, λ some. omega arith)
-      by (at-end is y k a u) = (omega arith, λ some. omega arith)
-
   lines-beside : (p n : ℕ) (st : State) (ls : List (List ℕ)) → Bounded (describe st)
       → (readLines places p n st ls ≡ readLines placeLimit p n st ls) ⊎ Earlier (readLines places p n st ls) (readLines placeLimit p n st ls)
   unfolding readLines
@@ -173,7 +165,7 @@ module _ (places : ℕ) where
       by : SameOrShort (endFault places st) (endFault placeLimit st)
           → (finish n st (endFault places st) ≡ finish n st (endFault placeLimit st)) ⊎ Earlier (finish n st (endFault places st)) (finish n st (endFault placeLimit st))
       by (inl e) = inl (ap (finish n st) e)
-      by (inr e) = inr (record { line = n; short = ap (finish n st) e; not-later = λ r m q. no-sooner p n st [] r m q .0 })
+      by (inr e) = inr (record { line = n; short = ap (finish n st) e; not-later = λ r m q. no-sooner placeLimit p n st [] r m q .0 })
   lines-beside p n st (l ∷ ls) b = by (judge-beside st b p l) (judge placeLimit st p l) refl (λ st′. lines-beside (p + length l + 1) (suc n) st′ ls)
     where
       rest : ℕ → State → Read
@@ -184,7 +176,7 @@ module _ (places : ℕ) where
           → (readLines places p n st (l ∷ ls) ≡ readLines placeLimit p n st (l ∷ ls)) ⊎ Earlier (readLines places p n st (l ∷ ls)) (readLines placeLimit p n st (l ∷ ls))
       by (inl e) (go st′) f next = rw (e ∙ f, f) (next st′ (line-bounded placeLimit st p l st′ f b))
       by (inl e) (refuse r) f next = inl (rw (e ∙ f, f) refl)
-      by (inr e) j f next = inr (record { line = suc n; short = rw e refl; not-later = λ r m q. no-sooner p n st (l ∷ ls) r m q .1 (omega arith) })
+      by (inr e) j f next = inr (record { line = suc n; short = rw e refl; not-later = λ r m q. no-sooner placeLimit p n st (l ∷ ls) r m q .1 (omega arith) })
 
   -- reading into a table of any length, beside check
   read-beside : (file : List ℕ) → (read file places ≡ check file) ⊎ Earlier (read file places) (check file)

@@ -18,17 +18,9 @@ use Rattle.rules.specs.declared.Description.{Description}
 use Rattle.rules.specs.declared.Read.{Read}
 use Rattle.rules.specs.declared.Read.the-variants.{Accepted, Refused}
 use Rattle.rules.specs.declared.Refusal.{Refusal}
-use Rattle.rules.proofs.Reading.Refusals.{Stopped, at-end, at-line, stopped}
 use Rattle.rules.proofs.Reading.Walk.{no-refused}
+use Rattle.signature.proofs.Reading.LineNumbers.{no-sooner}
 use Rattle.signature.specs.Before.{judgeBy, readBy, readLinesBy, samplesOfBy, tableBy}
-
--- a refusal's line is after those that were read before
-after-those : (places p n : ℕ) (st : State) (l : List ℕ) (ls : List (List ℕ)) (r : Refusal) (m : ℕ) → readLines places p n st (l ∷ ls) ≡ Refused r m → suc n ≤ m
-after-those places p n st l ls r m h = by (stopped places p n st (l ∷ ls) r m h)
-  where
-    by : Stopped places p n st (l ∷ ls) r m → suc n ≤ m
-    by (at-line before v rest is x y z w u) = omega arith
-    by (at-end is y z w u) = omega arith
 
 module _ (content : ℕ → List ℕ → Content) (Marked : List ℕ → Refusal → Type 0) where
   -- what the first reading has on a line that is read in two ways
@@ -99,7 +91,7 @@ module _ (content : ℕ → List ℕ → Content) (Marked : List ℕ → Refusal
       lines-so = refl;
       refused = rw a (ap (Refused (k .refusal)) (omega arith));
       marked = k .marked;
-      not-earlier = λ r m h. omega (arith, after-those places p n st l ls r m h);
+      not-earlier = λ r m h. omega (arith, no-sooner places p n st (l ∷ ls) r m h .1 (omega arith));
     }
 
     -- both let it pass
