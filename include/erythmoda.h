@@ -24,9 +24,9 @@ extern "C" {
  * a call changes, so that a program never meets a library with other calls than it was compiled for. MINOR grows when a
  * rule changes, so that some file or pixel is answered otherwise. */
 #define ERYTHMODA_VERSION_MAJOR 0
-#define ERYTHMODA_VERSION_MINOR 2
+#define ERYTHMODA_VERSION_MINOR 3
 #define ERYTHMODA_VERSION_PATCH 0
-#define ERYTHMODA_VERSION "0.2.0"
+#define ERYTHMODA_VERSION "0.3.0"
 
 /* What a table is, in eleven numbers:
  *
@@ -67,7 +67,8 @@ enum erythmoda_number {
     ERYTHMODA_SAMPLE_BEYOND = 16,
     ERYTHMODA_SAMPLE_TOO_FINE = 17,
     ERYTHMODA_TOO_FEW_ROWS = 18,
-    /* of a look or a picture (19 is not used) */
+    ERYTHMODA_HALF_A_DOMAIN = 19,
+    /* of a look or a picture */
     ERYTHMODA_DEPTH_UNKNOWN = 20,
     ERYTHMODA_PICTURE_LENGTH = 21,
     ERYTHMODA_OUTPUT_TOO_SHORT = 22,
@@ -99,6 +100,7 @@ static inline const char *erythmoda_words(uint32_t number) {
     case ERYTHMODA_SAMPLE_BEYOND: return "a sample is beyond -1000 to 1000";
     case ERYTHMODA_SAMPLE_TOO_FINE: return "a sample is no multiple of 0.0000001";
     case ERYTHMODA_TOO_FEW_ROWS: return "the file ends with too few rows";
+    case ERYTHMODA_HALF_A_DOMAIN: return "one of DOMAIN_MIN and DOMAIN_MAX is there without the other";
     case ERYTHMODA_DEPTH_UNKNOWN: return "the depth is not 8, 10, 12 or 16 bits";
     case ERYTHMODA_PICTURE_LENGTH: return "the picture's length is no multiple of 3";
     case ERYTHMODA_OUTPUT_TOO_SHORT: return "the output is shorter than the picture";
@@ -112,10 +114,11 @@ static inline const char *erythmoda_words(uint32_t number) {
 /* Reads the bytes of one .cube file. It is accepted if it keeps the Cube LUT Specification 1.0 within the limits above and
  * those that the refusals tell, and `table` has three places for each row. A number in it is an optional sign, digits with
  * or without a point before, among or after them (.5, 0.5, 5.), and perhaps an exponent (5e-1, 5.e-1); a point without a
- * digit is none. N is digits alone.
+ * digit is none. N is digits alone. DOMAIN_MIN and DOMAIN_MAX are both there or both absent; absent they are 0 0 0 and
+ * 1 1 1.
  *
  * Accepted: `table` begins with three numbers for each row, and its later places keep theirs; `description` says what it
- * is, and `*line` is 0. Refused: the answer is 1 to 18, `*line` the line that decided, counted from 1, `description` is
+ * is, and `*line` is 0. Refused: the answer is 1 to 19, `*line` the line that decided, counted from 1, `description` is
  * 1 and then zeros, and every place of `table` keeps its number. */
 uint32_t erythmoda_read(const uint8_t *file, size_t file_len,
                         int64_t *table, size_t table_len,

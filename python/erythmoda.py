@@ -20,7 +20,7 @@ from ctypes import POINTER, byref, c_int64, c_size_t, c_uint8, c_uint16, c_uint3
 from pathlib import Path
 from typing import NamedTuple, Optional, Tuple
 
-__version__ = "0.2.0"
+__version__ = "0.3.0"
 __all__ = ["Description", "Look", "Refused", "Table", "WORDS", "check", "read"]
 
 WORDS = {
@@ -42,6 +42,7 @@ WORDS = {
     16: "a sample is beyond -1000 to 1000",
     17: "a sample is no multiple of 0.0000001",
     18: "the file ends with too few rows",
+    19: "one of DOMAIN_MIN and DOMAIN_MAX is there without the other",
     20: "the depth is not 8, 10, 12 or 16 bits",
     21: "the picture's length is no multiple of 3",
     22: "the output is shorter than the picture",

@@ -50,6 +50,10 @@ static void fill(int64_t *numbers, size_t count, int64_t value) {
     for (i = 0; i < count; i++) numbers[i] = value;
 }
 
+static int describes_nothing(const int64_t description[ERYTHMODA_DESCRIPTION_PLACES]) {
+    return description[0] == 1 && all_are(description + 1, ERYTHMODA_DESCRIPTION_PLACES - 1, 0);
+}
+
 static struct colour_table read_cube(void) {
     struct colour_table table;
     uint64_t line = KEPT;
@@ -78,8 +82,7 @@ static void refused_reading(void) {
                             description, &line);
     expect_number(answer, ERYTHMODA_TOO_FEW_ROWS, "reading seven rows of eight");
     expect(line == 9, "the line of the refusal");
-    expect(description[0] == 1 && all_are(description + 1, ERYTHMODA_DESCRIPTION_PLACES - 1, 0),
-           "a refused reading describes nothing");
+    expect(describes_nothing(description), "a refused reading describes nothing");
     expect(all_are(samples, TABLE_PLACES, KEPT), "a refused reading keeps the table");
     answer = erythmoda_read((const uint8_t *)CUBE, sizeof CUBE - 1, samples, ROW_PLACES - 1, description, &line);
     expect_number(answer, ERYTHMODA_TABLE_TOO_SHORT, "reading into 23 places");
@@ -88,7 +91,7 @@ static void refused_reading(void) {
 
 /* Numbers whose point has nothing after it, of a domain and of samples; and a point without a digit, which is none. */
 static void points(void) {
-    static const char bare[] = "DOMAIN_MAX 2. 2. 2.\nLUT_1D_SIZE 2\n0. -5. 7.E-2\n1. 1. 1.e0\n";
+    static const char bare[] = "DOMAIN_MIN 0. 0. 0.\nDOMAIN_MAX 2. 2. 2.\nLUT_1D_SIZE 2\n0. -5. 7.E-2\n1. 1. 1.e0\n";
     static const char lone[] = "LUT_1D_SIZE 2\n0 0 0\n1 -. 1\n";
     static const int64_t first_row[] = {0, -50000000, 700000};
     int64_t samples[6], description[ERYTHMODA_DESCRIPTION_PLACES];
@@ -101,6 +104,26 @@ static void points(void) {
     answer = erythmoda_read((const uint8_t *)lone, sizeof lone - 1, samples, 6, description, &line);
     expect_number(answer, ERYTHMODA_NOT_THREE_NUMBERS, "reading a point without a digit");
     expect(line == 3, "the line of the point without a digit");
+}
+
+/* A file with one domain line without the other, read and checked: both refuse it on this line, and the table is kept. */
+static void half_a_domain(const char *file, uint64_t expected_line) {
+    int64_t samples[TABLE_PLACES], description[ERYTHMODA_DESCRIPTION_PLACES];
+    uint64_t line = KEPT, places = KEPT;
+    uint32_t answer;
+    fill(samples, TABLE_PLACES, KEPT);
+    fill(description, ERYTHMODA_DESCRIPTION_PLACES, KEPT);
+    answer = erythmoda_read((const uint8_t *)file, strlen(file), samples, TABLE_PLACES, description, &line);
+    expect_number(answer, ERYTHMODA_HALF_A_DOMAIN, "reading half a domain");
+    expect(line == expected_line, "the line of half a domain");
+    expect(describes_nothing(description), "half a domain describes nothing");
+    expect(all_are(samples, TABLE_PLACES, KEPT), "half a domain keeps the table");
+    line = KEPT;
+    fill(description, ERYTHMODA_DESCRIPTION_PLACES, KEPT);
+    answer = erythmoda_check((const uint8_t *)file, strlen(file), description, &line, &places);
+    expect_number(answer, ERYTHMODA_HALF_A_DOMAIN, "checking half a domain");
+    expect(line == expected_line && places == 0, "half a domain, checked, has the same line, and no places");
+    expect(describes_nothing(description), "half a domain, checked, describes nothing");
 }
 
 static void check_then_read(void) {
@@ -135,8 +158,7 @@ static void refused_check(void) {
     answer = erythmoda_check((const uint8_t *)size_alone, sizeof size_alone - 1, description, &line, &places);
     expect_number(answer, ERYTHMODA_TOO_FEW_ROWS, "checking the greatest size with no rows");
     expect(line == 2 && places == 0, "a refused check has its line, and no places");
-    expect(description[0] == 1 && all_are(description + 1, ERYTHMODA_DESCRIPTION_PLACES - 1, 0),
-           "a refused check describes nothing");
+    expect(describes_nothing(description), "a refused check describes nothing");
     places = KEPT;
     answer = erythmoda_check((const uint8_t *)CUBE, 0, description, &line, &places);
     expect_number(answer, ERYTHMODA_NO_SIZE, "checking no bytes");
@@ -190,14 +212,14 @@ static void picture(const struct colour_table *table) {
     expect(memcmp(dst, expected, sizeof dst) == 0, "the picture's codes, and the places after them");
 }
 
-/* Document 01 uses the numbers 0 to 18, 20 to 24 and 30. */
-static int is_used(uint32_t number) { return (number <= 24 && number != 19) || number == 30; }
+/* Document 01 uses the numbers 0 to 18, 20 to 24 and 30, and document 02 adds 19. */
+static int is_used(uint32_t number) { return number <= 24 || number == 30; }
 
 static void words(void) {
     uint32_t number;
     for (number = 0; number < 100; number++) {
         int is_known = strcmp(erythmoda_words(number), "unknown number") != 0;
-        expect(is_known == is_used(number), "every number of document 01 has words, and no other has");
+        expect(is_known == is_used(number), "every number that is used has words, and no other has");
     }
     expect(strcmp(erythmoda_words(UINT32_MAX), "unknown number") == 0, "the greatest number has no words");
     expect(strcmp(erythmoda_words(ERYTHMODA_TOO_FEW_ROWS), "the file ends with too few rows") == 0, "the words of 18");
@@ -215,6 +237,8 @@ int main(void) {
     memcpy(&before, &table, sizeof table);
     refused_reading();
     points();
+    half_a_domain("DOMAIN_MIN -1 -1 -1\nLUT_1D_SIZE 2\n0 0 0\n1 1 1\n", 3);
+    half_a_domain("LUT_1D_SIZE 2\nDOMAIN_MAX 2 2 2", 2);
     check_then_read();
     refused_check();
     look(&table);

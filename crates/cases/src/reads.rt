@@ -116,3 +116,15 @@ pub(crate) fn samples() {
         &mut a4,
     );
 }
+
+// One line of the domain without the other: at the first data line, and at the end without data.
+pub(crate) fn half_domains() {
+    into_six(
+        b"domain-lower-only",
+        b"DOMAIN_MIN -1 -1 -1\nLUT_1D_SIZE 2\n0 0 0\n1 1 1\n",
+    );
+    into_six(
+        b"domain-upper-only-no-data",
+        b"LUT_1D_SIZE 2\nDOMAIN_MAX 2 2 2\n",
+    );
+}

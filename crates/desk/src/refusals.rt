@@ -1,4 +1,4 @@
-// A refusal in words: its number, and what document 01's table says that the number means.
+// A refusal in words: its number, and what the papers say that the number means.
 use crate::printing::write;
 use crate::printing::write_count;
 use libc::STDERR_FILENO;
@@ -30,6 +30,7 @@ pub fn write_meaning(fd: i32, reason: Refusal) -> bool {
         Refusal::SampleBeyond => write(fd, b"sample beyond -1000 to 1000"),
         Refusal::SampleTooFine => write(fd, b"sample no multiple of 0.0000001"),
         Refusal::TooFewRows => write(fd, b"file ends with too few rows"),
+        Refusal::HalfADomain => write(fd, b"one of DOMAIN_MIN and DOMAIN_MAX without the other"),
         Refusal::DepthUnknown => write(fd, b"depth unknown"),
         Refusal::PictureNotPixels => write(fd, b"picture length no multiple of 3"),
         Refusal::OutputTooShort => write(fd, b"output shorter than picture"),

@@ -1,11 +1,11 @@
 -- What the reader's state keeps, kept by each thing that it takes in.
 use Prim.Native.Nat.{_+_}
 use mathlib.Core.Path.{_≡_, refl, sym, subst}
-use mathlib.Core.Bool.{Bool, true, false, true≢false}
+use mathlib.Core.Bool.{Bool, Bool·beq, true, false, true≢false}
 use native.Mathlib.Omega.{arith}
 use Rattle.rules.specs.Units.{inRange}
 use Rattle.rules.specs.Descriptions.{lowest, highest, noTitle, description, everyColour, boundsFit}
-use Rattle.rules.specs.Reading.Judge.{givenOr, noSize, describe, given}
+use Rattle.rules.specs.Reading.Judge.{givenOr, noSize, describe, given, together}
 use Rattle.rules.specs.declared.Bounds.{Bounds}
 use Rattle.rules.specs.declared.Size.{Size}
 use Rattle.rules.specs.declared.Title.{Title}
@@ -119,3 +119,10 @@ module _ {st : State} (f : Fit st) where
 pub given-marked : {A : Type 0} (there : Bool) (a : A) → given (marked there a) ≡ there
 given-marked true a = refl
 given-marked false a = refl
+
+-- and so of two
+pub marked-together : {A : Type 0} (a b : Bool) (x y : A) → together (marked a x) (marked b y) ≡ Bool·beq a b
+marked-together true true x y = refl
+marked-together true false x y = refl
+marked-together false true x y = refl
+marked-together false false x y = refl

@@ -44,7 +44,7 @@ fn domain_fault(d: Description, places: usize) -> Checked
     Checked::Passed
 }
 
-// 9 to 13, where there was no data line yet.
+// 9, 19, 10 to 13, where there was no data line yet.
 fn head_fault(st: State, places: usize) -> Checked
     requires { ⌜ Fit st ⌝ }
     ensures { λ r. ⌜ faultOf r ≡ headFault places (view st) ⌝ }
@@ -54,6 +54,9 @@ fn head_fault(st: State, places: usize) -> Checked
     }
     if !st.sized {
         return Checked::Refused(Refusal::NoSize);
+    }
+    if st.lowered != st.raised {
+        return Checked::Refused(Refusal::HalfADomain);
     }
     domain_fault(st.describe(), places)
 }
@@ -73,7 +76,7 @@ fn keyword_fault(st: State, k: Keyword) -> Checked
     Checked::Passed
 }
 
-// 9 to 13, where there was no data line yet; then one answer where rows are left to come, and another where none are.
+// 9, 19, 10 to 13, where there was no data line yet; then one answer where rows are left to come, and another where none are.
 fn by_rows(st: State, places: usize, left: Checked, full: Checked) -> Checked
     requires { ⌜ Fit st ⌝ }
     ensures { λ r. ⌜ faultOf r ≡ first (headFault places (view st)) (cond (ltb (st .rows) (rows (describe (view st)))) (faultOf left) (faultOf full)) ⌝ }
@@ -89,7 +92,7 @@ fn by_rows(st: State, places: usize, left: Checked, full: Checked) -> Checked
     full
 }
 
-// A data line: 9 to 13, 14.
+// A data line: 9, 19, 10 to 13, then 14.
 fn data_fault(st: State, places: usize) -> Checked
     requires { ⌜ Fit st ⌝ }
     ensures { λ r. ⌜ faultOf r ≡ orderFault places (view st) Data ⌝ }
@@ -115,7 +118,7 @@ pub fn order_fault(st: State, form: Form, places: usize) -> Checked
     }
 }
 
-// The end: 9 to 13 where there was no data line, then 18.
+// The end: 9, 19, 10 to 13 where there was no data line, then 18.
 fn end_fault(st: State, places: usize) -> Checked
     requires { ⌜ Fit st ⌝ }
     ensures { λ r. ⌜ faultOf r ≡ endFault places (view st) ⌝ }

@@ -23,14 +23,14 @@ use Rattle.rules.specs.declared.Picture.the-variants as P
 use Rattle.rules.specs.declared.Read.{Read}
 use Rattle.rules.specs.declared.Read.the-variants as R
 use Rattle.rules.specs.declared.Refusal.{Refusal}
-use Rattle.rules.specs.declared.Refusal.the-variants.{LineTooLong, ByteNotPermitted, NeitherDataNorKeyword, KeywordAfterData, KeywordRepeated, ParametersWrong, SizeOutOfRange, DomainNumberWrong, NoSize, LowerNotBelowUpper, DomainTooWide, DomainsDiffer, TableTooShort, TooManyRows, NotThreeNumbers, SampleBeyond, SampleTooFine, TooFewRows, DepthUnknown, PictureNotPixels, OutputTooShort, CodeTooGreat, CouldNotBeRead, InputTooLong}
+use Rattle.rules.specs.declared.Refusal.the-variants.{LineTooLong, ByteNotPermitted, NeitherDataNorKeyword, KeywordAfterData, KeywordRepeated, ParametersWrong, SizeOutOfRange, DomainNumberWrong, NoSize, LowerNotBelowUpper, DomainTooWide, DomainsDiffer, TableTooShort, TooManyRows, NotThreeNumbers, SampleBeyond, SampleTooFine, TooFewRows, HalfADomain, DepthUnknown, PictureNotPixels, OutputTooShort, CodeTooGreat, CouldNotBeRead, InputTooLong}
 use Rattle.rules.specs.declared.Share.{Share}
 use Rattle.rules.specs.declared.Shares.{Shares}
 use Rattle.rules.proofs.Tests.{no-some}
 
 -- ---- a refusal by its number
 
--- document 01's table, from 0 on
+-- the papers' table, from 0 on
 abbrev numbered : List (Option Refusal)
 numbered =
     none
@@ -52,7 +52,7 @@ numbered =
     ∷ some SampleBeyond
     ∷ some SampleTooFine
     ∷ some TooFewRows
-    ∷ none
+    ∷ some HalfADomain
     ∷ some DepthUnknown
     ∷ some PictureNotPixels
     ∷ some OutputTooShort
@@ -89,6 +89,7 @@ refusal-of-number NotThreeNumbers = refl
 refusal-of-number SampleBeyond = refl
 refusal-of-number SampleTooFine = refl
 refusal-of-number TooFewRows = refl
+refusal-of-number HalfADomain = refl
 refusal-of-number DepthUnknown = refl
 refusal-of-number PictureNotPixels = refl
 refusal-of-number OutputTooShort = refl

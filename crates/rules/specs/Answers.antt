@@ -13,7 +13,7 @@ use Rattle.rules.specs.declared.Picture.the-variants as P
 use Rattle.rules.specs.declared.Read.{Read}
 use Rattle.rules.specs.declared.Read.the-variants as R
 use Rattle.rules.specs.declared.Refusal.{Refusal}
-use Rattle.rules.specs.declared.Refusal.the-variants.{LineTooLong, ByteNotPermitted, NeitherDataNorKeyword, KeywordAfterData, KeywordRepeated, ParametersWrong, SizeOutOfRange, DomainNumberWrong, NoSize, LowerNotBelowUpper, DomainTooWide, DomainsDiffer, TableTooShort, TooManyRows, NotThreeNumbers, SampleBeyond, SampleTooFine, TooFewRows, DepthUnknown, PictureNotPixels, OutputTooShort, CodeTooGreat, CouldNotBeRead, InputTooLong}
+use Rattle.rules.specs.declared.Refusal.the-variants.{LineTooLong, ByteNotPermitted, NeitherDataNorKeyword, KeywordAfterData, KeywordRepeated, ParametersWrong, SizeOutOfRange, DomainNumberWrong, NoSize, LowerNotBelowUpper, DomainTooWide, DomainsDiffer, TableTooShort, TooManyRows, NotThreeNumbers, SampleBeyond, SampleTooFine, TooFewRows, HalfADomain, DepthUnknown, PictureNotPixels, OutputTooShort, CodeTooGreat, CouldNotBeRead, InputTooLong}
 use Rattle.rules.specs.declared.Share.{Share}
 use Rattle.rules.specs.declared.Shares.{Shares}
 
@@ -36,6 +36,7 @@ refusalNumber NotThreeNumbers = 15
 refusalNumber SampleBeyond = 16
 refusalNumber SampleTooFine = 17
 refusalNumber TooFewRows = 18
+refusalNumber HalfADomain = 19
 refusalNumber DepthUnknown = 20
 refusalNumber PictureNotPixels = 21
 refusalNumber OutputTooShort = 22

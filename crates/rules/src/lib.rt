@@ -301,7 +301,7 @@ pub struct Shares {
 
 // ---- answers
 
-// Why a call refuses, in the order of document 01's numbers.
+// Why a call refuses, in the order of the papers' numbers.
 pub enum Refusal {
     LineTooLong,
     ByteNotPermitted,
@@ -321,6 +321,7 @@ pub enum Refusal {
     SampleBeyond,
     SampleTooFine,
     TooFewRows,
+    HalfADomain,
     DepthUnknown,
     PictureNotPixels,
     OutputTooShort,
@@ -330,7 +331,7 @@ pub enum Refusal {
 }
 
 impl Refusal {
-    // The number of document 01's table.
+    // The number of document 01's table, and of the requests that add to it.
     pub fn number(self) -> u32
         ensures { λ r. ⌜ r ≡ refusalNumber self ⌝ }
     {
@@ -353,6 +354,7 @@ impl Refusal {
             Refusal::SampleBeyond => 16,
             Refusal::SampleTooFine => 17,
             Refusal::TooFewRows => 18,
+            Refusal::HalfADomain => 19,
             Refusal::DepthUnknown => 20,
             Refusal::PictureNotPixels => 21,
             Refusal::OutputTooShort => 22,

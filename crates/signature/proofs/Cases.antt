@@ -16,7 +16,7 @@ use Rattle.rules.specs.Reading.Lines.{bytes, every, run, after, starts, same, o
 use Rattle.rules.specs.Reading.Numerals.{digits, spell}
 use Rattle.rules.specs.Reading.Numbers.{unsigned, exponentOf, numeralWith, numeralOf, settle, numberOf}
 use Rattle.rules.specs.Reading.Contents.{keywordOf, wordForm, formOf, closes, quoted, titleOf, threeOf, boundsOf, samplesOn, sizeOf, parameters, contentBy}
-use Rattle.rules.specs.Reading.Judge.{add, describe, repeats, need, first, domainFault, headFault, byteFault, orderFault, take-in, unless, judge, endFault}
+use Rattle.rules.specs.Reading.Judge.{add, describe, repeats, need, first, domainFault, givenFault, headFault, byteFault, orderFault, take-in, unless, judge, endFault}
 use Rattle.rules.specs.Reading.{readLines, read, samplesIn, samplesOf, tableAfter}
 use Rattle.rules.specs.Reporting.{report, reportBytes}
 use Rattle.rules.specs.Looking.Interpolation.{offset, position, index, fraction, pairBy, order, climb, pathBy, pair, path, codeBy}
@@ -25,7 +25,7 @@ use Rattle.rules.specs.Picturing.{eachPixel, pictureWith, picture, outputAfter}
 use Rattle.rules.specs.Answers.{refusalNumber, readNumber, readLine}
 use Rattle.rules.proofs.Tests.{and-both}
 use Rattle.rules.proofs.Reading.Wordings.{same-eq}
-use Rattle.signature.specs.Cases.{Outcome, Case, outcome, marked, numbered, points, AllMet, ReadA3}
+use Rattle.signature.specs.Cases.{Outcome, Case, outcome, marked, numbered, halves, points, AllMet, ReadA3}
 
 -- ---- a test that antt computes over a whole table, and what it tells
 
@@ -92,7 +92,7 @@ unfolding keywordOf wordForm formOf closes quoted titleOf threeOf parameters bou
 contents-opened = 0
 
 unfoldable lines-opened : ℕ
-unfolding need first take-in unless add describe repeats domainFault headFault byteFault orderFault judge endFault readLines read samplesIn samplesOf tableAfter
+unfolding need first take-in unless add describe repeats domainFault givenFault headFault byteFault orderFault judge endFault readLines read samplesIn samplesOf tableAfter
 lines-opened = 0
 
 unfoldable tables-opened : ℕ
@@ -119,6 +119,10 @@ points-pass : test points ≡ true
 unfolding opened
 points-pass = refl
 
+halves-pass : test halves ≡ true
+unfolding opened
+halves-pass = refl
+
 -- the cases of document 01 that are marked P
 pub marked-met : AllMet marked
 marked-met = tested marked marked-pass
@@ -130,6 +134,10 @@ numbered-met = tested numbered numbered-pass
 -- document 02's points with nothing after them
 pub points-met : AllMet points
 points-met = tested points points-pass
+
+-- document 02's half domains
+pub halves-met : AllMet halves
+halves-met = tested halves halves-pass
 
 -- 30, on line 0
 pub report-30 : (input : List ℕ) → reportBytes < length input → (readNumber (report input) ≡ 30) × (readLine (report input) ≡ 0)

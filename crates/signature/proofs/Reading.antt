@@ -3,9 +3,14 @@
 -- what a word says that is no number within its limit; exponents of any length
 pub mod Faults
 pub mod Nines
+-- reading by its parts, and two readings beside each other
+pub mod Parts
+pub mod Beside
 -- what document 02 changed of reading, and what it left
 pub mod Moved
 pub mod BarePoints
+pub mod Told
+pub mod HalfDomains
 -- where numbers stand, and the lines by their numbers
 pub mod Places
 pub mod LineNumbers

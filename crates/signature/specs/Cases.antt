@@ -178,9 +178,9 @@ numbered =
     ∷ refused (bytes "LUT_1D_SIZE +2") 6 6 1
     ∷ refused (bytes "LUT_1D_SIZE 1") 6 7 1
     ∷ refused (bytes "DOMAIN_MAX 1 1 10.001") 6 8 1
-    ∷ refused (bytes "LUT_1D_SIZE 2\nDOMAIN_MIN 0 1 0\n0 0 0") 6 10 3
-    ∷ refused (bytes "LUT_1D_SIZE 2\nDOMAIN_MIN -9.5 0 0\n\n") 6 11 4
-    ∷ refused (bytes "LUT_3D_SIZE 2\nDOMAIN_MAX 1 2 1\n0 0 0") 24 12 3
+    ∷ refused (bytes "LUT_1D_SIZE 2\nDOMAIN_MIN 0 1 0\nDOMAIN_MAX 1 1 1\n0 0 0") 6 10 4
+    ∷ refused (bytes "LUT_1D_SIZE 2\nDOMAIN_MIN -9.5 0 0\nDOMAIN_MAX 1 1 1\n\n") 6 11 5
+    ∷ refused (bytes "LUT_3D_SIZE 2\nDOMAIN_MIN 0 0 0\nDOMAIN_MAX 1 2 1\n0 0 0") 24 12 4
     ∷ refused (bytes "LUT_3D_SIZE 2\n0 0 0") 23 13 2
     ∷ refused (bytes "LUT_1D_SIZE 2\n0 0 0\n0 0 0\n0 0 0") 6 14 4
     ∷ refused (bytes "LUT_1D_SIZE 2\n. 0 0") 6 15 2
@@ -222,6 +222,36 @@ points =
     }
     ∷ []
 
+-- ---- document 02, Req 05: one line of the domain and not the other
+
+-- the table that a station sent
+abbrev pub noUpper : String
+noUpper = "DOMAIN_MIN -1 -1 -1\nLUT_1D_SIZE 2\n0 0 0\n1 1 1\n"
+
+-- at the first data line, and at the end without data; after 9, before 10 to 13, 15 and 18; the other line may not come later; both lines are read as before
+abbrev pub halves : List Case
+halves =
+    refused (bytes noUpper) 6 19 3
+    ∷ refused (bytes "LUT_1D_SIZE 2\nDOMAIN_MAX 2 2 2\n# no data\n\n0 0 0") 6 19 5
+    ∷ refused (bytes "LUT_1D_SIZE 2\nDOMAIN_MAX 2 2 2\n") 6 19 3
+    ∷ refused (bytes "DOMAIN_MIN -1 -1 -1\nLUT_1D_SIZE 2") 6 19 2
+    ∷ refused (bytes "DOMAIN_MIN -1 -1 -1\n0 0 0") 6 9 2
+    ∷ refused (bytes "DOMAIN_MAX 2 2 2") 6 9 1
+    ∷ refused (bytes "DOMAIN_MIN 0 1 0\nLUT_1D_SIZE 2\n0 0 0") 6 19 3
+    ∷ refused (bytes "DOMAIN_MAX 1 0 1\nLUT_1D_SIZE 2") 6 19 2
+    ∷ refused (bytes "DOMAIN_MIN -9.5 0 0\nLUT_1D_SIZE 2\n0 0 0") 6 19 3
+    ∷ refused (bytes "DOMAIN_MAX 1 2 1\nLUT_3D_SIZE 2\n0 0 0") 24 19 3
+    ∷ refused (bytes "DOMAIN_MAX 2 2 2\nLUT_3D_SIZE 2\n0 0 0") 23 19 3
+    ∷ refused (bytes "DOMAIN_MAX 2 2 2\nLUT_1D_SIZE 2\n. 0 0") 6 19 3
+    ∷ refused (bytes "DOMAIN_MAX 2 2 2\nLUT_1D_SIZE 2\n0 0 0\r") 6 2 3
+    ∷ refused (bytes "DOMAIN_MIN 0 0 0\nLUT_1D_SIZE 2\n0 0 0\nDOMAIN_MAX 1 1 1") 6 19 3
+    ∷ refused (bytes "DOMAIN_MIN 0 0 0\nDOMAIN_MIN 0 0 0\nLUT_1D_SIZE 2\n0 0 0") 6 5 2
+    ∷ record {
+      asked = reading (bytes "DOMAIN_MIN 0 0 0\nDOMAIN_MAX 1 1 1\nLUT_1D_SIZE 2\n0 0 0\n1 1 1") 6;
+      expected = record { number = 0; line = 0; table = replicate 3 (pos 0) ++ replicate 3 (pos 10_000_000); codes = []; rows = []; weights = [] };
+    }
+    ∷ []
+
 -- ---- what the report program prints
 
 -- of document 01's 3D file
@@ -234,7 +264,7 @@ reportA3 = "cube\t1D\t3\t3\ndomain\tred\t0\t1000\ndomain\tgreen\t0\t2000\ndomain
 
 -- an empty title, and a lower bound below 0
 abbrev pub halfBelow : String
-halfBelow = "TITLE \"\"\nLUT_1D_SIZE 2\nDOMAIN_MIN -0.5 0 0\n0 0 0\n1 1 1\n"
+halfBelow = "TITLE \"\"\nLUT_1D_SIZE 2\nDOMAIN_MIN -0.5 0 0\nDOMAIN_MAX 1 1 1\n0 0 0\n1 1 1\n"
 
 abbrev pub halfBelowReport : String
 halfBelowReport = "cube\t1D\t2\t2\ndomain\tred\t-500\t1000\ndomain\tgreen\t0\t1000\ndomain\tblue\t0\t1000\ntitle\tyes\t\n"

@@ -1,4 +1,4 @@
--- Document 01, "Answers by number": the checks 1 to 18 as lists in the order in which they run, and reading's refusal as the first of them that
+-- Document 01, "Answers by number", with document 02's Req 05: the checks 1 to 19 as lists in the order in which they run, and reading's refusal as the first of them that
 -- fails, on the first line where one does.
 use Prim.Native.Nat.{ℕ, _+_, _*_, _%_}
 use mathlib.Core.Path.{_≡_}
@@ -14,14 +14,14 @@ use Rattle.rules.specs.Reading.Lines.{lineLimit, permitted, blank, inWord, inTi
 use Rattle.rules.specs.Reading.Numerals.{Numeral, digits, spell, over, under}
 use Rattle.rules.specs.Reading.Numbers.{numeralOf}
 use Rattle.rules.specs.Reading.Contents.{formOf, closes, parameters}
-use Rattle.rules.specs.Reading.Judge.{State, start, describe, given, repeats, go, judge}
+use Rattle.rules.specs.Reading.Judge.{State, Verdict, start, describe, given, together, repeats, go, judge}
 use Rattle.rules.specs.declared.Form.{Form}
 use Rattle.rules.specs.declared.Form.the-variants.{Idle, Keyed, Data, Neither}
 use Rattle.rules.specs.declared.Keyword.{Keyword}
 use Rattle.rules.specs.declared.Keyword.the-variants.{ATitle, ALower, AnUpper, ASize}
 use Rattle.rules.specs.declared.Kind.{Kind}
 use Rattle.rules.specs.declared.Refusal.{Refusal}
-use Rattle.rules.specs.declared.Refusal.the-variants.{LineTooLong, ByteNotPermitted, NeitherDataNorKeyword, KeywordAfterData, KeywordRepeated, ParametersWrong, SizeOutOfRange, DomainNumberWrong, NoSize, LowerNotBelowUpper, DomainTooWide, DomainsDiffer, TableTooShort, TooManyRows, NotThreeNumbers, SampleBeyond, SampleTooFine, TooFewRows}
+use Rattle.rules.specs.declared.Refusal.the-variants.{LineTooLong, ByteNotPermitted, NeitherDataNorKeyword, KeywordAfterData, KeywordRepeated, ParametersWrong, SizeOutOfRange, DomainNumberWrong, NoSize, HalfADomain, LowerNotBelowUpper, DomainTooWide, DomainsDiffer, TableTooShort, TooManyRows, NotThreeNumbers, SampleBeyond, SampleTooFine, TooFewRows}
 
 -- ---- checks
 
@@ -115,13 +115,14 @@ parameterChecks ALower l = boundChecks (parameters (wordsOf l))
 parameterChecks AnUpper l = boundChecks (parameters (wordsOf l))
 parameterChecks (ASize k) l = sizeChecks k (parameters (wordsOf l))
 
--- ---- a data line: 9 to 13 if it is the first, then 14, 15, and 16 before 17 in each number
+-- ---- a data line: 9, 19, 10 to 13 if it is the first, then 14, 15, and 16 before 17 in each number
 
 -- of what the lines so far describe, and a table of so many places
 unfoldable pub headChecks : ℕ → State → List Check
 headChecks places st =
     cond (eqb (st .rows) 0)
     ((given (st .size), NoSize)
+    ∷ (together (st .lower) (st .upper), HalfADomain)
     ∷ (everyColour ordered (describe st), LowerNotBelowUpper)
     ∷ (everyColour narrow (describe st), DomainTooWide)
     ∷ (agree (describe st .kind) (describe st), DomainsDiffer)
@@ -154,16 +155,20 @@ formChecks places st Neither l = []
 unfoldable pub lineChecks : ℕ → State → List ℕ → List Check
 lineChecks places st l = byteChecks l ++ ((known (formOf l), NeitherDataNorKeyword) ∷ formChecks places st (formOf l) l)
 
--- 9 to 13 where there is no data line, then 18
+-- 9, 19, 10 to 13 where there is no data line, then 18
 unfoldable pub endChecks : ℕ → State → List Check
 endChecks places st = headChecks places st ++ ((leb (rows (describe st)) (st .rows), TooFewRows) ∷ [])
 
 -- ---- the file
 
 -- the state that lines lead to, each of which the judge lets pass; the first begins at place p
+abbrev pub Leads : (State → ℕ → List ℕ → Verdict) → ℕ → State → List (List ℕ) → State → Type 0
+Leads judged p st [] st′ = st′ ≡ st
+Leads judged p st (l ∷ ls) st′ = (next : State) × (judged st p l ≡ go next) × Leads judged (p + length l + 1) next ls st′
+
+-- by the rules, with a table of so many places
 abbrev pub Reached : ℕ → ℕ → State → List (List ℕ) → State → Type 0
-Reached places p st [] st′ = st′ ≡ st
-Reached places p st (l ∷ ls) st′ = (next : State) × (judge places st p l ≡ go next) × Reached places (p + length l + 1) next ls st′
+Reached places = Leads (judge places)
 
 -- the lines before line n pass, and of its checks the first that fails has this refusal
 pub record OnLine (file : List ℕ) (places : ℕ) (r : Refusal) (n : ℕ) : Type 0 where

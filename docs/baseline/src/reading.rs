@@ -1,6 +1,6 @@
 //! The bytes of a .cube file to a description and samples, exact.
 //!
-//! It refuses what document 01 refuses, and tells the line but not the number.
+//! It refuses what documents 01 and 02 refuse, and tells the line but not the number.
 
 use crate::{Description, Domains, Kind, GREATEST_SAMPLE};
 
@@ -113,7 +113,10 @@ fn size(word: &[u8], most: usize) -> Option<usize> {
 
 fn described_by(head: &Head, places: usize) -> Option<Description> {
     let (kind, n) = head.size?;
-    let (lower, upper) = (head.lower.unwrap_or([0; 3]), head.upper.unwrap_or([1000; 3]));
+    let (lower, upper) = match (head.lower, head.upper) {
+        (None, None) => ([0; 3], [1000; 3]),
+        (lower, upper) => (lower?, upper?),
+    };
     let domains: Domains = [0, 1, 2].map(|colour| [lower[colour], upper[colour]]);
     let description = Description { kind, n, domains };
     (description.keeps_limits() && 3 * description.rows() <= places).then_some(description)

@@ -1,6 +1,7 @@
-//! Document 01, "Checked by hand": every case, marked P or not.
+//! Document 01, "Checked by hand": every case, marked P or not; and the order of the checks
+//! that document 02 adds to.
 
-use crate::cases::{CUBE, SAMPLE_A2, SAMPLE_A3, SAMPLE_A4};
+use crate::cases::{CUBE, SAMPLE_A2, SAMPLE_A3, SAMPLE_A4, SMALL};
 use crate::look::{look, Look};
 use crate::paper::{Description, REFUSED_DESCRIPTION};
 use crate::picture::picture;
@@ -39,11 +40,14 @@ fn words() {
     assert_eq!(first_sample("+"), Err(15));
 }
 
+fn number_and_line(file: &str, places: usize) -> (u32, u64) {
+    let reading = read(file.as_bytes(), places);
+    (reading.number, reading.line)
+}
+
 /// Number and line for a first line before a table that keeps the rules.
 fn with_first_line(first: &str) -> (u32, u64) {
-    let file = format!("{first}\nLUT_1D_SIZE 2\n0 0 0\n1 1 1\n");
-    let reading = read(file.as_bytes(), 6);
-    (reading.number, reading.line)
+    number_and_line(&format!("{first}\n{SMALL}"), 6)
 }
 
 #[test]
@@ -61,7 +65,7 @@ fn lines() {
 }
 
 fn number_for(file: &str, places: usize) -> u32 {
-    read(file.as_bytes(), places).number
+    number_and_line(file, places).0
 }
 
 #[test]
@@ -77,8 +81,49 @@ fn sizes() {
     assert_eq!(number_for("LUT_1D_SIZE +2\n", 6), 6);
     assert_eq!(number_for(CUBE, 24), 0);
     assert_eq!(number_for(CUBE, 23), 13);
-    let empty = read(b"", 0);
-    assert_eq!((empty.number, empty.line), (9, 1));
+    assert_eq!(number_and_line("", 0), (9, 1));
+}
+
+/// Document 02, Req 05: "after 9 and before 10", on the first data line and at the end of a file
+/// with none. Behind each domain line stand the other's default and what the two are answered
+/// where there is no place for a table.
+#[test]
+fn half_a_domain_before_10_to_13() {
+    for (half, default, whole_number) in [
+        ("DOMAIN_MIN -10 2 0", "DOMAIN_MAX 1 1 1", 10),
+        ("DOMAIN_MAX 0 0 0", "DOMAIN_MIN 0 0 0", 10),
+        ("DOMAIN_MIN -10 0 0", "DOMAIN_MAX 1 1 1", 11),
+        ("DOMAIN_MAX 1 2 1", "DOMAIN_MIN 0 0 0", 12),
+        ("DOMAIN_MIN -1 -1 -1", "DOMAIN_MAX 1 1 1", 13),
+        ("DOMAIN_MIN 0 0 0", "DOMAIN_MAX 1 1 1", 13),
+        ("DOMAIN_MAX 1 1 1", "DOMAIN_MIN 0 0 0", 13),
+    ] {
+        for rest in ["0 0 0\n1 1 1\n", "0 0 0", "0 x\n", ""] {
+            let alone = format!("LUT_3D_SIZE 2\n{half}\n{rest}");
+            assert_eq!(number_and_line(&alone, 0), (19, 3), "{alone}");
+            assert_eq!(number_and_line(&alone, 24), (19, 3), "{alone}");
+            assert_eq!(checked(&alone), (19, 3, 0), "{alone}");
+            let whole = format!("LUT_3D_SIZE 2\n{half}\n{default}\n{rest}");
+            assert_eq!(number_and_line(&whole, 0), (whole_number, 4), "{whole}");
+            let without_size = format!("{half}\n{rest}");
+            assert_eq!(number_and_line(&without_size, 0), (9, 2), "{without_size}");
+        }
+    }
+}
+
+/// A keyword line that is wrong decides before the first data line does, one after data does not.
+#[test]
+fn half_a_domain_among_other_lines() {
+    let after_lower = |line: &str| format!("DOMAIN_MIN -1 -1 -1\n{line}\n{SMALL}");
+    assert_eq!(number_and_line(&after_lower("DOMAIN_MIN 0 0 0"), 6), (5, 2));
+    assert_eq!(number_and_line(&after_lower("DOMAIN_MAX 1 1"), 6), (6, 2));
+    assert_eq!(number_and_line(&after_lower("DOMAIN_MAX 11 1 1"), 6), (8, 2));
+    assert_eq!(number_and_line(&after_lower("# DOMAIN_MAX 1 1 1"), 6), (19, 4));
+    assert_eq!(number_and_line(&(after_lower("") + "DOMAIN_MAX 1 1 1\n"), 6), (19, 4));
+    let both = read(after_lower("DOMAIN_MAX 1 2 3").as_bytes(), 6);
+    assert_eq!(both.description, [1, 2, -1000, -1000, -1000, 1000, 2000, 3000, 0, 0, 0]);
+    let neither = read(SMALL.as_bytes(), 6);
+    assert_eq!(neither.description, [1, 2, 0, 0, 0, 1000, 1000, 1000, 0, 0, 0]);
 }
 
 /// Judged with no table: number, line and places.

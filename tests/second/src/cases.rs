@@ -1,6 +1,6 @@
 //! The cases of document 01's "Checked by hand" that are not marked P, with samples A.2
-//! and A.3, and A.4 by its stated function. The one of the report program is not here:
-//! that program is compared by its own bytes.
+//! and A.3, and A.4 by its stated function, and those that document 02 changes or adds. The
+//! one of the report program is not here: that program is compared by its own bytes.
 //!
 //! `second cases` prints one line for each, in the order below, ended by a newline:
 //! `name<TAB>fields`, the fields parted by single tabs. Numbers are decimal, a minus sign
@@ -48,6 +48,8 @@
 //! | sample-a2 | sample A.2, each line ended by NL | 96 |
 //! | sample-a3 | sample A.3, each line ended by NL | 9 |
 //! | sample-a4 | A.4's first two lines, then r, (3g + b)/4 and b, written 0, 0.25, 0.75 or 1 | 24 |
+//! | domain-lower-only | `DOMAIN_MIN -1 -1 -1`, NL, SMALL | 6 |
+//! | domain-upper-only-no-data | `LUT_1D_SIZE 2`, NL, `DOMAIN_MAX 2 2 2`, NL | 6 |
 //!
 //! A 3D table of N = 256 is too long for a program with fixed arrays: that its size passes
 //! is shown by the answer 13, for want of places, where 257 gives 7.
@@ -89,6 +91,7 @@ use crate::picture::picture;
 use crate::reading::{check, read_into};
 use crate::show::list;
 
+pub const SMALL: &str = "LUT_1D_SIZE 2\n0 0 0\n1 1 1\n";
 pub const CUBE: &str = "LUT_3D_SIZE 2\n0 0 0\n0 0 0\n0 0 0\n0 0 0\n0 0 0\n0 0 0\n0 0 0\n1 1 1\n";
 pub const SAMPLE_A2: &str = include_str!("../../accept/sample-a2.cube");
 pub const SAMPLE_A3: &str = include_str!("../../accept/sample-a3.cube");
@@ -134,9 +137,9 @@ fn comment(length: usize, ending: &str) -> String {
     format!("#{}{ending}", "x".repeat(length - 1))
 }
 
-/// A small table that is accepted, then a comment as its last line.
+/// The small table, then a comment as its last line.
 fn commented(length: usize, ending: &str) -> String {
-    format!("LUT_1D_SIZE 2\n0 0 0\n1 1 1\n{}", comment(length, ending))
+    format!("{SMALL}{}", comment(length, ending))
 }
 
 fn read_cases() -> Vec<(&'static str, String, usize)> {
@@ -169,6 +172,8 @@ fn read_cases() -> Vec<(&'static str, String, usize)> {
         ("sample-a2", SAMPLE_A2.to_string(), 96),
         ("sample-a3", SAMPLE_A3.to_string(), 9),
         ("sample-a4", SAMPLE_A4.to_string(), 24),
+        ("domain-lower-only", format!("DOMAIN_MIN -1 -1 -1\n{SMALL}"), 6),
+        ("domain-upper-only-no-data", "LUT_1D_SIZE 2\nDOMAIN_MAX 2 2 2\n".to_string(), 6),
     ]
 }
 

@@ -1,9 +1,11 @@
-//! What an accepted look met, and what files did by the points of their numbers. A stream has
-//! to come to each of these places, since they are where a mistake would show.
+//! What an accepted look met, and what files did by the points of their numbers and by one
+//! domain line without the other. A stream has to come to each of these places, since they are
+//! where a mistake would show.
 
 use crate::gen::{FileCase, LookCase};
 use crate::look::Look;
 use crate::paper::{greatest_code, number, place};
+use crate::reading::{is_data, read, words};
 use crate::side::ReadAnswer;
 
 /// A point that has no digit after it, where the file is accepted; one that has no digit on
@@ -15,15 +17,14 @@ pub const POINTS: [&str; 6] = [
 
 /// For each of those names, whether the file met it.
 pub fn points_met(case: &FileCase, answer: &ReadAnswer) -> [bool; POINTS.len()] {
-    let lines: Vec<&[u8]> = case.file.split(|byte| *byte == b'\n').collect();
-    let word_on = |line: &[u8], is: fn(&[u8]) -> bool| line.split(|b| b" \t".contains(b)).any(is);
-    let refused = (answer.line as usize).checked_sub(1).and_then(|at| lines.get(at));
-    let lone = |wanted| answer.number == wanted && refused.is_some_and(|l| word_on(l, is_lone));
-    let bare = |bounds, is| {
-        let met = |line: &&[u8]| {
-            !line.starts_with(b"#") && has_bounds(line) == bounds && word_on(line, is)
+    let refused = taken(case, answer).last();
+    let lone =
+        |wanted| answer.number == wanted && refused.is_some_and(|line| words(line).any(is_lone));
+    let bare = |bounds, is: fn(&[u8]) -> bool| {
+        let met = |line: &[u8]| {
+            !line.starts_with(b"#") && has_bounds(line) == bounds && words(line).any(is)
         };
-        answer.number == number::ACCEPTED && lines.iter().any(|line| met(line))
+        answer.number == number::ACCEPTED && lines(case).any(met)
     };
     [
         bare(false, is_bare),
@@ -35,7 +36,51 @@ pub fn points_met(case: &FileCase, answer: &ReadAnswer) -> [bool; POINTS.len()] 
     ]
 }
 
-fn has_bounds(line: &[u8]) -> bool {
+/// One domain line without the other: why a file is refused with 19, whether or not a later
+/// check of the keywords would refuse it too, and what hides behind 9.
+pub const HALVES: [&str; 8] = [
+    "DOMAIN_MIN alone", "DOMAIN_MAX alone", "19 where 10 to 13 pass", "19 before 10",
+    "19 before 11", "19 before 12", "19 before 13", "9 before 19",
+];
+
+/// Where the keywords are judged, and where each of those names has to be met.
+pub const JUDGED: [&str; 2] = ["at a data line", "at the end"];
+
+/// For each of these two and each of those names, whether the file met it there.
+pub fn halves_met(case: &FileCase, answer: &ReadAnswer) -> [[bool; HALVES.len()]; JUDGED.len()] {
+    let has = |keyword: &[u8]| taken(case, answer).any(|l| words(l).next() == Some(keyword));
+    let (lower, upper) = (has(b"DOMAIN_MIN"), has(b"DOMAIN_MAX"));
+    let given = answer.number == number::HALF_A_DOMAIN;
+    // What the file is answered where the absent line's default is written out.
+    let absent: &[u8] = if lower { b"DOMAIN_MAX 1 1 1\n" } else { b"DOMAIN_MIN 0 0 0\n" };
+    let hidden = given.then(|| read(&[absent, &case.file].concat(), case.table_len).number);
+    let hides = |number| hidden == Some(number);
+    let later = number::LOWER_NOT_BELOW_UPPER..=number::TABLE_SHORT;
+    let met = [
+        given && lower && !upper,
+        given && upper && !lower,
+        given && !later.into_iter().any(hides),
+        hides(number::LOWER_NOT_BELOW_UPPER),
+        hides(number::DOMAIN_TOO_WIDE),
+        hides(number::DOMAINS_DIFFER),
+        hides(number::TABLE_SHORT),
+        answer.number == number::NO_SIZE && lower != upper,
+    ];
+    let at_data = taken(case, answer).last().is_some_and(is_data);
+    [at_data, !at_data].map(|here| met.map(|on| on && here))
+}
+
+fn lines(case: &FileCase) -> impl Iterator<Item = &[u8]> {
+    case.file.split(|byte| *byte == b'\n')
+}
+
+/// The lines up to the one that decided; none of an accepted file.
+fn taken<'a>(case: &'a FileCase, answer: &ReadAnswer) -> impl Iterator<Item = &'a [u8]> {
+    lines(case).take(answer.line as usize)
+}
+
+/// Whether a domain line's keyword is on the line.
+pub fn has_bounds(line: &[u8]) -> bool {
     line.windows(7).any(|bytes| bytes == b"DOMAIN_")
 }
 
@@ -111,4 +156,52 @@ fn colour_met(
         sum < 0,
         sum > m * one_code,
     ]
+}
+
+#[cfg(test)]
+mod tests {
+    use super::*;
+    use crate::side::{Second, Side};
+
+    /// The names that a file meets with a table of 24 places, each behind where it meets it.
+    fn halves(file: &str) -> Vec<String> {
+        let case = FileCase { file: file.as_bytes().to_vec(), table_len: 24, made: Vec::new() };
+        let met = Second.read(&case).map(|answer| halves_met(&case, &answer)).unwrap_or_default();
+        let named = |(judged, met): (&'static str, [bool; HALVES.len()])| {
+            let on = HALVES.into_iter().zip(met).filter(|(_, on)| *on);
+            on.map(move |(name, _)| format!("{judged}: {name}"))
+        };
+        JUDGED.into_iter().zip(met).flat_map(named).collect()
+    }
+
+    #[test]
+    fn halves_are_met_where_they_are_judged() {
+        let none: [&str; 0] = [];
+        assert_eq!(
+            halves("DOMAIN_MIN -1 -1 -1\nLUT_1D_SIZE 2\n0 0 0\n1 1 1\n"),
+            ["at a data line: DOMAIN_MIN alone", "at a data line: 19 where 10 to 13 pass"]
+        );
+        assert_eq!(
+            halves("DOMAIN_MIN -10 0 0\nLUT_1D_SIZE 2\n0 0 0\nDOMAIN_MAX 0 1 1\n"),
+            ["at a data line: DOMAIN_MIN alone", "at a data line: 19 before 11"]
+        );
+        assert_eq!(
+            halves("LUT_3D_SIZE 2\n DOMAIN_MAX 1 1 2\n# none\n0 x\n"),
+            ["at a data line: DOMAIN_MAX alone", "at a data line: 19 before 12"]
+        );
+        assert_eq!(
+            halves("LUT_1D_SIZE 2\nDOMAIN_MAX 0 0 0"),
+            ["at the end: DOMAIN_MAX alone", "at the end: 19 before 10"]
+        );
+        assert_eq!(
+            halves("LUT_1D_SIZE 9\nDOMAIN_MIN 0 0 0\n"),
+            ["at the end: DOMAIN_MIN alone", "at the end: 19 before 13"]
+        );
+        assert_eq!(halves("DOMAIN_MAX 2 2 2\n0 0 0\n"), ["at a data line: 9 before 19"]);
+        assert_eq!(halves("DOMAIN_MIN 0 0 0\n"), ["at the end: 9 before 19"]);
+        assert_eq!(halves("DOMAIN_MIN 0 0 0\nDOMAIN_MAX 1 1 1\n"), none);
+        assert_eq!(halves("#\n0 0 0\n"), none);
+        assert_eq!(halves("LUT_1D_SIZE 2\n0 0 0\nDOMAIN_MIN 0 0 0\n"), none);
+        assert_eq!(halves("LUT_1D_SIZE 2\n0 0 0\n1 1 1\n"), none);
+    }
 }

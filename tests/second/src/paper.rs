@@ -1,6 +1,6 @@
 //! Document 01's numbers, units and ranges, each once.
 
-/// "Answers by number".
+/// "Answers by number", and document 02's 19.
 pub mod number {
     pub const ACCEPTED: u32 = 0;
     pub const LINE_TOO_LONG: u32 = 1;
@@ -21,6 +21,7 @@ pub mod number {
     pub const SAMPLE_BEYOND: u32 = 16;
     pub const SAMPLE_TOO_FINE: u32 = 17;
     pub const TOO_FEW_ROWS: u32 = 18;
+    pub const HALF_A_DOMAIN: u32 = 19;
     pub const DEPTH_UNKNOWN: u32 = 20;
     pub const PICTURE_LENGTH: u32 = 21;
     pub const OUTPUT_SHORT: u32 = 22;

@@ -1,7 +1,7 @@
 //! Reading: the bytes of one .cube file to a description and samples, or a refusal.
 //!
-//! Document 01, "Lines" and "Answers by number". One line is taken after
-//! another; "the first refused line decides".
+//! Document 01, "Lines" and "Answers by number", and document 02, Req 05. One line is
+//! taken after another; "the first refused line decides".
 
 use crate::decimal::{self, Value, TEN_MILLIONTHS, THOUSANDTHS};
 use crate::paper::{differ_in_3d, some_lower_not_below, some_too_wide};
@@ -74,7 +74,7 @@ fn refused(number: u32, line: u64) -> Reading {
 }
 
 /// "A word is a longest run of bytes other than space and tab."
-fn words(line: &[u8]) -> impl Iterator<Item = &[u8]> {
+pub fn words(line: &[u8]) -> impl Iterator<Item = &[u8]> {
     line.split(|byte| is_blank(*byte)).filter(|run| !run.is_empty())
 }
 
@@ -88,7 +88,7 @@ fn is_permitted(byte: u8) -> bool {
 }
 
 /// "A line whose first word starts with a digit, +, - or . is a data line."
-fn is_data(line: &[u8]) -> bool {
+pub fn is_data(line: &[u8]) -> bool {
     let starts = |word: &[u8]| matches!(word[0], b'0'..=b'9' | b'+' | b'-' | b'.');
     words(line).next().is_some_and(starts)
 }
@@ -217,7 +217,7 @@ impl SoFar {
         Ok(())
     }
 
-    /// The number of rows; on the first data line 9 to 13 are judged before it is given.
+    /// The number of rows; on the first data line the keywords are judged before it is given.
     fn judge_keywords_before_first_row(&self) -> Result<usize, u32> {
         match self.size {
             Some((kind, n)) if self.data_lines > 0 => Ok(kind.rows(n)),
@@ -225,9 +225,13 @@ impl SoFar {
         }
     }
 
-    /// 9, 10, 11, 12, 13 in that order, each for all colours before the next.
+    /// 9, 19, 10, 11, 12, 13 in that order, each for all colours before the next.
     fn judge_keywords(&self) -> Result<usize, u32> {
         let (kind, n) = self.size.ok_or(number::NO_SIZE)?;
+        // Document 02, Req 05: "a file with one domain line and not the other is refused".
+        if self.lower.is_some() != self.upper.is_some() {
+            return Err(number::HALF_A_DOMAIN);
+        }
         let (lower, upper) = (self.lower(), self.upper());
         if some_lower_not_below(&lower, &upper) {
             return Err(number::LOWER_NOT_BELOW_UPPER);

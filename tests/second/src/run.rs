@@ -2,7 +2,7 @@
 
 use crate::gen::{file_case, look_case, picture_case, FileCase, LookCase, PictureCase};
 use crate::look::Look;
-use crate::met::{met, points_met, NAMES, POINTS};
+use crate::met::{halves_met, met, points_met, HALVES, JUDGED, NAMES, POINTS};
 use crate::paper::number;
 use crate::reading::Check;
 use crate::show::{list, quoted, shortened, where_not_zero};
@@ -21,7 +21,7 @@ pub struct Wanted {
 }
 
 /// The numbers that each call can answer.
-const READ_NUMBERS: std::ops::RangeInclusive<u32> = number::ACCEPTED..=number::TOO_FEW_ROWS;
+pub const READ_NUMBERS: std::ops::RangeInclusive<u32> = number::ACCEPTED..=number::HALF_A_DOMAIN;
 /// Check answers those of reading but this one.
 const NEVER_BY_CHECK: u32 = number::TABLE_SHORT;
 const LOOK_NUMBERS: [u32; 4] =
@@ -43,6 +43,7 @@ pub struct Counts {
     look: BTreeMap<u32, u64>,
     picture: BTreeMap<u32, u64>,
     points: [u64; POINTS.len()],
+    halves: [[u64; HALVES.len()]; JUDGED.len()],
     met: [u64; NAMES.len()],
 }
 
@@ -53,16 +54,23 @@ impl Counts {
             let shown: Vec<String> = counts.iter().map(|(n, many)| format!("{n}:{many}")).collect();
             lines_of(name, &list(&shown, " "))
         };
+        let halves = JUDGED.iter().zip(&self.halves).map(|(judged, counts)| {
+            met_line(&format!("files met {judged}"), &self.read, &HALVES, counts)
+        });
         let files = line("read", &self.read)
             + &met_line("files met", &self.read, &POINTS, &self.points)
+            + &halves.collect::<String>()
             + &line("check", &self.check);
         let looks =
             line("look", &self.look) + &met_line("looks met", &self.look, &NAMES, &self.met);
         files + &looks + &line("picture", &self.picture)
     }
 
-    fn note_points(&mut self, case: &FileCase, answer: &ReadAnswer) {
+    fn note_file(&mut self, case: &FileCase, answer: &ReadAnswer) {
         add_met(&mut self.points, &points_met(case, answer));
+        for (counts, met) in self.halves.iter_mut().zip(halves_met(case, answer)) {
+            add_met(counts, &met);
+        }
     }
 
     fn note_met(&mut self, case: &LookCase, look: &Look) {
@@ -88,6 +96,9 @@ impl Counts {
             missing.extend(unmet.map(|(name, _)| format!("{call}: {name}")));
         };
         unmet("read", wanted.tables, &POINTS, &self.points);
+        for (judged, counts) in JUDGED.iter().zip(&self.halves) {
+            unmet(&format!("read {judged}"), wanted.tables, &HALVES, counts);
+        }
         unmet("look", wanted.looks, &NAMES, &self.met);
         missing
     }
@@ -126,7 +137,7 @@ pub fn run(wanted: &Wanted, other: Option<&dyn Side>) -> Result<Counts, String> 
         let case = file_case(wanted.seed, index);
         let answer = one_file(&case, other).map_err(|d| told(index, d))?;
         *counts.read.entry(answer.number).or_default() += 1;
-        counts.note_points(&case, &answer);
+        counts.note_file(&case, &answer);
         let number = one_check(&case, other).map_err(|d| told(index, d))?;
         *counts.check.entry(number).or_default() += 1;
     }
@@ -288,9 +299,20 @@ mod tests {
 
     #[test]
     fn every_number_is_seen() {
-        let wanted = Wanted { seed: 1, tables: 4_000, looks: 4_000, pictures: 4_000 };
+        let wanted = Wanted { seed: 1, tables: 10_000, looks: 4_000, pictures: 4_000 };
         let counts = run(&wanted, None).unwrap_or_default();
         assert_eq!(counts.missing(&wanted), Vec::<String>::new(), "{}", counts.shown());
+    }
+
+    #[test]
+    fn what_is_never_met_is_missing() {
+        let wanted = Wanted { seed: 1, tables: 1, looks: 0, pictures: 0 };
+        let missing = Counts::default().missing(&wanted);
+        for judged in JUDGED {
+            for half in HALVES {
+                assert!(missing.contains(&format!("read {judged}: {half}")), "{missing:?}");
+            }
+        }
     }
 
     #[test]

@@ -1,11 +1,17 @@
 //! Makes a case on which two programs differ smaller, while they still differ.
 
 use crate::gen::{FileCase, LookCase, PictureCase};
+use crate::met::has_bounds;
 use crate::side::{Second, Side};
 
 /// Bytes without the lines, and then without the bytes, that the difference does not need.
 pub fn fewer_bytes(file: &[u8], tries: usize, differs: impl Fn(&[u8]) -> bool) -> Vec<u8> {
-    let lines: Vec<Vec<u8>> = file.split(|byte| *byte == b'\n').map(<[u8]>::to_vec).collect();
+    let mut lines: Vec<Vec<u8>> = file.split(|byte| *byte == b'\n').map(<[u8]>::to_vec).collect();
+    // One domain line cannot be left out without the other.
+    let unbounded: Vec<Vec<u8>> = lines.iter().filter(|line| !has_bounds(line)).cloned().collect();
+    if differs(&unbounded.join(&b'\n')) {
+        lines = unbounded;
+    }
     let lines = fewer(lines, tries, |lines| differs(&lines.join(&b'\n')));
     fewer(lines.join(&b'\n'), tries, differs)
 }

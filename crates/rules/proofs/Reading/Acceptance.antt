@@ -14,7 +14,7 @@ use Rattle.rules.specs.Reading.Lines.{after, blank, inTitle, inWord, lin
 use Rattle.rules.specs.Reading.Items.{lowerIn, numbersOf, rowIn, sizeIn, titleIn, upperIn}
 use Rattle.rules.specs.Reading.Grammar.{Keeps, Lines, gather, lowers, put, uppers}
 use Rattle.rules.specs.Reading.Contents.{closes, contentBy, contentOf, quoted, titleOf}
-use Rattle.rules.specs.Reading.Judge.{State, describe, domainFault, endFault, given, noSize, givenOr, start}
+use Rattle.rules.specs.Reading.Judge.{State, describe, domainFault, endFault, given, noSize, givenOr, start, together}
 use Rattle.rules.specs.Reading.{read, samplesIn, samplesOf}
 use Rattle.rules.specs.declared.Content.the-variants.{Says, Wrong}
 use Rattle.rules.specs.declared.Item.{Item}
@@ -26,7 +26,7 @@ use Rattle.rules.specs.declared.Row.{Row}
 use Rattle.rules.specs.declared.Refusal.the-variants.{ParametersWrong}
 use Rattle.rules.specs.declared.Read.the-variants.{Accepted}
 use Rattle.rules.proofs.Tests.{no-some, no-true, need-none, none-need, first-none, none-first}
-use Rattle.rules.proofs.Reading.Order.{Admitted, final, Once, given-once, once-given, Due, told, admitted-due, HeadOk, Inv, head-ok, ok-head, inv-final, rows-final, due-admitted, due-final}
+use Rattle.rules.proofs.Reading.Order.{Admitted, final, Once, given-once, once-given, fields-items, items-fields, Due, told, admitted-due, HeadOk, Inv, head-ok, ok-head, inv-final, rows-final, due-admitted, due-final}
 use Rattle.rules.proofs.Reading.Walk.{Found, Walked, walked, walk}
 use Rattle.rules.proofs.Reading.OneLine.{find, found}
 
@@ -109,6 +109,7 @@ module _ (file : List ℕ) (places : ℕ) where
         lower = given-once lowest (gather lowerIn is) (end .lower) (due .lower);
         upper = given-once highest (gather upperIn is) (end .upper) (due .upper);
         size = once-one noSize (gather sizeIn is) (end .size) (due .size) (ok .sized);
+        domain = fields-items (gather lowerIn is) (gather upperIn is) (end .lower) (end .upper) (due .lower) (due .upper) (ok .whole);
         ordered-so = sound .0 .0;
         narrow-so = sound .0 .1;
         agree-so = sound .1 .0;
@@ -144,13 +145,13 @@ module _ (file : List ℕ) (places : ℕ) where
         upper = up .1;
         size = one-once (gather sizeIn is) s (k .size);
       } in
+      let whole : together (lo .0) (up .0) ≡ true = items-fields (gather lowerIn is) (gather upperIn is) (lo .0) (up .0) (lo .1) (up .1) (k .domain) in
       let sound : domainFault places (told (t .0) (lo .0) (up .0) (some s)) ≡ none = rw same at (without-fault places d ((k .ordered-so, k .narrow-so), (k .agree-so, k .room))) in
       let n : start .rows + length (gather rowIn is) ≡ rows (told (t .0) (lo .0) (up .0) (some s)) = omega (arith, k .count) in
-      let admitted : Admitted places start is = due-admitted places (t .0) (lo .0) (up .0) (some s) refl sound start is due n in
-      let f = due-final places (t .0) (lo .0) (up .0) (some s) refl sound start is due in
-      let ok : HeadOk places end = record { sized = rw (f .1); sound = rw (f .0) sound } in
+      let admitted : Admitted places start is = due-admitted places (t .0) (lo .0) (up .0) (some s) refl whole sound start is due n in
+      let f = due-final places (t .0) (lo .0) (up .0) (some s) refl whole sound start is due in
       let full : rows (describe end) ≤ end .rows = rw (f .0) (omega (arith, rows-final start is, n)) in
-      let ended : endFault places end ≡ none = none-first _ _ (ok-head places end ok) (none-need _ _ _ (le-leb (rows (describe end)) (end .rows) full) refl) in
+      let ended : endFault places end ≡ none = none-first _ _ (ok-head places end (f .1)) (none-need _ _ _ (le-leb (rows (describe end)) (end .rows) full) refl) in
       (walk find found places 0 0 start (linesOf file) is (k .lines) admitted ended ∙ ap Accepted (f .0 ∙ sym same), lines-samples 0 (linesOf file) is (k .lines) ∙ sym (k .values))
 
   -- acceptance is the grammar

@@ -10,8 +10,8 @@ use lib.Dec.{eqb}
 use lib.ListN.{length}
 use Rattle.rules.specs.Descriptions.{description, highest, lowest, noTitle, rows}
 use Rattle.rules.specs.Reading.Items.{lowerIn, rowIn, sizeIn, titleIn, upperIn}
-use Rattle.rules.specs.Reading.Grammar.{AtMostOne, KeywordsFirst, NoKeyword, gather, isKeyword, isRow, put}
-use Rattle.rules.specs.Reading.Judge.{State, add, counted, describe, domainFault, given, headFault, need, newer, noSize, givenOr, orderFault, repeats}
+use Rattle.rules.specs.Reading.Grammar.{AtMostOne, BothOrNeither, KeywordsFirst, NoKeyword, gather, isKeyword, isRow, put}
+use Rattle.rules.specs.Reading.Judge.{State, add, counted, describe, domainFault, given, givenFault, headFault, newer, noSize, givenOr, orderFault, repeats, together}
 use Rattle.rules.specs.declared.Form.{Form}
 use Rattle.rules.specs.declared.Form.the-variants.{Idle, Keyed, Data}
 use Rattle.rules.specs.declared.Item.{Item}
@@ -23,7 +23,6 @@ use Rattle.rules.specs.declared.Title.{Title}
 use Rattle.rules.specs.declared.Bounds.{Bounds}
 use Rattle.rules.specs.declared.Size.{Size}
 use Rattle.rules.specs.declared.Row.{Row}
-use Rattle.rules.specs.declared.Refusal.the-variants.{NoSize}
 use Rattle.rules.proofs.Reading.Sorts.{title-item, lower-item, upper-item, size-item}
 use Rattle.rules.proofs.Tests.{no-some, no-true, need-none, none-need, first-none, none-first}
 
@@ -66,6 +65,24 @@ once-given default (a ∷ b ∷ more) x h = absurd h
 not-given : {A : Type 0} (o : Option A) → not (given o) ≡ true → o ≡ none
 not-given none h = refl
 not-given (some a) h = absurd (no-true (sym h))
+
+-- one that was given is the one
+once-some : {A : Type 0} (a : A) (xs : List A) (o : Option A) → Once (some a) xs o → o ≡ some a
+once-some a [] o h = h
+once-some a (b ∷ xs) o h = absurd (no-some a (h .0))
+
+-- of two sorts both are there or neither, in the fields as among the items
+pub fields-items : {A B : Type 0} (xs : List A) (ys : List B) (o : Option A) (u : Option B) → Once none xs o → Once none ys u → together o u ≡ true → BothOrNeither xs ys
+fields-items [] [] o u h k t = tt
+fields-items [] (b ∷ ys) o u h k t = no-true (sym (rw (h, once-some b ys u (k .1)) at t))
+fields-items (a ∷ xs) [] o u h k t = no-true (sym (rw (once-some a xs o (h .1), k) at t))
+fields-items (a ∷ xs) (b ∷ ys) o u h k t = tt
+
+pub items-fields : {A B : Type 0} (xs : List A) (ys : List B) (o : Option A) (u : Option B) → Once none xs o → Once none ys u → BothOrNeither xs ys → together o u ≡ true
+items-fields [] [] o u h k t = rw (h, k)
+items-fields [] (b ∷ ys) o u h k t = absurd t
+items-fields (a ∷ xs) [] o u h k t = absurd t
+items-fields (a ∷ xs) (b ∷ ys) o u h k t = rw (once-some a xs o (h .1), once-some b ys u (k .1))
 
 -- a sort of keyword line: how its items are picked and made, its keyword, and the state's field for it
 record Sort (A : Type 0) : Type 0 where
@@ -193,11 +210,12 @@ keywords-first places st [] h = tt
 keywords-first places st (i ∷ is) h =
     (λ r. no-keyword-after places (add st i) is (h .1) (omega (arith, rows-add st i, row-there i r)), keywords-first places (add st i) is (h .1))
 
--- ---- 9 to 14
+-- ---- 9, 19, 10 to 14
 
--- where there was a row, 9 to 13 were passed, and there are no more rows than the description has
+-- where there was a row, 9 to 13 and 19 were passed, and there are no more rows than the description has
 pub record HeadOk (places : ℕ) (st : State) : Type 0 where
   pub sized : given (st .size) ≡ true
+  pub whole : together (st .lower) (st .upper) ≡ true
   pub sound : domainFault places (describe st) ≡ none
 
 pub record Inv (places : ℕ) (st : State) : Type 0 where
@@ -205,19 +223,22 @@ pub record Inv (places : ℕ) (st : State) : Type 0 where
   pub count : st .rows ≤ rows (describe st)
 
 pub head-ok : (places : ℕ) (st : State) → headFault places st ≡ none → (0 < st .rows → HeadOk places st) → HeadOk places st
-unfolding headFault
+unfolding headFault givenFault
 head-ok places st h k = split (eqb (st .rows) 0) refl h
   where
-    split : (t : Bool) → eqb (st .rows) 0 ≡ t → cond t (need (given (st .size)) NoSize (domainFault places (describe st))) none ≡ none → HeadOk places st
-    split true e g = record { sized = need-none _ _ _ g .0; sound = need-none _ _ _ g .1 }
+    split : (t : Bool) → eqb (st .rows) 0 ≡ t → cond t (givenFault places st) none ≡ none → HeadOk places st
+    split true e g =
+        let (sized, rest) = need-none _ _ _ g in
+        let (whole, sound) = need-none _ _ _ rest in
+        record { sized = sized; whole = whole; sound = sound }
     split false e g = k (omega (arith, eqb-false (st .rows) 0 e))
 
 pub ok-head : (places : ℕ) (st : State) → HeadOk places st → headFault places st ≡ none
-unfolding headFault need
+unfolding headFault givenFault
 ok-head places st h = split (eqb (st .rows) 0)
   where
-    split : (t : Bool) → cond t (need (given (st .size)) NoSize (domainFault places (describe st))) none ≡ none
-    split true = rw (h .sized, h .sound)
+    split : (t : Bool) → cond t (givenFault places st) none ≡ none
+    split true = none-need _ _ _ (h .sized) (none-need _ _ _ (h .whole) (h .sound))
     split false = refl
 
 -- a line that is no row, and came before any
@@ -245,7 +266,7 @@ inv-add places st (OfSize s) h v = before-rows places st (OfSize s) h refl
 inv-add places st (OfRow r) h v =
     let k : HeadOk places st = head-ok places st (first-none _ _ h .0) (v .head) in
     let q : st .rows < rows (describe st) = ltb-true _ _ (need-none _ _ _ (first-none _ _ h .1) .0) in
-    record { head = λ p. record { sized = k .sized; sound = k .sound }; count = omega arith }
+    record { head = λ p. record { sized = k .sized; whole = k .whole; sound = k .sound }; count = omega arith }
 
 pub inv-final : (places : ℕ) (st : State) (is : List Item) → Admitted places st is → Inv places st → Inv places (final st is)
 inv-final places st [] h v = v
@@ -278,7 +299,7 @@ admitted-due places st is h = record {
 }
 
 module _ (places : ℕ) (t : Option Title) (lo up : Option Bounds) (s : Option Size)
-    (sized : given s ≡ true) (sound : domainFault places (told t lo up s) ≡ none) where
+    (sized : given s ≡ true) (whole : together lo up ≡ true) (sound : domainFault places (told t lo up s) ≡ none) where
   due-next : (st : State) (i : Item) (is : List Item) → Due places st (i ∷ is) t lo up s → Due places (add st i) is t lo up s
   unfolding titles lowest-bounds highest-bounds sizes
   due-next st i is h = record {
@@ -302,15 +323,16 @@ module _ (places : ℕ) (t : Option Title) (lo up : Option Bounds) (s : Option S
       later true e p = h .order .0 e
       later false e p = h .late (omega (arith, rows-add st i, same-rows i e)) .1
 
-  -- a state at which no keyword is left describes the whole
-  due-described : (st : State) (is : List Item) → NoKeyword is → Due places st is t lo up s → (describe st ≡ told t lo up s) × (st .size ≡ s)
+  -- a state at which no keyword is left describes all, and passes 9 to 13 and 19
+  due-described : (st : State) (is : List Item) → NoKeyword is → Due places st is t lo up s → (describe st ≡ told t lo up s) × HeadOk places st
   unfolding describe titles lowest-bounds highest-bounds sizes
   due-described st is k h =
       let a : t ≡ st .title = settled titles st is t k (h .title) in
       let b : lo ≡ st .lower = settled lowest-bounds st is lo k (h .lower) in
       let c : up ≡ st .upper = settled highest-bounds st is up k (h .upper) in
       let d : s ≡ st .size = settled sizes st is s k (h .size) in
-      (rw (a, b, c, d), sym d)
+      let same : describe st ≡ told t lo up s = rw (a, b, c, d) in
+      (same, record { sized = rw (sym d) sized; whole = rw (sym b, sym c) whole; sound = rw same sound })
 
   not-late : (st : State) (i : Item) (is : List Item) → Due places st (i ∷ is) t lo up s → isKeyword i ≡ true → eqb (st .rows) 0 ≡ true
   not-late st i is h k = split (eqb (st .rows) 0) refl
@@ -334,7 +356,7 @@ module _ (places : ℕ) (t : Option Title) (lo up : Option Bounds) (s : Option S
   due-admits st (OfRow x) is h n =
       let k = due-described st (OfRow x ∷ is) (refl, h .order .0 refl) h in
       none-first _ _
-      (ok-head places st (record { sized = rw (k .1) sized; sound = rw (k .0) sound }))
+      (ok-head places st (k .1))
       (none-need _ _ _ (lt-ltb (st .rows) (rows (describe st)) (rw (k .0) (omega arith))) refl)
 
   pub due-admitted : (st : State) (is : List Item) → Due places st is t lo up s
@@ -344,6 +366,6 @@ module _ (places : ℕ) (t : Option Title) (lo up : Option Bounds) (s : Option S
   due-admitted st (i ∷ is) h n =
       (due-admits st i is h n, due-admitted (add st i) is (due-next st i is h) (omega (arith, rows-add st i, length-put (rowIn i) (gather rowIn is))))
 
-  pub due-final : (st : State) (is : List Item) → Due places st is t lo up s → (describe (final st is) ≡ told t lo up s) × ((final st is) .size ≡ s)
+  pub due-final : (st : State) (is : List Item) → Due places st is t lo up s → (describe (final st is) ≡ told t lo up s) × HeadOk places (final st is)
   due-final st [] h = due-described st [] tt h
   due-final st (i ∷ is) h = due-final (add st i) is (due-next st i is h)

@@ -37,12 +37,12 @@ pub record Passed (places : ℕ) (st : State) (p : ℕ) (l : List ℕ) (st′ : 
   pub content : contentOf p l ≡ Says item
   pub state : st′ ≡ add st item
 
-unless-go : (f : Fault) (j : Verdict) (st : State) → unless f j ≡ go st → (f ≡ none) × (j ≡ go st)
+pub unless-go : (f : Fault) (j : Verdict) (st : State) → unless f j ≡ go st → (f ≡ none) × (j ≡ go st)
 unfolding unless
 unless-go none j st h = (refl, h)
 unless-go (some r) j st h = absurd (no-refuse r st h)
 
-taken : (st : State) (c : Content) (st′ : State) → take-in st c ≡ go st′ → (i : Item) × (c ≡ Says i) × (st′ ≡ add st i)
+pub taken : (st : State) (c : Content) (st′ : State) → take-in st c ≡ go st′ → (i : Item) × (c ≡ Says i) × (st′ ≡ add st i)
 unfolding take-in
 taken st (Says i) st′ h = (i, refl, cc)
 taken st (Wrong r) st′ h = absurd (no-refuse r st′ h)

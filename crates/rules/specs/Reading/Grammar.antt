@@ -1,4 +1,4 @@
--- Documents 000 and 01, as properties: what a line is, and what a file is that keeps the specification within the limits. Nothing here is run.
+-- Documents 000, 01 and 02, as properties: what a line is, and what a file is that keeps the specification within the limits. Nothing here is run.
 use Prim.Native.Nat.{ℕ, _+_, _*_, _≤_}
 use mathlib.Core.Path.{_≡_}
 use mathlib.Core.Bool.{Bool, true, false}
@@ -134,6 +134,13 @@ AtMostOne [] default x = x ≡ default
 AtMostOne (a ∷ []) default x = x ≡ a
 AtMostOne (a ∷ b ∷ more) default x = ⊥
 
+-- two sorts of line are both there, or both absent
+abbrev pub BothOrNeither : {A B : Type 0} → List A → List B → Type 0
+BothOrNeither [] [] = Unit
+BothOrNeither [] (b ∷ ys) = ⊥
+BothOrNeither (a ∷ xs) [] = ⊥
+BothOrNeither (a ∷ xs) (b ∷ ys) = Unit
+
 abbrev pub lowers : Description → Bounds
 lowers d = record { red = d .red .lower; green = d .green .lower; blue = d .blue .lower }
 
@@ -146,12 +153,13 @@ pub record Keeps (file : List ℕ) (places : ℕ) (d : Description) (samples : L
   -- each line is permitted, and empty, a comment, a keyword with its parameters, or data
   pub items : List Item
   pub lines : Lines 0 (linesOf file) items
-  -- keywords stand before data, each at most once; one size
+  -- keywords stand before data, each at most once; one size; both lines of the domain or neither
   pub order : KeywordsFirst items
   pub title : AtMostOne (gather titleIn items) noTitle (d .title)
   pub lower : AtMostOne (gather lowerIn items) lowest (lowers d)
   pub upper : AtMostOne (gather upperIn items) highest (uppers d)
   pub size : gather sizeIn items ≡ record { kind = d .kind; n = d .n } ∷ []
+  pub domain : BothOrNeither (gather lowerIn items) (gather upperIn items)
   -- the rules on the domains, and the table's length
   pub ordered-so : everyColour ordered d ≡ true
   pub narrow-so : everyColour narrow d ≡ true

@@ -1,4 +1,4 @@
--- Document 01, "Answers by number": the judge of one line, and of the file's end, in the order of the checks.
+-- Document 01, "Answers by number", with document 02's Req 05: the judge of one line, and of the file's end, in the order of the checks.
 use Prim.Native.Nat.{ℕ, _+_}
 use mathlib.Core.Bool.{Bool, true, false, cond, not}
 use mathlib.Core.List.{List}
@@ -20,7 +20,7 @@ use Rattle.rules.specs.declared.Bounds.{Bounds}
 use Rattle.rules.specs.declared.Description.{Description}
 use Rattle.rules.specs.declared.Kind.the-variants.{OneD}
 use Rattle.rules.specs.declared.Refusal.{Refusal}
-use Rattle.rules.specs.declared.Refusal.the-variants.{LineTooLong, ByteNotPermitted, KeywordAfterData, KeywordRepeated, NoSize, LowerNotBelowUpper, DomainTooWide, DomainsDiffer, TableTooShort, TooManyRows, TooFewRows}
+use Rattle.rules.specs.declared.Refusal.the-variants.{LineTooLong, ByteNotPermitted, KeywordAfterData, KeywordRepeated, NoSize, HalfADomain, LowerNotBelowUpper, DomainTooWide, DomainsDiffer, TableTooShort, TooManyRows, TooFewRows}
 use Rattle.rules.specs.declared.Row.{Row}
 use Rattle.rules.specs.declared.Size.{Size}
 use Rattle.rules.specs.declared.Title.{Title}
@@ -94,7 +94,14 @@ unfoldable pub first : Fault → Fault → Fault
 first none next = next
 first (some r) next = some r
 
--- ---- 9 to 13, at the first data line, or at the end where there is none
+-- ---- 9, 19, 10 to 13, at the first data line, or at the end where there is none
+
+-- two lines are both there, or both absent
+abbrev pub together : {A B : Type 0} → Option A → Option B → Bool
+together none none = true
+together none (some b) = false
+together (some a) none = false
+together (some a) (some b) = true
 
 -- 10 to 13, of a description and a table of so many places
 unfoldable pub domainFault : ℕ → Description → Fault
@@ -104,15 +111,19 @@ domainFault places d =
     (need (agree (d .kind) d) DomainsDiffer
     (need (roomy places d) TableTooShort none)))
 
+-- of what the lines so far have given: a size, the domain whole or not at all, and 10 to 13
+unfoldable pub givenFault : ℕ → State → Fault
+givenFault places st = need (given (st .size)) NoSize (need (together (st .lower) (st .upper)) HalfADomain (domainFault places (describe st)))
+
 unfoldable pub headFault : ℕ → State → Fault
-headFault places st = cond (eqb (st .rows) 0) (need (given (st .size)) NoSize (domainFault places (describe st))) none
+headFault places st = cond (eqb (st .rows) 0) (givenFault places st) none
 
 -- ---- a line: 1, 2; then its place among the others; then what it says
 
 unfoldable pub byteFault : List ℕ → Fault
 byteFault l = need (leb (length l) lineLimit) LineTooLong (need (every permitted l) ByteNotPermitted none)
 
--- a keyword: 4, 5; a data line: 9 to 13, 14
+-- a keyword: 4, 5; a data line: 9, 19, 10 to 13, then 14
 unfoldable pub orderFault : ℕ → State → Form → Fault
 orderFault places st Idle = none
 orderFault places st (Keyed k) = need (eqb (st .rows) 0) KeywordAfterData (need (not (repeats k st)) KeywordRepeated none)
@@ -135,7 +146,7 @@ unless (some r) j = refuse r
 unfoldable pub judge : ℕ → State → ℕ → List ℕ → Verdict
 judge places st p l = unless (byteFault l) (unless (orderFault places st (formOf l)) (take-in st (contentOf p l)))
 
--- ---- the end: 9 to 13 where there was no data line, then 18
+-- ---- the end: 9, 19, 10 to 13 where there was no data line, then 18
 
 unfoldable pub endFault : ℕ → State → Fault
 endFault places st = first (headFault places st) (need (leb (rows (describe st)) (st .rows)) TooFewRows none)

@@ -18,6 +18,8 @@ use Rattle.rules.specs.declared.Description.{Description}
 use Rattle.rules.specs.declared.Read.{Read}
 use Rattle.rules.specs.declared.Read.the-variants as R
 use Rattle.rules.proofs.Answers.{checks-is, is-checks, refused-not-0}
+use Rattle.signature.specs.HalfDomains.{HalfAt}
+use Rattle.signature.proofs.Reading.HalfDomains.{numbers-half}
 use Rattle.signature.proofs.Reading.Checking.{check-keeps, check-places, checked-then-read, lent-enough, lent-too-few, long-enough, read-accepts, refused-alike}
 use Rattle.signature.proofs.Boundary.Reads.{ReadLaid, read-laid}
 
@@ -145,3 +147,9 @@ module _ {file : List ℕ} {eleven′ : List ℤ} {number line′ places′ : �
     -- and into a table as long as the greatest it answers what check answers, whatever the file
     pub check-long-enough : placeLimit ≤ length table → (number′ ≡ number) × (line″ ≡ line′) × (eleven″ ≡ eleven′)
     check-long-enough long = alike (long-enough (read .reads) (checked .checks) long)
+
+-- 19 exactly where the head is checked with a size and one line of the domain alone
+pub checks-c-half : {file : List ℕ} {eleven′ : List ℤ} {number line′ places′ : ℕ} → ChecksC file number eleven′ line′ places′ → (n : ℕ)
+    → ((number ≡ 19) × (line′ ≡ n)) ↔ HalfAt file placeLimit n
+unfolding check
+checks-c-half {file} h n = numbers-half placeLimit file n (h .number-so) (h .line-so)

@@ -15,10 +15,10 @@ use Rattle.signature.proofs.Reading.Numbers.{check-number, read-number}
 use Rattle.signature.proofs.Looking.Numbers.{OfLook, look-number}
 use Rattle.signature.proofs.Picturing.Numbers.{OfPicture, picture-number}
 
-pub reads-c-number : {file : List ℕ} {table table′ eleven′ : List ℤ} {number line′ : ℕ} → ReadsC file table number table′ eleven′ line′ → number ≤ 18
+pub reads-c-number : {file : List ℕ} {table table′ eleven′ : List ℤ} {number line′ : ℕ} → ReadsC file table number table′ eleven′ line′ → number ≤ 19
 reads-c-number {file} {table} h = omega (arith, h .number-so, read-number file (length table))
 
-pub checks-c-number : {file : List ℕ} {eleven′ : List ℤ} {number line′ places′ : ℕ} → ChecksC file number eleven′ line′ places′ → (number ≤ 18) × (number ≡ 13 → ⊥)
+pub checks-c-number : {file : List ℕ} {eleven′ : List ℤ} {number line′ places′ : ℕ} → ChecksC file number eleven′ line′ places′ → (number ≤ 19) × (number ≡ 13 → ⊥)
 checks-c-number {file} h = (omega (arith, h .number-so, check-number file .0), λ e. check-number file .1 (sym (h .number-so) ∙ e))
 
 module _ {eleven table : List ℤ} {bits : Bits} {number : ℕ} where

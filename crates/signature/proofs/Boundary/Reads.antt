@@ -22,8 +22,10 @@ use Rattle.rules.proofs.Reading.Acceptance.{keeps-accepted}
 use Rattle.rules.proofs.Answers.{refused-not-0, reads-is, is-reads}
 use Rattle.rules.proofs.Reading.Bridge.{refused-unchanged, reads-bridge}
 use Rattle.signature.proofs.Reading.Promised.{reads-accepted}
+use Rattle.signature.proofs.Reading.HalfDomains.{numbers-half}
 use Rattle.signature.proofs.Reading.Order.{numbers-order}
 use Rattle.signature.proofs.Boundary.Crossing.{crosses}
+use Rattle.signature.specs.HalfDomains.{HalfAt}
 use Rattle.signature.specs.Order.{FailsFirst}
 
 -- a reading with its answer laid out as numbers
@@ -88,6 +90,11 @@ module _ {file : List ℕ} {table table′ eleven′ : List ℤ} {number line′
 pub reads-c-order : {file : List ℕ} {table table′ eleven′ : List ℤ} {number line′ : ℕ} → ReadsC file table number table′ eleven′ line′ → (r : Refusal) (n : ℕ)
     → ((number ≡ refusalNumber r) × (line′ ≡ n)) ↔ FailsFirst file (length table) r n
 reads-c-order {file} {table} h r n = numbers-order file (length table) r n (h .number-so) (h .line-so)
+
+-- 19 exactly where the head is checked with a size and one line of the domain alone
+pub reads-c-half : {file : List ℕ} {table table′ eleven′ : List ℤ} {number line′ : ℕ} → ReadsC file table number table′ eleven′ line′ → (n : ℕ)
+    → ((number ≡ 19) × (line′ ≡ n)) ↔ HalfAt file (length table) n
+reads-c-half {file} {table} h n = numbers-half (length table) file n (h .number-so) (h .line-so)
 
 -- what acceptance wrote gives the description back, and is not 24
 pub read-bridge : {file : List ℕ} {table table′ eleven′ : List ℤ} {line′ : ℕ} (a : ReadAccepted file table table′ eleven′ line′)

@@ -1,6 +1,6 @@
 -- Req 01 of document 02: digits with a bare point are numbers, and no other word and no other answer moves.
-use Prim.Native.Nat.{ℕ, suc}
-use mathlib.Core.Path.{_≡_, refl, sym, ap, subst, _∙_}
+use Prim.Native.Nat.{ℕ, suc, _*_}
+use mathlib.Core.Path.{_≡_, refl, sym, ap, ap₂, subst, _∙_}
 use mathlib.Core.Logic.{_⊎_, inl, inr, ⊎-elim}
 use mathlib.Core.Bool.{Bool, true, false, cond, _&&_, _||_}
 use mathlib.Core.List.{List, [], _∷_, _++_, append-assoc, append-nil}
@@ -9,14 +9,15 @@ use native.Mathlib.Omega.{arith}
 use borrow.Author.Tests.{eqb-true}
 use lib.Dec.{eqb}
 use lib.IntN.{ℤ}
-use lib.ListN.{length}
+use lib.ListN.{length, drop}
 use Rattle.rules.specs.Units.{boundLimit, boundPlaces, placeLimit, sampleLimit, samplePlaces}
-use Rattle.rules.specs.Reading.{check, read, readLines, tableAfter}
+use Rattle.rules.specs.Descriptions.{rows}
+use Rattle.rules.specs.Reading.{check, read, samplesIn, samplesOf, tableAfter}
 use Rattle.rules.specs.Reading.Lines.{digit, every, minusByte, run, after, starts, linesOf, wordsOf}
 use Rattle.rules.specs.Reading.Numerals.{Exponent, Numeral, Sign, plain, pointed}
 use Rattle.rules.specs.Reading.Numbers.{assemble, exponentOf, numberOf, numeralOf, numeralWith, unsigned, valueOf}
-use Rattle.rules.specs.Reading.Contents.{boundsAt, boundsOf, contentBy, formed, formOf, parameters, rowOf, samplesOn, threeOf, values}
-use Rattle.rules.specs.Reading.Judge.{start}
+use Rattle.rules.specs.Reading.Contents.{boundsAt, boundsOf, contentBy, contentOf, formed, formOf, parameters, rowOf, samplesOn, threeOf, values}
+use Rattle.rules.specs.Reading.Judge.{headFault, start}
 use Rattle.rules.specs.Promises.{Checks, Reads}
 use Rattle.rules.specs.declared.Bounds.{Bounds}
 use Rattle.rules.specs.declared.Content.{Content}
@@ -39,8 +40,11 @@ use Rattle.rules.proofs.Tests.{no-some}
 use Rattle.rules.proofs.Reading.Runs.{run-after, run-every, run-append, starts-append, starts-other}
 use Rattle.rules.proofs.Reading.Numbers.{Unsigned, assemble-first, digit-no-sign, digits-parts, of-power, of-spells, parts-digits, power-of, sign-on, signByte, unsign}
 use Rattle.rules.proofs.Reading.Walk.{no-refused}
-use Rattle.signature.specs.Before.{BareAmong, BarePoint, Freed, Unformed, Unmoved, boundsBy, formBy, lineBefore, lineBy, lower-bounds, numberBefore, numeralBefore, pointedBefore, readBefore, readBy, readLinesBy, samples, samplesBy, tableBefore, tableBy, threeBy, upper-bounds, withoutPoint}
-use Rattle.signature.proofs.Reading.Moved.{AlikeOrStops, SameOrDiffers, lines-moved, table-alike}
+use Rattle.signature.specs.Before.{boundsBy, formBy, judgesBy, lineBy, readBy, samplesBy, samplesOfBy, tableBy, threeBy}
+use Rattle.signature.specs.BarePoints.{BareAmong, BarePoint, Freed, Unformed, Unmoved, lineBefore, lower-bounds, numberBefore, numeralBefore, pointedBefore, readBefore, samples, tableBefore, upper-bounds, withoutPoint}
+use Rattle.signature.proofs.Reading.Parts.{read-is}
+use Rattle.signature.proofs.Reading.Beside.{Stops, not-earlier}
+use Rattle.signature.proofs.Reading.Moved.{OnMarked, SameOrDiffers, lines-moved, table-alike}
 
 -- ---- words
 
@@ -266,24 +270,35 @@ module _ (l : List ℕ) where
 
 -- ---- a file
 
+abbrev Stopped : List ℕ → ℕ → Type 0
+Stopped file places =
+    Stops (judgesBy headFault lineBefore places) (judgesBy headFault contentOf places) (OnMarked lineBefore Marked) 0 0 start (linesOf file)
+
 -- a file is answered as it was, or was refused on a line with a word that is a number now
 pub read-moved : (file : List ℕ) (places : ℕ) → Unmoved file places ⊎ Freed file places
-unfolding readBy read
-read-moved file places = by (lines-moved lineBefore Marked line-moved places 0 0 start (linesOf file))
+unfolding readBy
+read-moved file places = by (lines-moved lineBefore Marked line-moved places file)
   where
-    by : AlikeOrStops lineBefore Marked places 0 0 start (linesOf file) → Unmoved file places ⊎ Freed file places
-    by (inl k) = inl (record { answer = k .answer; table = table-alike lineBefore Marked file places k })
-    by (inr k) = inr (record {
+    now : readBy headFault contentOf file places ≡ read file places
+    now = read-is places file
+
+    freed : (k : Stopped file places) (left : List (List ℕ)) → k .left ≡ left → OnMarked lineBefore Marked (k .state) left (k .refusal) → Freed file places
+    freed k [] e marked = absurd marked
+    freed k (l ∷ rest) e marked = record {
       before = k .before;
-      line = k .line;
-      rest = k .rest;
-      lines-so = k .lines-so;
+      line = l;
+      rest = rest;
+      lines-so = rw e at (k .lines-so);
       refusal = k .refusal;
-      refused = k .refused ∙ ap (Refused (k .refusal)) (omega arith);
-      unformed = k .marked .unformed;
-      bare = k .marked .bare;
-      not-earlier = λ r n h. omega (arith, k .not-earlier r n h);
-    })
+      refused = (rw e at (k .refused)) ∙ ap (Refused (k .refusal)) (omega arith);
+      unformed = marked .unformed;
+      bare = marked .bare;
+      not-earlier = λ r n h. omega (arith, rw e at (not-earlier _ _ _ k r n (now ∙ h)));
+    }
+
+    by : (readBefore file places ≡ readBy headFault contentOf file places) ⊎ Stopped file places → Unmoved file places ⊎ Freed file places
+    by (inl same) = inl (record { answer = same ∙ now; table = λ table. table-alike lineBefore Marked line-moved places file same table ∙ ap (tableAfter file table) now })
+    by (inr k) = inr (freed k (k .left) refl (k .marked))
 
 -- a file that was accepted is accepted still, with the same description and the same table afterwards
 pub accepted-still : (file : List ℕ) (places : ℕ) (d : Description) → readBefore file places ≡ Accepted d
@@ -327,18 +342,20 @@ form-same (Keyed (ASize k)) p l = refl
 form-same Data p l = rw (three-same samplePlaces sampleLimit (wordsOf l))
 form-same Neither p l = refl
 
--- no line is read in two ways
-abbrev Never : List ℕ → Refusal → Type 0
-Never l r = ⊥
+samples-same : (ls : List (List ℕ)) → samplesOfBy (lineBy numberOf) ls ≡ samplesOf ls
+unfolding samplesOfBy samplesOf
+samples-same [] = refl
+samples-same (l ∷ ls) = ap₂ (λ (c : Content) (vs : List ℤ). samplesIn c ++ vs) (form-same (formOf l) 0 l) (samples-same ls)
+
+table-same : (file : List ℕ) (table : List ℤ) (r : Read) → tableBy (lineBy numberOf) file table r ≡ tableAfter file table r
+unfolding tableBy tableAfter
+table-same file table (Accepted d) = ap (λ (vs : List ℤ). vs ++ drop (3 * rows d) table) (samples-same (linesOf file))
+table-same file table (Refused r n) = refl
 
 pub same-reading : (file : List ℕ) (places : ℕ)
-    → (readBy (lineBy numberOf) file places ≡ read file places)
-    × ((table : List ℤ) → tableBy (lineBy numberOf) file table (readBy (lineBy numberOf) file places) ≡ tableAfter file table (read file places))
-unfolding readBy read
-same-reading file places = by (lines-moved (lineBy numberOf) Never (λ l. inl (λ p. form-same (formOf l) p l)) places 0 0 start (linesOf file))
+    → (readBy headFault (lineBy numberOf) file places ≡ read file places)
+    × ((table : List ℤ) → tableBy (lineBy numberOf) file table (readBy headFault (lineBy numberOf) file places) ≡ tableAfter file table (read file places))
+same-reading file places = (same, λ table. rw same (table-same file table (read file places)))
   where
-    by : AlikeOrStops (lineBy numberOf) Never places 0 0 start (linesOf file)
-        → (readLinesBy (lineBy numberOf) places 0 0 start (linesOf file) ≡ readLines places 0 0 start (linesOf file))
-        × ((table : List ℤ) → tableBy (lineBy numberOf) file table (readBy (lineBy numberOf) file places) ≡ tableAfter file table (read file places))
-    by (inl k) = (k .answer, table-alike (lineBy numberOf) Never file places k)
-    by (inr k) = absurd (k .marked)
+    same : readBy headFault (lineBy numberOf) file places ≡ read file places
+    same = ap (λ (content : ℕ → List ℕ → Content). readBy headFault content file places) (λ i p l. form-same (formOf l) p l i) ∙ read-is places file

@@ -1,10 +1,10 @@
 -- A file judged with no table, and the same file read: reading answers what check answers wherever the table has room; where it has none it answers 13, on a line
 -- that is not after check's.
-use Prim.Native.Nat.{ℕ, suc, _+_, _*_, _≤_, _<_}
+use Prim.Native.Nat.{ℕ, _+_, _*_, _≤_, _<_}
 use mathlib.Core.Path.{_≡_, refl, sym, ap, subst, _∙_}
 use mathlib.Core.Logic.{_↔_, _⊎_, inl, inr}
 use mathlib.Core.Bool.{Bool, true, false, cond}
-use mathlib.Core.List.{List, [], _∷_}
+use mathlib.Core.List.{List}
 use mathlib.Core.Option.{none, some}
 use native.Mathlib.Omega.{arith}
 use lib.Dec.{eqb}
@@ -15,8 +15,8 @@ use Rattle.rules.specs.Descriptions.{agree, everyColour, narrow, ordered, roomy
 use Rattle.rules.specs.Reading.Lines.{linesOf}
 use Rattle.rules.specs.Reading.Contents.{contentOf, formOf}
 use Rattle.rules.specs.Reading.Grammar.{Keeps}
-use Rattle.rules.specs.Reading.Judge.{Fault, State, Verdict, byteFault, describe, domainFault, endFault, first, given, go, headFault, judge, need, orderFault, refuse, start, take-in, unless}
-use Rattle.rules.specs.Reading.{check, finish, read, readLines, samplesOf}
+use Rattle.rules.specs.Reading.Judge.{Fault, State, Verdict, byteFault, describe, domainFault, first, given, givenFault, headFault, need, orderFault, refuse, start, take-in, together, unless}
+use Rattle.rules.specs.Reading.{check, read, samplesOf}
 use Rattle.rules.specs.Answers.{placesNeeded, readLine, readNumber, refusalNumber}
 use Rattle.rules.specs.Promises.{Checks, Reads}
 use Rattle.rules.specs.declared.Description.{Description}
@@ -25,12 +25,14 @@ use Rattle.rules.specs.declared.Form.the-variants.{Idle, Keyed, Data, Neither}
 use Rattle.rules.specs.declared.Read.{Read}
 use Rattle.rules.specs.declared.Read.the-variants.{Accepted, Refused}
 use Rattle.rules.specs.declared.Refusal.{Refusal}
-use Rattle.rules.specs.declared.Refusal.the-variants.{DomainTooWide, DomainsDiffer, LowerNotBelowUpper, NoSize, TableTooShort}
+use Rattle.rules.specs.declared.Refusal.the-variants.{DomainTooWide, DomainsDiffer, HalfADomain, LowerNotBelowUpper, NoSize, TableTooShort}
 use Rattle.rules.proofs.Answers.{checks-is, reads-is, refused-not-0}
 use Rattle.rules.proofs.Sound.{range-rows-most}
 use Rattle.rules.proofs.Reading.Acceptance.{accepted-keeps, keeps-accepted}
 use Rattle.rules.proofs.Reading.Bridge.{accepted-in-range}
-use Rattle.signature.proofs.Reading.LineNumbers.{no-sooner}
+use Rattle.signature.specs.Before.{endBy, judgeBy, judgesBy, lineAfter, orderBy, readBy}
+use Rattle.signature.proofs.Reading.Parts.{read-is}
+use Rattle.signature.proofs.Reading.Beside.{SameOrStops, not-earlier, walk-beside}
 use Rattle.signature.proofs.Reading.Numbers.{read-13}
 use Rattle.signature.proofs.Reading.Room.{Bounded, line-bounded, range-rows-least, room-for-all, start-bounded}
 
@@ -46,6 +48,7 @@ keeps-with-room more k room = record {
   lower = k .lower;
   upper = k .upper;
   size = k .size;
+  domain = k .domain;
   ordered-so = k .ordered-so;
   narrow-so = k .narrow-so;
   agree-so = k .agree-so;
@@ -89,8 +92,9 @@ module _ (file : List ℕ) (d : Description) where
 abbrev SameOrShort : Fault → Fault → Type 0
 SameOrShort f g = (f ≡ g) ⊎ (f ≡ some TableTooShort)
 
-abbrev SameOrRefused : Verdict → Verdict → Type 0
-SameOrRefused j k = (j ≡ k) ⊎ (j ≡ refuse TableTooShort)
+-- what marks where the reading into the shorter table stops
+abbrev Short : State → List (List ℕ) → Refusal → Type 0
+Short st left r = r ≡ TableTooShort
 
 -- an answer that is 13 on a line that is not after the other's
 record Earlier (a b : Read) : Type 0 where
@@ -118,70 +122,69 @@ module _ (places : ℕ) where
       by false = inr refl
 
   head-beside : (st : State) → Bounded (describe st) → SameOrShort (headFault places st) (headFault placeLimit st)
-  unfolding headFault domainFault
+  unfolding headFault givenFault domainFault
   head-beside st b = by (eqb (st .rows) 0)
     where
       d : Description
       d = describe st
 
-      by : (t : Bool) → SameOrShort (cond t (need (given (st .size)) NoSize (domainFault places d)) none) (cond t (need (given (st .size)) NoSize (domainFault placeLimit d)) none)
+      by : (t : Bool) → SameOrShort (cond t (givenFault places st) none) (cond t (givenFault placeLimit st) none)
       by true =
           need-beside (given (st .size)) NoSize _ _
+          (need-beside (together (st .lower) (st .upper)) HalfADomain _ _
           (need-beside (everyColour ordered d) LowerNotBelowUpper _ _
           (need-beside (everyColour narrow d) DomainTooWide _ _
           (need-beside (agree (d .kind) d) DomainsDiffer _ _
-          (room-beside d b))))
+          (room-beside d b)))))
       by false = inl refl
 
-  order-beside : (st : State) → Bounded (describe st) → (f : Form) → SameOrShort (orderFault places st f) (orderFault placeLimit st f)
-  unfolding orderFault
+  order-beside : (st : State) → Bounded (describe st) → (f : Form) → SameOrShort (orderBy headFault places st f) (orderBy headFault placeLimit st f)
+  unfolding orderBy orderFault
   order-beside st b Idle = inl refl
   order-beside st b (Keyed k) = inl refl
   order-beside st b Data = first-beside (headFault places st) (headFault placeLimit st) _ (head-beside st b)
   order-beside st b Neither = inl refl
 
-  end-beside : (st : State) → Bounded (describe st) → SameOrShort (endFault places st) (endFault placeLimit st)
-  unfolding endFault
+  end-beside : (st : State) → Bounded (describe st) → SameOrShort (endBy headFault places st) (endBy headFault placeLimit st)
+  unfolding endBy
   end-beside st b = first-beside (headFault places st) (headFault placeLimit st) _ (head-beside st b)
 
-  judge-beside : (st : State) → Bounded (describe st) → (p : ℕ) (l : List ℕ) → SameOrRefused (judge places st p l) (judge placeLimit st p l)
-  unfolding judge unless
+  judge-beside : (st : State) → Bounded (describe st) → (p : ℕ) (l : List ℕ)
+      → (judgeBy headFault contentOf places st p l ≡ judgeBy headFault contentOf placeLimit st p l) ⊎ (judgeBy headFault contentOf places st p l ≡ refuse TableTooShort)
+  unfolding judgeBy unless
   judge-beside st b p l = by (byteFault l) (order-beside st b (formOf l))
     where
       j : Verdict
       j = take-in st (contentOf p l)
 
-      by : (f : Fault) → SameOrShort (orderFault places st (formOf l)) (orderFault placeLimit st (formOf l))
-          → SameOrRefused (unless f (unless (orderFault places st (formOf l)) j)) (unless f (unless (orderFault placeLimit st (formOf l)) j))
+      short : Fault
+      short = orderBy headFault places st (formOf l)
+
+      long : Fault
+      long = orderBy headFault placeLimit st (formOf l)
+
+      by : (f : Fault) → SameOrShort short long → (unless f (unless short j) ≡ unless f (unless long j)) ⊎ (unless f (unless short j) ≡ refuse TableTooShort)
       by none (inl e) = inl (ap (λ (g : Fault). unless g j) e)
       by none (inr e) = inr (ap (λ (g : Fault). unless g j) e)
       by (some r) h = inl refl
 
-  lines-beside : (p n : ℕ) (st : State) (ls : List (List ℕ)) → Bounded (describe st)
-      → (readLines places p n st ls ≡ readLines placeLimit p n st ls) ⊎ Earlier (readLines places p n st ls) (readLines placeLimit p n st ls)
-  unfolding readLines
-  lines-beside p n st [] b = by (end-beside st b)
-    where
-      by : SameOrShort (endFault places st) (endFault placeLimit st)
-          → (finish n st (endFault places st) ≡ finish n st (endFault placeLimit st)) ⊎ Earlier (finish n st (endFault places st)) (finish n st (endFault placeLimit st))
-      by (inl e) = inl (ap (finish n st) e)
-      by (inr e) = inr (record { line = n; short = ap (finish n st) e; not-later = λ r m q. no-sooner placeLimit p n st [] r m q .0 })
-  lines-beside p n st (l ∷ ls) b = by (judge-beside st b p l) (judge placeLimit st p l) refl (λ st′. lines-beside (p + length l + 1) (suc n) st′ ls)
-    where
-      rest : ℕ → State → Read
-      rest room st′ = readLines room (p + length l + 1) (suc n) st′ ls
-
-      by : SameOrRefused (judge places st p l) (judge placeLimit st p l) → (j : Verdict) → judge placeLimit st p l ≡ j
-          → ((st′ : State) → Bounded (describe st′) → (rest places st′ ≡ rest placeLimit st′) ⊎ Earlier (rest places st′) (rest placeLimit st′))
-          → (readLines places p n st (l ∷ ls) ≡ readLines placeLimit p n st (l ∷ ls)) ⊎ Earlier (readLines places p n st (l ∷ ls)) (readLines placeLimit p n st (l ∷ ls))
-      by (inl e) (go st′) f next = rw (e ∙ f, f) (next st′ (line-bounded placeLimit st p l st′ f b))
-      by (inl e) (refuse r) f next = inl (rw (e ∙ f, f) refl)
-      by (inr e) j f next = inr (record { line = suc n; short = rw e refl; not-later = λ r m q. no-sooner placeLimit p n st (l ∷ ls) r m q .1 (omega arith) })
-
   -- reading into a table of any length, beside check
   read-beside : (file : List ℕ) → (read file places ≡ check file) ⊎ Earlier (read file places) (check file)
-  unfolding read check
-  read-beside file = lines-beside 0 0 start (linesOf file) start-bounded
+  unfolding check readBy
+  read-beside file = by (walk-beside _ _ Short (λ st. Bounded (describe st)) (line-bounded headFault placeLimit) (λ st p l ls b. marked (judge-beside st b p l)) (λ st b. marked (end-beside st b)) 0 0 start (linesOf file) start-bounded)
+    where
+      marked : {A : Type 0} {a b : A} {refused : Refusal → A} → (a ≡ b) ⊎ (a ≡ refused TableTooShort) → (a ≡ b) ⊎ ((r : Refusal) × (a ≡ refused r) × (r ≡ TableTooShort))
+      marked (inl e) = inl e
+      marked (inr e) = inr (TableTooShort, e, refl)
+
+      by : SameOrStops (judgesBy headFault contentOf places) (judgesBy headFault contentOf placeLimit) Short 0 0 start (linesOf file)
+          → (read file places ≡ read file placeLimit) ⊎ Earlier (read file places) (read file placeLimit)
+      by (inl e) = inl (sym (read-is places file) ∙ e ∙ read-is placeLimit file)
+      by (inr k) = inr (record {
+        line = lineAfter (0 + length (k .before)) (k .left);
+        short = sym (read-is places file) ∙ k .refused ∙ ap (λ (r : Refusal). Refused r (lineAfter (0 + length (k .before)) (k .left))) (k .marked);
+        not-later = λ r n e. not-earlier _ _ _ k r n (read-is placeLimit file ∙ e);
+      })
 
 -- ---- of every reader and every checker that keeps its promise
 

@@ -1,6 +1,6 @@
 -- A line's number is 1 plus the number of newlines before the line: a refusal has the number of the refused line where it stands in the file,
 -- or of the file's end.
-use Prim.Native.Nat.{ℕ, _+_, _≤_, _<_}
+use Prim.Native.Nat.{ℕ, _+_}
 use mathlib.Core.Path.{_≡_, refl, sym, ap, _∙_}
 use mathlib.Core.Logic.{_⊎_, inl, inr}
 use mathlib.Core.Bool.{Bool, true, false, cond}
@@ -11,14 +11,14 @@ use lib.Dec.{eqb}
 use lib.ListN.{length, length-append}
 use Rattle.rules.specs.Reading.Lines.{linesOf, newlines, onFirst}
 use Rattle.rules.specs.Reading.Grammar.{Lines}
-use Rattle.rules.specs.Reading.Judge.{State, endFault, judge, refuse, start}
-use Rattle.rules.specs.Reading.{read, readLines}
+use Rattle.rules.specs.Reading.Judge.{endFault, judge, refuse, start}
+use Rattle.rules.specs.Reading.{read}
 use Rattle.rules.specs.Demands.{Begins, Ends}
 use Rattle.rules.specs.declared.Item.{Item}
 use Rattle.rules.specs.declared.Refusal.{Refusal}
 use Rattle.rules.specs.declared.Read.the-variants.{Refused}
 use Rattle.rules.proofs.Reading.Order.{Admitted, final}
-use Rattle.rules.proofs.Reading.Refusals.{Stopped, at-end, at-line, beginning, first-refused, lines-count, refused-first, stopped}
+use Rattle.rules.proofs.Reading.Refusals.{Stopped, at-end, at-line, beginning, first-refused, lines-count, refused-first}
 use Rattle.rules.proofs.Reading.Titles.{Cut, last, lines-cut, lines-some, more}
 
 -- ---- a line where it stands in a file
@@ -149,14 +149,6 @@ newlines-before : {file : List ℕ} {lines : List (List ℕ)} {l : List ℕ} (k 
 newlines-before {lines = lines} k = omega (arith, lines-count (k .before), ap length (k .lines-so), length-append lines ([] ∷ []))
 
 -- ---- the number of a refusal
-
--- a refusal after n lines is on none of them
-pub no-sooner : (places p n : ℕ) (st : State) (ls : List (List ℕ)) (r : Refusal) (m : ℕ) → readLines places p n st ls ≡ Refused r m → (n ≤ m) × (0 < length ls → n < m)
-no-sooner places p n st ls r m e = by (stopped places p n st ls r m e)
-  where
-    by : Stopped places p n st ls r m → (n ≤ m) × (0 < length ls → n < m)
-    by (at-line before l rest is x y k a u) = (omega arith, λ some. omega arith)
-    by (at-end is y k a u) = (omega arith, λ some. omega arith)
 
 -- a refused line: those before it keep the rules and are admitted, the judge refuses it, and m is 1 plus the number of newlines before it
 pub record RefusedLine (file : List ℕ) (places : ℕ) (r : Refusal) (m : ℕ) : Type 0 where

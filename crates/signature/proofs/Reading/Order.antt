@@ -17,7 +17,7 @@ use Rattle.rules.specs.Reading.Numerals.{Numeral, digits, over, signed, spell, 
 use Rattle.rules.specs.Reading.Numbers.{numberOf, numeralOf, settle, valueOf}
 use Rattle.rules.specs.Reading.Grammar.{Lines}
 use Rattle.rules.specs.Reading.Contents.{boundsOf, closes, contentBy, contentOf, formOf, formed, parameters, quoted, samplesOn, sizeOf, sized, threeOf, titleOf, valued, values}
-use Rattle.rules.specs.Reading.Judge.{Fault, State, add, byteFault, domainFault, endFault, first, given, go, headFault, judge, need, orderFault, refuse, start}
+use Rattle.rules.specs.Reading.Judge.{Fault, State, add, byteFault, domainFault, endFault, first, given, givenFault, go, headFault, judge, need, orderFault, refuse, start}
 use Rattle.rules.specs.Reading.{read}
 use Rattle.rules.specs.Answers.{readLine, readNumber, refusalNumber}
 use Rattle.rules.specs.Promises.{Reads}
@@ -131,7 +131,7 @@ parameter-fault (ASize k) p l = size-fault k (parameters (wordsOf l))
 
 module _ (places : ℕ) (st : State) where
   head-fault : headFault places st ≡ decided (headChecks places st)
-  unfolding headFault domainFault headChecks decided
+  unfolding headFault givenFault domainFault headChecks decided need
   head-fault = sym (decided-cond (eqb (st .rows) 0) _)
 
   data-fault : (p : ℕ) (l : List ℕ) → first (orderFault places st Data) (faultIn (contentBy Data p l)) ≡ decided (dataChecks places st l)
@@ -179,7 +179,7 @@ module _ (places : ℕ) (st : State) where
 -- ---- of reading
 
 -- lines that keep the rules and are admitted lead to the state that their items make
-reached : (places p : ℕ) (st : State) (ls : List (List ℕ)) (is : List Item) → Lines p ls is → Admitted places st is → Reached places p st ls (final st is)
+pub reached : (places p : ℕ) (st : State) (ls : List (List ℕ)) (is : List Item) → Lines p ls is → Admitted places st is → Reached places p st ls (final st is)
 reached places p st [] [] k a = refl
 reached places p st [] (i ∷ is) k a = absurd k
 reached places p st (l ∷ ls) [] k a = absurd k
@@ -195,6 +195,14 @@ items-of places p st (l ∷ ls) st′ (next, e, more) =
     let k = find p l (a .item) (a .bytes-pass) (a .content) in
     let (is, kept, admitted, so) = items-of places (p + length l + 1) (add st (a .item)) ls st′ (rw (a .state) at more) in
     (a .item ∷ is, (k, kept), (rw (found p l (a .item) k .form) at (a .placed), admitted), so)
+
+-- a refusal is its number and its line
+pub by-number : (r : Refusal) (n : ℕ) (a : Read) → readNumber a ≡ refusalNumber r → readLine a ≡ n → a ≡ Refused r n
+by-number r n (Accepted d) e m = absurd (refused-not-0 r (sym e))
+by-number r n (Refused s k) e m =
+    let so : _≡_ {A = Fault} (some s) (some r) = sym (refusal-of-number s) ∙ ap refusalOf e ∙ refusal-of-number r in
+    let p : s ≡ r = cc in
+    ap₂ Refused p m
 
 module _ (file : List ℕ) (places : ℕ) (r : Refusal) (n : ℕ) where
   -- reading refuses with r on line n exactly where, on the first line that does not pass, the first check that fails has r
@@ -228,18 +236,11 @@ module _ (file : List ℕ) (places : ℕ) (r : Refusal) (n : ℕ) where
           let (is, kept, admitted, so) = items-of places 0 start (linesOf file) (f .state) (f .reached) in
           at-end is (omega (arith, f .number, lines-count file)) kept admitted (end-order places (final start is) r .1 (rw so at (f .fails)))
 
-  by-number : (a : Read) → readNumber a ≡ refusalNumber r → readLine a ≡ n → a ≡ Refused r n
-  by-number (Accepted d) e m = absurd (refused-not-0 r (sym e))
-  by-number (Refused s k) e m =
-      let so : _≡_ {A = Fault} (some s) (some r) = sym (refusal-of-number s) ∙ ap refusalOf e ∙ refusal-of-number r in
-      let p : s ≡ r = cc in
-      ap₂ Refused p m
-
   -- so whoever gives reading's number and line gives r's number and line n exactly there
   pub numbers-order : {number line : ℕ} → number ≡ readNumber (read file places) → line ≡ readLine (read file places)
       → ((number ≡ refusalNumber r) × (line ≡ n)) ↔ FailsFirst file places r n
   numbers-order e m = (
-    λ h. read-order .0 (by-number (read file places) (sym e ∙ h .0) (sym m ∙ h .1)),
+    λ h. read-order .0 (by-number r n (read file places) (sym e ∙ h .0) (sym m ∙ h .1)),
     λ f. let so = read-order .1 f in (e ∙ ap readNumber so, m ∙ ap readLine so),
   )
 

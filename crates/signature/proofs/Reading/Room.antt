@@ -11,9 +11,10 @@ use borrow.Author.Tests.{leb-true, leb-false, le-leb}
 use lib.Dec.{leb}
 use Rattle.rules.specs.Units.{inRange, placeLimit, rowLimit, rowsOf}
 use Rattle.rules.specs.Descriptions.{roomy, rows}
+use Rattle.rules.specs.Reading.Contents.{contentOf}
 use Rattle.rules.specs.Reading.Grammar.{Line}
 use Rattle.rules.specs.Reading.Items.{sizeIn}
-use Rattle.rules.specs.Reading.Judge.{State, add, describe, givenOr, go, judge, newer, noSize, start}
+use Rattle.rules.specs.Reading.Judge.{Fault, State, add, describe, givenOr, go, newer, noSize, start}
 use Rattle.rules.specs.declared.Description.{Description}
 use Rattle.rules.specs.declared.Item.{Item}
 use Rattle.rules.specs.declared.Kind.{Kind}
@@ -22,8 +23,8 @@ use Rattle.rules.specs.declared.Size.{Size}
 use Rattle.rules.proofs.Sound.{range-rows-most}
 use Rattle.rules.proofs.Tests.{and-both}
 use Rattle.rules.proofs.Reading.Bridge.{size-in-range}
-use Rattle.rules.proofs.Reading.OneLine.{find}
-use Rattle.rules.proofs.Reading.Walk.{passes}
+use Rattle.signature.specs.Before.{judgeBy}
+use Rattle.signature.proofs.Reading.Parts.{passes-by}
 
 -- no more rows than the greatest table has
 abbrev pub Bounded : Description → Type 0
@@ -41,11 +42,12 @@ add-bounded st p l i k b = by (sizeIn i) refl
     by none e = b
     by (some s) e = range-rows-most (s .kind) (s .n) (size-in-range p l i s e k)
 
--- a line that passes leaves it so
-pub line-bounded : (places : ℕ) (st : State) (p : ℕ) (l : List ℕ) (st′ : State) → judge places st p l ≡ go st′ → Bounded (describe st) → Bounded (describe st′)
-line-bounded places st p l st′ e b =
-    let a = passes places st p l st′ e in
-    subst (λ (s : State). Bounded (describe s)) (sym (a .state)) (add-bounded st p l (a .item) (find p l (a .item) (a .bytes-pass) (a .content)) b)
+-- a line that passes leaves it so, whatever is asked of the head
+pub line-bounded : (head : ℕ → State → Fault) (places : ℕ) (st : State) (p : ℕ) (l : List ℕ) (st′ : State) → judgeBy head contentOf places st p l ≡ go st′
+    → Bounded (describe st) → Bounded (describe st′)
+line-bounded head places st p l st′ e b =
+    let a = passes-by head places st p l st′ e in
+    subst (λ (s : State). Bounded (describe s)) (sym (a .state)) (add-bounded st p l (a .item) (a .line) b)
 
 -- every table has two rows at least
 pub range-rows-least : (k : Kind) (n : ℕ) → inRange k n ≡ true → 2 ≤ rowsOf k n

@@ -11,7 +11,7 @@ use Rattle.rules.specs.Reading.Lines.{bytes}
 use Rattle.rules.specs.Answers.{readNumber, readLine}
 use Rattle.rules.specs.Promises.{Reads}
 use Rattle.rules.specs.declared.Read.{Read}
-use Rattle.signature.specs.Cases.{untouched, sampleA3, threeRows}
+use Rattle.signature.specs.Cases.{noUpper, untouched, sampleA3, threeRows, zeroAndHalf}
 use Rattle.signature.proofs.Cases.{opened}
 
 abbrev pub Reader : Type 0
@@ -38,6 +38,12 @@ lonePoint = "LUT_1D_SIZE 2\n. 0 0\n0 0 0"
 
 abbrev pointInN : String
 pointInN = "LUT_1D_SIZE 2.\n0 0 0\n0 0 0"
+
+abbrev halfAlone : String
+halfAlone = "DOMAIN_MAX 2 2 2\n0 0 0"
+
+abbrev halfAndOrder : String
+halfAndOrder = "DOMAIN_MIN 0 1 0\nLUT_1D_SIZE 2\n0 0 0"
 
 module _ (f : Reader) (keeps : ReadsAll f) where
   abbrev answered : String → Read
@@ -100,3 +106,28 @@ module _ (f : Reader) (keeps : ReadsAll f) where
   pub takes-a-point-in-n : readNumber (answered pointInN) ≡ 0 → ⊥
   unfolding opened
   takes-a-point-in-n e = let z : _≡_ {A = ℕ} 6 0 = sym (keeps (bytes pointInN) sevens .number) ∙ e in omega arith
+
+  -- half a domain taken, with the default for the other line, as it was before document 02's Req 05
+  pub fills-in-the-other-bound : readNumber (answered noUpper) ≡ 0 → ⊥
+  unfolding opened
+  fills-in-the-other-bound e = let z : _≡_ {A = ℕ} 19 0 = sym (keeps (bytes noUpper) sevens .number) ∙ e in omega arith
+
+  -- half a domain refused on its own line, where the other may still follow
+  pub refuses-on-the-domain-line : readLine (answered noUpper) ≡ 1 → ⊥
+  unfolding opened
+  refuses-on-the-domain-line e = let z : _≡_ {A = ℕ} 3 1 = sym (keeps (bytes noUpper) sevens .line) ∙ e in omega arith
+
+  -- 19 tried before 9
+  pub halves-before-size : readNumber (answered halfAlone) ≡ 19 → ⊥
+  unfolding opened
+  halves-before-size e = let z : _≡_ {A = ℕ} 9 19 = sym (keeps (bytes halfAlone) sevens .number) ∙ e in omega arith
+
+  -- 10 tried before 19, with the default for the other line
+  pub order-before-halves : readNumber (answered halfAndOrder) ≡ 10 → ⊥
+  unfolding opened
+  order-before-halves e = let z : _≡_ {A = ℕ} 19 10 = sym (keeps (bytes halfAndOrder) sevens .number) ∙ e in omega arith
+
+  -- both lines absent refused: the defaults stay
+  pub asks-for-a-domain : readNumber (answered zeroAndHalf) ≡ 19 → ⊥
+  unfolding opened
+  asks-for-a-domain e = let z : _≡_ {A = ℕ} 0 19 = sym (keeps (bytes zeroAndHalf) sevens .number) ∙ e in omega arith

@@ -17,7 +17,7 @@ use second::look::look;
 use second::paper::{number, place, Kind};
 use second::reading::{check, read, Reading};
 use second::report::report;
-use second::run::{run, Wanted};
+use second::run::{run, Wanted, READ_NUMBERS};
 use second::show::{escaped, list, quoted};
 use second::small::fewer_bytes;
 use second::{cases, paper};
@@ -155,7 +155,8 @@ fn reports(seed: &str, count: &str, program: &[&str]) -> Result<(), String> {
     }
     let shown: Vec<String> = seen.iter().map(|(number, many)| format!("{number}:{many}")).collect();
     println!("seed\t{seed}\nreport\t{}", list(&shown, " "));
-    let unseen = (0..=18).chain([30]).filter(|number| !seen.contains_key(number));
+    let told = READ_NUMBERS.chain([number::INPUT_TOO_LONG]);
+    let unseen = told.filter(|number| !seen.contains_key(number));
     match unseen.collect::<Vec<u32>>() {
         unseen if unseen.is_empty() || count < ENOUGH_REPORTS => Ok(()),
         unseen => Err(format!("never seen: {}", list(&unseen, ", "))),

@@ -4,10 +4,11 @@
 //! rule it is named for; at its edge it may keep it. The second program decides.
 
 use super::draws::Draws;
-use super::files::{bounds_line, comment, finished, kept, line_of, size_line, Draft, Line, Part};
+use super::files::{bounds_line, comment, domain_line, finished, kept, line_of, size_line};
+use super::files::{Draft, Line, Part};
 use super::words;
 use super::FileCase;
-use crate::paper::{Kind, LONGEST_LINE};
+use crate::paper::{Kind, DEFAULT_LOWER, DEFAULT_UPPER, LONGEST_LINE};
 
 type Change = fn(&mut Draft, &mut Draws);
 
@@ -63,6 +64,9 @@ const DAMAGES: &[(&str, Change)] = &[
     ("8: a bound beyond", bound_beyond),
     ("8: a bound too fine", bound_finer),
     ("9: no size", no_size),
+    ("9 before 19: one domain line alone and no size", one_domain_line_no_size),
+    ("19: one domain line alone", one_domain_line),
+    ("19: one domain line alone and no rows", one_domain_line_no_rows),
     ("10: bounds not in order", bounds_not_in_order),
     ("11: a domain about 10 wide", domain_wide),
     ("12: domains that differ", domains_differ),
@@ -308,8 +312,7 @@ fn both_size_words(draft: &mut Draft, draws: &mut Draws) {
 fn line_with_parameters(draft: &mut Draft, draws: &mut Draws) -> usize {
     let part = draws.pick(&[Part::Size, Part::Lower, Part::Upper]);
     if part != Part::Size && draws.one_in(2) {
-        let bounds = if part == Part::Lower { [0; 3] } else { [1000; 3] };
-        let line = bounds_line(draws, part, &bounds);
+        let line = bounds_line(draws, part, &default_of(part));
         exchange(draft, draws, line);
     }
     let found = line_with(draft, draws, |found| found == part);
@@ -393,15 +396,21 @@ fn n_at_edge(draft: &mut Draft, draws: &mut Draws) {
     exchange(draft, draws, line);
 }
 
+/// What a domain line stands for that is absent.
+fn default_of(part: Part) -> [i64; 3] {
+    if part == Part::Lower {
+        DEFAULT_LOWER
+    } else {
+        DEFAULT_UPPER
+    }
+}
+
 /// A domain line with one bound written so.
 fn bound_word(draft: &mut Draft, draws: &mut Draws, word: String) {
     let part = draws.pick(&[Part::Lower, Part::Upper]);
-    let keyword = if part == Part::Lower { "DOMAIN_MIN" } else { "DOMAIN_MAX" };
-    let plain = if part == Part::Lower { "0" } else { "1" };
-    let mut words =
-        vec![keyword.to_string(), plain.to_string(), plain.to_string(), plain.to_string()];
-    words[1 + draws.below(3)] = word;
-    let line = line_of(draws, part, &words);
+    let mut words = default_of(part).map(|bound| words::plain(bound, 3));
+    words[draws.below(3)] = word;
+    let line = domain_line(draws, part, words);
     exchange(draft, draws, line);
 }
 
@@ -415,10 +424,53 @@ fn bound_finer(draft: &mut Draft, draws: &mut Draws) {
     bound_word(draft, draws, word);
 }
 
-// 9 to 13.
+// 9 to 13, and 19.
 
 fn no_size(draft: &mut Draft, _: &mut Draws) {
     draft.lines.retain(|line| line.part != Part::Size);
+}
+
+/// Takes one domain line out, and puts the other in where there is none. At times 13 holds too.
+fn one_domain_line(draft: &mut Draft, draws: &mut Draws) {
+    let (part, absent) = draws.pick(&[(Part::Lower, Part::Upper), (Part::Upper, Part::Lower)]);
+    draft.lines.retain(|line| line.part != absent);
+    let has_own = draft.lines.iter().any(|line| line.part == part);
+    if !has_own || draws.one_in(2) {
+        let bounds = bounds_alone(draws, part);
+        let line = bounds_line(draws, part, &bounds);
+        exchange(draft, draws, line);
+    }
+    if draws.one_in(6) {
+        table_one_short(draft, draws);
+    }
+}
+
+/// Bounds with which 10, 11, 12 or none of them holds by the absent line's default. As the
+/// default of the lower bounds is 0, no upper bounds alone make a domain too wide.
+fn bounds_alone(draws: &mut Draws, part: Part) -> [i64; 3] {
+    let bound = match part {
+        Part::Lower => draws.pick(&[0, -1_000, 999, 1_000, 2_000, -9_000, -9_001, -10_000]),
+        _ => draws.pick(&[1_000, 2_000, 10_000, 1, 0, -1_000]),
+    };
+    if draws.one_in(3) {
+        return [bound; 3];
+    }
+    let mut bounds = default_of(part);
+    bounds[draws.below(3)] = bound;
+    bounds
+}
+
+fn one_domain_line_no_rows(draft: &mut Draft, draws: &mut Draws) {
+    one_domain_line(draft, draws);
+    no_rows(draft, draws);
+}
+
+fn one_domain_line_no_size(draft: &mut Draft, draws: &mut Draws) {
+    one_domain_line(draft, draws);
+    no_size(draft, draws);
+    if draws.one_in(2) {
+        no_rows(draft, draws);
+    }
 }
 
 fn set_bounds(draft: &mut Draft, draws: &mut Draws, lower: [i64; 3], upper: [i64; 3]) {

@@ -86,10 +86,9 @@ fn keyword_lines(draws: &mut Draws, kind: Kind, n: i64) -> Vec<Line> {
         lines.push(title_line(draws));
     }
     let (lower, upper) = some_bounds(draws, kind);
-    if lower != DEFAULT_LOWER || draws.one_in(3) {
+    // Both lines or neither: one without the other is 19.
+    if (lower, upper) != (DEFAULT_LOWER, DEFAULT_UPPER) || draws.one_in(3) {
         lines.push(bounds_line(draws, Part::Lower, &lower));
-    }
-    if upper != DEFAULT_UPPER || draws.one_in(3) {
         lines.push(bounds_line(draws, Part::Upper, &upper));
     }
     lines
@@ -140,10 +139,15 @@ pub fn size_line(draws: &mut Draws, kind: Kind, n: &str) -> Line {
 }
 
 pub fn bounds_line(draws: &mut Draws, part: Part, bounds: &[i64; 3]) -> Line {
+    let words = bounds.map(|bound| words::odd(draws, bound, 3));
+    domain_line(draws, part, words)
+}
+
+/// The lower or the upper domain line with these words as its bounds.
+pub fn domain_line(draws: &mut Draws, part: Part, words: [String; 3]) -> Line {
     let keyword = if part == Part::Lower { "DOMAIN_MIN" } else { "DOMAIN_MAX" };
-    let mut parts = vec![keyword.to_string()];
-    parts.extend(bounds.map(|bound| words::odd(draws, bound, 3)));
-    line_of(draws, part, &parts)
+    let [red, green, blue] = words;
+    line_of(draws, part, &[keyword.to_string(), red, green, blue])
 }
 
 fn title_line(draws: &mut Draws) -> Line {
@@ -247,10 +251,12 @@ fn edge_words(draws: &mut Draws) -> FileCase {
     draft.lines.clear();
     draft.lines.push(size_line(draws, Kind::OneD, "2"));
     if draws.one_in(4) {
-        let bounds = [0; 3].map(|_| words::near(draws, 3, 1));
-        let parts =
-            ["DOMAIN_MIN".to_string(), bounds[0].clone(), bounds[1].clone(), bounds[2].clone()];
-        draft.lines.push(line_of(draws, Part::Lower, &parts));
+        // Any positive bound has its place between 0 and 10.
+        let sides = [(Part::Lower, Part::Upper, GREATEST_BOUND), (Part::Upper, Part::Lower, 0)];
+        let (part, other, bound) = draws.pick(&sides);
+        let words = [0; 3].map(|_| words::near(draws, 3, 1));
+        draft.lines.push(domain_line(draws, part, words));
+        draft.lines.push(bounds_line(draws, other, &[bound; 3]));
     }
     for _ in 0..2 {
         let fields = [0; 3].map(|_| match draws.below(8) {

@@ -77,6 +77,9 @@ enum-told-23 c = search needs
 enum-told-24 : tie.Need-enum-told-24
 enum-told-24 c = search needs
 
+enum-told-25 : tie.Need-enum-told-25
+enum-told-25 c = search needs
+
 returns : tie.Need-returns
 unfolding refusalNumber
 returns c = sym (ap refusalNumber (c .enum-told .given .1))
@@ -173,6 +176,10 @@ returns-24 : tie.Need-returns-24
 unfolding refusalNumber
 returns-24 c = sym (ap refusalNumber (c .enum-told24 .given .1))
 
+returns-25 : tie.Need-returns-25
+unfolding refusalNumber
+returns-25 c = sym (ap refusalNumber (c .enum-told25 .given .1))
+
 pub number-spec : {M : Type 1} → statement M
 number-spec =
     tie.close
@@ -201,6 +208,7 @@ number-spec =
     enum-told-22
     enum-told-23
     enum-told-24
+    enum-told-25
     returns
     returns-2
     returns-3
@@ -224,4 +232,5 @@ number-spec =
     returns-21
     returns-22
     returns-23
-    returns-24)
+    returns-24
+    returns-25)

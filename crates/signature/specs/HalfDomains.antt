@@ -1,0 +1,102 @@
+-- Document 02, Req 05: a file with one line of the domain and not the other is refused with 19. Where that is, and reading as it was before.
+use Prim.Native.Nat.{ℕ, _≤_}
+use mathlib.Core.Path.{_≡_}
+use mathlib.Core.Bool.{Bool, true, false, cond, _||_}
+use mathlib.Core.List.{List, [], _∷_, _++_}
+use mathlib.Core.Option.{none}
+use lib.Dec.{eqb}
+use lib.ListN.{length}
+use Rattle.rules.specs.Reading.{read}
+use Rattle.rules.specs.Reading.Lines.{linesOf}
+use Rattle.rules.specs.Reading.Contents.{contentOf, formOf}
+use Rattle.rules.specs.Reading.Judge.{Fault, State, start, byteFault, describe, domainFault, given, need}
+use Rattle.rules.specs.declared.Form.{Form}
+use Rattle.rules.specs.declared.Form.the-variants.{Idle, Keyed, Data, Neither}
+use Rattle.rules.specs.declared.Keyword.the-variants.{ATitle, ALower, AnUpper, ASize}
+use Rattle.rules.specs.declared.Read.{Read}
+use Rattle.rules.specs.declared.Read.the-variants.{Refused}
+use Rattle.rules.specs.declared.Refusal.{Refusal}
+use Rattle.rules.specs.declared.Refusal.the-variants.{HalfADomain, NoSize}
+use Rattle.signature.specs.Before.{lineAfter, readBy}
+use Rattle.signature.specs.Order.{Reached}
+
+-- ---- sorts of line
+
+unfoldable pub lowerLine : Form → Bool
+lowerLine Idle = false
+lowerLine (Keyed ATitle) = false
+lowerLine (Keyed ALower) = true
+lowerLine (Keyed AnUpper) = false
+lowerLine (Keyed (ASize k)) = false
+lowerLine Data = false
+lowerLine Neither = false
+
+unfoldable pub upperLine : Form → Bool
+upperLine Idle = false
+upperLine (Keyed ATitle) = false
+upperLine (Keyed ALower) = false
+upperLine (Keyed AnUpper) = true
+upperLine (Keyed (ASize k)) = false
+upperLine Data = false
+upperLine Neither = false
+
+unfoldable pub sizeLine : Form → Bool
+sizeLine Idle = false
+sizeLine (Keyed ATitle) = false
+sizeLine (Keyed ALower) = false
+sizeLine (Keyed AnUpper) = false
+sizeLine (Keyed (ASize k)) = true
+sizeLine Data = false
+sizeLine Neither = false
+
+unfoldable pub dataLine : Form → Bool
+dataLine Idle = false
+dataLine (Keyed k) = false
+dataLine Data = true
+dataLine Neither = false
+
+-- a line of the sort is among them
+unfoldable pub among : (Form → Bool) → List (List ℕ) → Bool
+among sort [] = false
+among sort (l ∷ ls) = sort (formOf l) || among sort ls
+
+-- one line of the domain is among them, and the other is not
+pub data HalfDomain (ls : List (List ℕ)) : Type 0 where
+  lower-alone : among lowerLine ls ≡ true → among upperLine ls ≡ false → HalfDomain ls
+  upper-alone : among upperLine ls ≡ true → among lowerLine ls ≡ false → HalfDomain ls
+
+-- ---- where 19 is given
+
+-- the end, or a data line that 1 and 2 let pass
+abbrev pub AtHead : List (List ℕ) → Type 0
+AtHead [] = Unit {0}
+AtHead (l ∷ ls) = (byteFault l ≡ none) × (formOf l ≡ Data)
+
+-- the first refusal comes where the head is checked, a size was given, and one line of the domain was and the other not
+pub record HalfAt (file : List ℕ) (places n : ℕ) : Type 0 where
+  pub before : List (List ℕ)
+  pub left : List (List ℕ)
+  pub lines-so : linesOf file ≡ before ++ left
+  pub number : n ≡ lineAfter (length before) left
+  -- the lines before pass, with no data among them; data follow, or the end
+  pub state : State
+  pub passed : Reached places 0 start before state
+  pub no-data : among dataLine before ≡ false
+  pub at-head : AtHead left
+  pub sized : among sizeLine before ≡ true
+  pub half : HalfDomain before
+
+-- ---- before: of the two lines together nothing was asked
+
+unfoldable pub headBefore : ℕ → State → Fault
+headBefore places st = cond (eqb (st .rows) 0) (need (given (st .size)) NoSize (domainFault places (describe st))) none
+
+abbrev pub readWithHalves : List ℕ → ℕ → Read
+readWithHalves = readBy headBefore contentOf
+
+-- a file that is refused with 19; before it was refused, if at all, on no earlier line
+pub record Halved (file : List ℕ) (places : ℕ) : Type 0 where
+  pub line : ℕ
+  pub refused : read file places ≡ Refused HalfADomain line
+  pub half : HalfAt file places line
+  pub not-earlier : (r : Refusal) (n : ℕ) → readWithHalves file places ≡ Refused r n → line ≤ n
