@@ -168,17 +168,26 @@ module _ (places : ℕ) where
       by none (inr e) = inr (ap (λ (g : Fault). unless g j) e)
       by (some r) h = inl refl
 
-  -- reading into a table of any length, beside check
-  read-beside : (file : List ℕ) → (read file places ≡ check file) ⊎ Earlier (read file places) (check file)
-  unfolding check readBy
-  read-beside file = by (walk-beside _ _ Short (λ st. Bounded (describe st)) (line-bounded headFault placeLimit) (λ st p l ls b. marked (judge-beside st b p l)) (λ st b. marked (end-beside st b)) 0 0 start (linesOf file) start-bounded)
+  abbrev SameOrShorter : List ℕ → Type 0
+  SameOrShorter file = SameOrStops (judgesBy headFault contentOf places) (judgesBy headFault contentOf placeLimit) Short 0 0 start (linesOf file)
+
+  lines-beside : (file : List ℕ) → SameOrShorter file
+  lines-beside file =
+      walk-beside _ _ Short (λ st. Bounded (describe st)) (line-bounded headFault placeLimit)
+      (λ st p l ls b. marked (judge-beside st b p l))
+      (λ st b. marked (end-beside st b))
+      0 0 start (linesOf file) start-bounded
     where
       marked : {A : Type 0} {a b : A} {refused : Refusal → A} → (a ≡ b) ⊎ (a ≡ refused TableTooShort) → (a ≡ b) ⊎ ((r : Refusal) × (a ≡ refused r) × (r ≡ TableTooShort))
       marked (inl e) = inl e
       marked (inr e) = inr (TableTooShort, e, refl)
 
-      by : SameOrStops (judgesBy headFault contentOf places) (judgesBy headFault contentOf placeLimit) Short 0 0 start (linesOf file)
-          → (read file places ≡ read file placeLimit) ⊎ Earlier (read file places) (read file placeLimit)
+  -- reading into a table of any length, beside check
+  read-beside : (file : List ℕ) → (read file places ≡ check file) ⊎ Earlier (read file places) (check file)
+  unfolding check readBy
+  read-beside file = by (lines-beside file)
+    where
+      by : SameOrShorter file → (read file places ≡ read file placeLimit) ⊎ Earlier (read file places) (read file placeLimit)
       by (inl e) = inl (sym (read-is places file) ∙ e ∙ read-is placeLimit file)
       by (inr k) = inr (record {
         line = lineAfter (0 + length (k .before)) (k .left);

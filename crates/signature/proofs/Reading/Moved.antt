@@ -4,7 +4,6 @@ use mathlib.Core.Path.{_≡_, refl, sym, ap, ap₂, _∙_}
 use mathlib.Core.Logic.{_⊎_, inl, inr}
 use mathlib.Core.List.{List, [], _∷_, _++_}
 use mathlib.Core.Option.{none, some}
-use native.Mathlib.Omega.{arith}
 use lib.IntN.{ℤ}
 use lib.ListN.{length, drop}
 use Rattle.rules.specs.Descriptions.{rows}
@@ -13,18 +12,15 @@ use Rattle.rules.specs.Reading.Lines.{linesOf}
 use Rattle.rules.specs.Reading.Contents.{contentOf, formOf}
 use Rattle.rules.specs.Reading.Judge.{Fault, State, Verdict, go, headFault, refuse, start, byteFault, take-in, unless}
 use Rattle.rules.specs.declared.Content.{Content}
-use Rattle.rules.specs.declared.Content.the-variants.{Says, Wrong}
+use Rattle.rules.specs.declared.Content.the-variants.{Wrong}
 use Rattle.rules.specs.declared.Description.{Description}
-use Rattle.rules.specs.declared.Item.{Item}
 use Rattle.rules.specs.declared.Read.{Read}
 use Rattle.rules.specs.declared.Read.the-variants.{Accepted, Refused}
 use Rattle.rules.specs.declared.Refusal.{Refusal}
+use Rattle.rules.proofs.Reading.Threes.{no-wrong}
 use Rattle.rules.proofs.Reading.Walk.{no-refused, taken, unless-go}
 use Rattle.signature.specs.Before.{judgeBy, judgesBy, orderBy, readBy, readLinesBy, samplesOfBy, tableBy}
 use Rattle.signature.proofs.Reading.Beside.{SameOrStops, walk-beside}
-
-no-wrong : (r : Refusal) (i : Item) → Wrong r ≡ Says i → ⊥
-no-wrong r i e = let z : _≡_ {A = ℕ} 0 1 = cc in omega arith
 
 module _ (content : ℕ → List ℕ → Content) (Marked : List ℕ → Refusal → Type 0) where
   -- what the first reading has on a line that is read in two ways
