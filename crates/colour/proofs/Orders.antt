@@ -1,54 +1,25 @@
--- Each of the six orders by the two tests that tell it, and the path that it gives.
-use Prim.Native.Nat.{ℕ, _*_, _≤_, _<_}
+-- An order of the three fractions that has been told, and the path that it gives.
+use Prim.Native.Nat.{ℕ, _*_}
 use mathlib.Core.Path.{_≡_, refl, sym, ap, ap₂, subst, fun-ext, _∙_}
+use mathlib.Core.Bool.{Bool, true, false, _&&_}
 use mathlib.Core.Logic.{_⊎_, inl, inr}
-use native.Mathlib.Omega.{arith}
-use borrow.Author.Tests.{le-leb, lt-leb}
 use Rattle.rules.specs.Units.{rowAt, stride}
-use Rattle.rules.specs.Looking.Interpolation.{Order, 1st, 2nd, 3rd, rgb, rbg, brg, grb, gbr, bgr, order, climb, pathBy}
+use Rattle.rules.specs.Looking.Interpolation.{Order, 1st, 2nd, 3rd, order, climb, pathBy}
 use Rattle.rules.specs.Looking.{six}
 use Rattle.rules.specs.Looking.Readings.{Descends}
 use Rattle.rules.specs.declared.Colour.{Colour}
 use Rattle.rules.specs.declared.Colour.the-variants.{Red, Green, Blue}
 use Rattle.rules.specs.declared.Shares.{Shares}
-use Rattle.rules.proofs.Looking.Rule.{rule-descends}
+use Rattle.rules.proofs.Looking.Chart.{rule-descends}
 use Rattle.colour.specs.Places.{three, along}
 
 -- ---- which order
 
-module _ (r g b : ℕ) where
-  pub is-rgb : g ≤ r → b ≤ g → order (three r g b) ≡ rgb
-  unfolding order
-  is-rgb p q = rw (le-leb g r p, le-leb b g q)
-
-  pub is-rbg : b ≤ r → g < b → order (three r g b) ≡ rbg
-  unfolding order
-  is-rbg p q = rw (le-leb g r (omega arith), lt-leb b g q, le-leb b r p)
-
-  pub is-brg : r < b → g ≤ r → order (three r g b) ≡ brg
-  unfolding order
-  is-brg p q = rw (le-leb g r q, lt-leb b g (omega arith), lt-leb b r p)
-
-  pub is-grb : r < g → b ≤ r → order (three r g b) ≡ grb
-  unfolding order
-  is-grb p q = rw (lt-leb g r p, le-leb b r q)
-
-  pub is-gbr : b ≤ g → r < b → order (three r g b) ≡ gbr
-  unfolding order
-  is-gbr p q = rw (lt-leb g r (omega arith), lt-leb b r q, le-leb b g p)
-
-  pub is-bgr : g < b → r < g → order (three r g b) ≡ bgr
-  unfolding order
-  is-bgr p q = rw (lt-leb g r q, lt-leb b r (omega arith), lt-leb b g p)
-
-  -- where each of the other five fails in one of its tests, blue is above green and green above red
-  pub none-of-five : (g < b) ⊎ (r < g) → (b ≤ g) ⊎ (r < b) → (r < g) ⊎ (b ≤ r) → (r < b) ⊎ (g ≤ r) → (b ≤ r) ⊎ (g < b) → (g < b) × (r < g)
-  none-of-five (inl p) (inl q) t u v = absurd (omega arith)
-  none-of-five (inl p) (inr q) (inl t) u v = (p, t)
-  none-of-five (inl p) (inr q) (inr t) u v = absurd (omega arith)
-  none-of-five (inr p) q t (inl u) (inl v) = absurd (omega arith)
-  none-of-five (inr p) q t (inl u) (inr v) = (v, p)
-  none-of-five (inr p) q t (inr u) v = absurd (omega arith)
+-- a line of the chart fails in one of its two tests, tried one after the other
+pub one-fails : (x y : Bool) → (y ≡ false) ⊎ (x ≡ false) → x && y ≡ false
+one-fails true y (inl q) = q
+one-fails false y (inl q) = refl
+one-fails x y (inr p) = rw p
 
 -- ---- what the path of an order has
 

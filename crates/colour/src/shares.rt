@@ -124,7 +124,8 @@ fn climbed(start: usize, den: u64, one: Step, two: Step, three: Step) -> Shares
     }
 }
 
-// One case for each order of the three fractions, the greatest first; equal ones stand red, green, blue.
+// The wall chart (docs/WALL-CHART.md): a line for each order of the three fractions, with its whole condition. The greatest stands first, equal ones
+// stand red, green, blue.
 fn path_along(start: usize, den: u64, red: Step, green: Step, blue: Step) -> Shares
     requires { ⌜ start + red .stride + green .stride + blue .stride ≤ rowLimit ⌝ }
     requires { ⌜ den ≤ denLimit ⌝ }
@@ -142,15 +143,20 @@ fn path_along(start: usize, den: u64, red: Step, green: Step, blue: Step) -> Sha
     if fr >= fb && fb > fg {
         return climbed(start, den, red, blue, green);
     }
-    if fb > fr && fr >= fg {
-        return climbed(start, den, blue, red, green);
-    }
     if fg > fr && fr >= fb {
         return climbed(start, den, green, red, blue);
     }
     if fg >= fb && fb > fr {
         return climbed(start, den, green, blue, red);
     }
+    if fb > fr && fr >= fg {
+        return climbed(start, den, blue, red, green);
+    }
+    if fb > fg && fg > fr {
+        return climbed(start, den, blue, green, red);
+    }
+    // No three fractions come here (`none-missed`), but a function has to end with an answer. Where that is the sixth line's, the compiler need not
+    // work out a condition that always holds by then.
     climbed(start, den, blue, green, red)
 }
 

@@ -1,9 +1,10 @@
 -- Laws of look.
 
--- a sum of weighed samples in layers; either reading; the rule's own; weights and rows
+-- a sum of weighed samples in layers; either reading; the rule's own reading, and its own order by the wall chart; weights and rows
 pub mod Layers
 pub mod EitherReading
 pub mod Rule
+pub mod Chart
 pub mod RowsAndWeights
 -- the answer by its checks, and that an accepted one is right
 pub mod Checks

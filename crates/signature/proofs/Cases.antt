@@ -19,7 +19,7 @@ use Rattle.rules.specs.Reading.Contents.{keywordOf, wordForm, formOf, closes, q
 use Rattle.rules.specs.Reading.Judge.{add, describe, repeats, need, first, domainFault, givenFault, headFault, byteFault, orderFault, take-in, unless, judge, endFault}
 use Rattle.rules.specs.Reading.{readLines, read, samplesIn, samplesOf, tableAfter}
 use Rattle.rules.specs.Reporting.{report, reportBytes}
-use Rattle.rules.specs.Looking.Interpolation.{offset, position, index, fraction, pairBy, order, climb, pathBy, pair, path, codeBy}
+use Rattle.rules.specs.Looking.Interpolation.{offset, position, index, fraction, pairBy, chart, order, climb, pathBy, pair, path, codeBy}
 use Rattle.rules.specs.Looking.{within, shown, lookAt, look}
 use Rattle.rules.specs.Picturing.{eachPixel, pictureWith, picture, outputAfter}
 use Rattle.rules.specs.Answers.{refusalNumber, readNumber, readLine}
@@ -100,7 +100,7 @@ unfolding boundsFit ordered narrow sameDomain agree roomy samplesFit couldBeRead
 tables-opened = 0
 
 unfoldable looks-opened : ℕ
-unfolding offset position index fraction pairBy order climb pathBy pair path codeBy code within shown lookAt look
+unfolding offset position index fraction pairBy chart order climb pathBy pair path codeBy code within shown lookAt look
 looks-opened = 0
 
 unfoldable pub opened : ℕ

@@ -4,6 +4,8 @@
 pub mod SamePlaces
 pub mod DomainEnds
 pub mod ShortDivision
+-- the order of the axes: the wall chart
+pub mod WallChart
 -- the numbers that it answers
 pub mod Numbers
 -- wrong programs that its promise rules out

@@ -1,5 +1,5 @@
-//! What an accepted look met, and what files did by the points of their numbers and by one
-//! domain line without the other. A stream has to come to each of these places, since they are
+//! What an accepted look met, in 3D also which order of the three fractions, and what files did
+//! by the points of their numbers and by one domain line without the other. A stream has to come to each of these places, since they are
 //! where a mistake would show.
 
 use crate::gen::{FileCase, LookCase};
@@ -131,6 +131,30 @@ pub fn met(case: &LookCase, look: &Look) -> [bool; NAMES.len()] {
     met
 }
 
+/// The orders that three fractions can stand in, as document 02's wall chart has them: the
+/// greatest first, equal ones red, green, blue.
+pub const ORDERS: [&str; 13] = [
+    "r > g > b", "r = g > b", "r > g = b", "r = g = b", "r > b > g", "r = b > g", "g > r > b",
+    "g > r = b", "g > b > r", "g = b > r", "b > r > g", "b > r = g", "b > g > r",
+];
+
+/// For each of those, whether the look met it, by its own rows and weights: a step from row to row
+/// is along one axis, and a weight between two steps is the difference of their fractions.
+pub fn order_met(case: &LookCase, look: &Look) -> [bool; ORDERS.len()] {
+    if case.description[place::KIND] != 3 {
+        return [false; ORDERS.len()];
+    }
+    let n = case.description[place::N];
+    let axis = |step: usize| match i64::from(look.rows[step + 1]) - i64::from(look.rows[step]) {
+        1 => 'r',
+        rows if rows == n => 'g',
+        _ => 'b',
+    };
+    let sign = |weight: usize| if look.weights[weight] == 0 { '=' } else { '>' };
+    let order = format!("{} {} {} {} {}", axis(0), sign(1), axis(1), sign(2), axis(2));
+    ORDERS.map(|name| name == order)
+}
+
 fn colour_met(
     case: &LookCase,
     look: &Look,
@@ -172,6 +196,38 @@ mod tests {
             on.map(move |(name, _)| format!("{judged}: {name}"))
         };
         JUDGED.into_iter().zip(met).flat_map(named).collect()
+    }
+
+    /// The order that a look at these codes of 8 bits meets, in a table of 27 rows.
+    fn order(pixel: [u16; 3]) -> Vec<&'static str> {
+        let case = LookCase {
+            description: [3, 3, 0, 0, 0, 1000, 1000, 1000, 0, 0, 0],
+            table: vec![0; 81],
+            bits: 8,
+            pixel,
+            made: Vec::new(),
+        };
+        let met = Second.look(&case).map(|look| order_met(&case, &look)).unwrap_or_default();
+        ORDERS.into_iter().zip(met).filter(|(_, on)| *on).map(|(name, _)| name).collect()
+    }
+
+    #[test]
+    fn orders_are_those_of_the_fractions() {
+        assert_eq!(order([3, 2, 1]), ["r > g > b"]);
+        assert_eq!(order([2, 2, 1]), ["r = g > b"]);
+        assert_eq!(order([2, 1, 1]), ["r > g = b"]);
+        assert_eq!(order([0, 0, 0]), ["r = g = b"]);
+        assert_eq!(order([3, 1, 2]), ["r > b > g"]);
+        assert_eq!(order([2, 1, 2]), ["r = b > g"]);
+        assert_eq!(order([2, 3, 1]), ["g > r > b"]);
+        assert_eq!(order([1, 2, 1]), ["g > r = b"]);
+        assert_eq!(order([1, 3, 2]), ["g > b > r"]);
+        assert_eq!(order([1, 2, 2]), ["g = b > r"]);
+        assert_eq!(order([2, 1, 3]), ["b > r > g"]);
+        assert_eq!(order([1, 1, 2]), ["b > r = g"]);
+        assert_eq!(order([1, 2, 3]), ["b > g > r"]);
+        // the second cell begins between 127 and 128: codes that rise, fractions that fall
+        assert_eq!(order([127, 129, 128]), ["r > g > b"]);
     }
 
     #[test]

@@ -2,7 +2,8 @@
 
 use crate::gen::{file_case, look_case, picture_case, FileCase, LookCase, PictureCase};
 use crate::look::Look;
-use crate::met::{halves_met, met, points_met, HALVES, JUDGED, NAMES, POINTS};
+use crate::met::{halves_met, met, order_met, points_met};
+use crate::met::{HALVES, JUDGED, NAMES, ORDERS, POINTS};
 use crate::paper::number;
 use crate::reading::Check;
 use crate::show::{list, quoted, shortened, where_not_zero};
@@ -45,6 +46,7 @@ pub struct Counts {
     points: [u64; POINTS.len()],
     halves: [[u64; HALVES.len()]; JUDGED.len()],
     met: [u64; NAMES.len()],
+    orders: [u64; ORDERS.len()],
 }
 
 impl Counts {
@@ -61,8 +63,9 @@ impl Counts {
             + &met_line("files met", &self.read, &POINTS, &self.points)
             + &halves.collect::<String>()
             + &line("check", &self.check);
-        let looks =
-            line("look", &self.look) + &met_line("looks met", &self.look, &NAMES, &self.met);
+        let looks = line("look", &self.look)
+            + &met_line("looks met", &self.look, &NAMES, &self.met)
+            + &met_line("looks met in 3D", &self.look, &ORDERS, &self.orders);
         files + &looks + &line("picture", &self.picture)
     }
 
@@ -76,6 +79,7 @@ impl Counts {
     fn note_met(&mut self, case: &LookCase, look: &Look) {
         if look.number == number::ACCEPTED {
             add_met(&mut self.met, &met(case, look));
+            add_met(&mut self.orders, &order_met(case, look));
         }
     }
 
@@ -100,6 +104,7 @@ impl Counts {
             unmet(&format!("read {judged}"), wanted.tables, &HALVES, counts);
         }
         unmet("look", wanted.looks, &NAMES, &self.met);
+        unmet("look in 3D", wanted.looks, &ORDERS, &self.orders);
         missing
     }
 }

@@ -36,7 +36,8 @@ use Rattle.rules.proofs.Sound.{sound-of, wide-enough}
 use Rattle.rules.proofs.KnownDepths.{depths-bounds}
 use Rattle.rules.proofs.Looking.Layers.{level, level-own, Stairs, layered, layered-own, stairs-total}
 use Rattle.rules.proofs.Looking.EitherReading.{rowIn, line-stairs, cube-stairs}
-use Rattle.rules.proofs.Looking.Rule.{rule-reads, rule-descends}
+use Rattle.rules.proofs.Looking.Rule.{rule-reads}
+use Rattle.rules.proofs.Looking.Chart.{rule-descends}
 use Rattle.rules.proofs.Looking.RowsAndWeights.{weights-not-negative, weights-unsigned, weights-add-up, pair-rows, path-rows}
 use Rattle.rules.proofs.Answers.{looks-is}
 use Rattle.rules.proofs.Looking.Checks.{LookPassed, look-passed, look-0}

@@ -6,7 +6,7 @@ use native.Mathlib.Nat as NatL
 use native.Mathlib.Decide.{decLe}
 use native.Mathlib.Omega.{arith}
 use Rattle.rules.specs.Units.{rowAt, stride}
-use Rattle.rules.specs.Looking.Interpolation.{Order, rgb, rbg, brg, grb, gbr, bgr, 1st, 2nd, 3rd, pairBy, pathBy, climb}
+use Rattle.rules.specs.Looking.Interpolation.{Order, rgb, rbg, grb, gbr, brg, bgr, 1st, 2nd, 3rd, pairBy, pathBy, climb}
 use Rattle.rules.specs.Looking.Readings.{Reading, Descends}
 use Rattle.rules.specs.declared.Colour.{Colour}
 use Rattle.rules.proofs.Looking.Layers.{level, level-above, level-below, Stairs, ground, step}
@@ -43,9 +43,9 @@ line-stairs {f = f} r =
 row-in-order : (n : ℕ) (i : Colour → ℕ) (o : Order) → rowAt n i ≡ stride n (1st o) * i (1st o) + stride n (2nd o) * i (2nd o) + stride n (3rd o) * i (3rd o)
 row-in-order n i rgb = omega arith
 row-in-order n i rbg = omega arith
-row-in-order n i brg = omega arith
 row-in-order n i grb = omega arith
 row-in-order n i gbr = omega arith
+row-in-order n i brg = omega arith
 row-in-order n i bgr = omega arith
 
 -- some indices up, so many strides up

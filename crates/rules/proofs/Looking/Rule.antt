@@ -1,18 +1,12 @@
--- What the paper's rule gives is an admissible reading of each position, and an admissible order; and the other readings are those that the paper names.
+-- What the paper's rule gives is an admissible reading of each position; and the other readings are those that the paper names.
 use Prim.Native.Nat.{ℕ, _+_, _-_, _*_, _/_, _≤_, _<_, min}
-use mathlib.Core.Path.{_≡_, refl, sym, ap}
-use mathlib.Core.Bool.{Bool, true, false, cond}
+use mathlib.Core.Path.{_≡_, sym, ap}
 use mathlib.Core.Logic.{_⊎_, inl, inr}
 use native.Mathlib.Nat as NatL
 use native.Mathlib.Decide.{decLe, decLt}
 use native.Mathlib.Omega.{arith}
-use borrow.Author.Tests.{leb-true, leb-false}
-use lib.Dec.{leb}
-use Rattle.rules.specs.Units.{colourPlace}
-use Rattle.rules.specs.Looking.Interpolation.{den, offset, position, index, fraction, Order, 1st, 2nd, 3rd, order, rgb, rbg, brg, grb, gbr, bgr}
-use Rattle.rules.specs.Looking.Readings.{Reading, Descends}
-use Rattle.rules.specs.declared.Colour.{Colour}
-use Rattle.rules.specs.declared.Colour.the-variants.{Red, Green, Blue}
+use Rattle.rules.specs.Looking.Interpolation.{den, offset, position, index, fraction}
+use Rattle.rules.specs.Looking.Readings.{Reading}
 use Rattle.rules.specs.declared.Domain.{Domain}
 use Rattle.rules.proofs.Looking.EitherReading.{only-these}
 
@@ -79,29 +73,3 @@ module _ (m : ℕ) (dom : Domain) (n c : ℕ) (d : 0 < den m dom) (h : 2 ≤ n) 
       by (no l) (no k) =
           let e : j ≡ i = omega arith in
           inl (e, omega (arith, ap (λ x. x * den m dom) e, q .place, rule-reads .place))
-
--- ---- the order of the rule
-
--- equal fractions stand red, green, blue
-pub record InTurn (f : Colour → ℕ) (o : Order) : Type 0 where
-  pub upper : f (1st o) ≡ f (2nd o) → colourPlace (1st o) < colourPlace (2nd o)
-  pub lower : f (2nd o) ≡ f (3rd o) → colourPlace (2nd o) < colourPlace (3rd o)
-
-module _ (f : Colour → ℕ) where
-  -- for the outcomes x, y, z of the rule's three tests
-  sorted : (x y z : Bool) → leb (f Green) (f Red) ≡ x → leb (f Blue) (f Green) ≡ y → leb (f Blue) (f Red) ≡ z
-      → let o = cond x (cond y rgb (cond z rbg brg)) (cond z grb (cond y gbr bgr)) in Descends f o × InTurn f o
-  sorted true true z gr bg br = omega (arith, leb-true, leb-false)
-  sorted true false true gr bg br = omega (arith, leb-true, leb-false)
-  sorted true false false gr bg br = omega (arith, leb-true, leb-false)
-  sorted false y true gr bg br = omega (arith, leb-true, leb-false)
-  sorted false true false gr bg br = omega (arith, leb-true, leb-false)
-  sorted false false false gr bg br = omega (arith, leb-true, leb-false)
-
-  pub rule-descends : Descends f (order f)
-  unfolding order
-  rule-descends = sorted _ _ _ refl refl refl .0
-
-  pub rule-in-turn : InTurn f (order f)
-  unfolding order
-  rule-in-turn = sorted _ _ _ refl refl refl .1

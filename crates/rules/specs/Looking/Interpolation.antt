@@ -1,8 +1,8 @@
 -- Document 01, "Interpolation".
 use Prim.Native.Nat.{ℕ, _+_, _-_, _*_, _/_, min}
-use mathlib.Core.Bool.{cond}
+use mathlib.Core.Bool.{Bool, cond, _&&_}
 use mathlib.Core.List.{List, [], _∷_, map}
-use lib.Dec.{leb}
+use lib.Dec.{leb, ltb}
 use lib.IntN.{ℤ, pos, _-ℤ_, _*ℤ_}
 use Rattle.whole.specs.Integers.{up}
 use Rattle.whole.specs.Nearest.{code, weighedSum}
@@ -51,42 +51,58 @@ pairBy den i f = share i (den - f) ∷ share (i + 1) f ∷ []
 
 -- 3D: an order of the axes
 pub data Order : Type 0 where
-  rgb rbg brg grb gbr bgr : Order
+  rgb rbg grb gbr brg bgr : Order
 
 abbrev pub 1st : Order → Colour
 1st rgb = Red
 1st rbg = Red
-1st brg = Blue
 1st grb = Green
 1st gbr = Green
+1st brg = Blue
 1st bgr = Blue
 
 abbrev pub 2nd : Order → Colour
 2nd rgb = Green
 2nd rbg = Blue
-2nd brg = Red
 2nd grb = Red
 2nd gbr = Blue
+2nd brg = Red
 2nd bgr = Green
 
 abbrev pub 3rd : Order → Colour
 3rd rgb = Blue
 3rd rbg = Green
-3rd brg = Green
 3rd grb = Blue
 3rd gbr = Red
+3rd brg = Green
 3rd bgr = Red
 
--- the greatest fraction first; equal ones stand red, green, blue
+-- as the chart compares two fractions
+infix 50 _atLeast_ _above_
+abbrev pub _atLeast_ : ℕ → ℕ → Bool
+x atLeast y = leb y x
+
+abbrev pub _above_ : ℕ → ℕ → Bool
+x above y = ltb y x
+
+-- Document 02, Req 03: the wall chart. An order's line is its whole condition on the fractions of red, green and blue: the greatest stands first, and
+-- equal ones stand red, green, blue.
+unfoldable pub chart : ℕ → ℕ → ℕ → Order → Bool
+chart r g b rgb = r atLeast g && g atLeast b
+chart r g b rbg = r atLeast b && b above g
+chart r g b grb = g above r && r atLeast b
+chart r g b gbr = g atLeast b && b above r
+chart r g b brg = b above r && r atLeast g
+chart r g b bgr = b above g && g above r
+
+-- the first of some orders that passes a test
+abbrev pub firstOf : (Order → Bool) → List Order → Order
+firstOf test [] = bgr
+firstOf test (o ∷ os) = cond (test o) o (firstOf test os)
+
+-- the order whose line holds. The six are tried one after another; exactly one holds, for any three fractions.
 unfoldable pub order : (Colour → ℕ) → Order
-order f =
-    cond (leb (f Green) (f Red))
-    (cond (leb (f Blue) (f Green)) rgb
-    (cond (leb (f Blue) (f Red)) rbg
-    brg))
-    (cond (leb (f Blue) (f Red)) grb
-    (cond (leb (f Blue) (f Green)) gbr
-    bgr))
+order f = firstOf (chart (f Red) (f Green) (f Blue)) (rgb ∷ rbg ∷ grb ∷ gbr ∷ brg ∷ bgr ∷ [])
 
 -- four rows from a start, by three steps: weights D − f1, f1 − f2, f2 − f3, f3
 unfoldable pub climb : ℕ → ℕ → ℕ → ℕ → ℕ → ℕ → ℕ → ℕ → List Share

@@ -1,6 +1,7 @@
--- Document 01, "Interpolation": the other readings that demand 3 speaks of.
-use Prim.Native.Nat.{ℕ, _+_, _*_, _≤_}
+-- Document 01, "Interpolation": the other readings that demand 3 speaks of, and what makes an order of the axes the rule's own.
+use Prim.Native.Nat.{ℕ, _+_, _*_, _≤_, _<_}
 use mathlib.Core.Path.{_≡_}
+use Rattle.rules.specs.Units.{colourPlace}
 use Rattle.rules.specs.Looking.Interpolation.{Order, 1st, 2nd, 3rd}
 use Rattle.rules.specs.declared.Colour.{Colour}
 
@@ -14,3 +15,8 @@ pub record Reading (n den p i f : ℕ) : Type 0 where
 pub record Descends (f : Colour → ℕ) (o : Order) : Type 0 where
   pub upper : f (2nd o) ≤ f (1st o)
   pub lower : f (3rd o) ≤ f (2nd o)
+
+-- and in which equal ones stand red, green, blue: that is the rule's own
+pub record InTurn (f : Colour → ℕ) (o : Order) : Type 0 where
+  pub upper : f (1st o) ≡ f (2nd o) → colourPlace (1st o) < colourPlace (2nd o)
+  pub lower : f (2nd o) ≡ f (3rd o) → colourPlace (2nd o) < colourPlace (3rd o)

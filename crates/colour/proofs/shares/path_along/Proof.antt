@@ -1,16 +1,19 @@
--- Each case knows its order by its own two tests, and the last by all that were left.
-use mathlib.Core.Path.{_≡_}
+-- Each case is a line of the wall chart: its two tests hold, so its order is the one of the fractions. What is left after the six is nothing.
+use mathlib.Core.Path.{_≡_, sym, _∙_}
+use mathlib.Core.Bool.{false}
 use mathlib.Core.Logic.{inl, inr, ⊎-elim}
 use Prim.Native.Nat.{ℕ, _+_, _≤_}
 use native.Mathlib.Omega.{arith}
-use borrow.Author.Tests.{leb-true, leb-false, ltb-true, ltb-false}
-use Rattle.rules.specs.Looking.Interpolation.{Order, 1st, 2nd, 3rd, rgb, rbg, brg, grb, gbr, bgr, order}
+use borrow.Author.Tests.{leb-true, ltb-true, lt-leb, le-ltb}
+use Rattle.rules.specs.Looking.Interpolation.{Order, 1st, 2nd, 3rd, rgb, rbg, grb, gbr, brg, bgr, chart, order}
 use Rattle.rules.specs.declared.Colour.{Colour}
 use Rattle.rules.specs.declared.Colour.the-variants.{Red, Green, Blue}
 use Rattle.rules.specs.Units.{rowLimit}
+use Rattle.rules.proofs.Tests.{no-true}
+use Rattle.rules.proofs.Looking.Chart.{says-order, none-missed}
 use Rattle.colour.specs.Limits.{denLimit}
 use Rattle.colour.specs.Places.{three}
-use Rattle.colour.proofs.Orders.{is-rgb, is-rbg, is-brg, is-grb, is-gbr, is-bgr, none-of-five, descends, in-order}
+use Rattle.colour.proofs.Orders.{one-fails, descends, in-order}
 use Rattle.colour.proofs.shares.path_along.Statement.{statement}
 use Rattle.colour.proofs.shares.path_along.Tie as tie
 
@@ -32,9 +35,9 @@ module _ (c : tie.Start) where
   same-end : (o : Order) → c .args .start + s (1st o) + s (2nd o) + s (3rd o) ≤ rowLimit
   same-end rgb = c .pre .0
   same-end rbg = omega (arith, c .pre .0)
-  same-end brg = omega (arith, c .pre .0)
   same-end grb = omega (arith, c .pre .0)
   same-end gbr = omega (arith, c .pre .0)
+  same-end brg = omega (arith, c .pre .0)
   same-end bgr = omega (arith, c .pre .0)
 
   -- what `climbed` asks for
@@ -46,7 +49,7 @@ module _ (c : tie.Start) where
 -- ---- the six cases
 
 case-1 : (c : tie.Then2) → order (f (c .before .before)) ≡ rgb
-case-1 c = is-rgb _ _ _ (c .before .if1 .taken) (leb-true _ _ (c .if2 .taken))
+case-1 c = says-order _ rgb (c .before .if1 .taken, leb-true _ _ (c .if2 .taken))
 
 climbed-requires : tie.Need-climbed-requires
 climbed-requires c κs = fits (c .before .before) rgb (case-1 c)
@@ -55,7 +58,7 @@ returns : tie.Need-returns
 returns c = in-order _ _ _ _ rgb _ (case-1 (c .before)) (c .climbed .ensures)
 
 case-2 : (c : tie.Then4) → order (f (c .before .before .before)) ≡ rbg
-case-2 c = is-rbg _ _ _ (c .before .if3 .taken) (ltb-true _ _ (c .if4 .taken))
+case-2 c = says-order _ rbg (c .before .if3 .taken, ltb-true _ _ (c .if4 .taken))
 
 climbed-requires-2 : tie.Need-climbed-requires-2
 climbed-requires-2 c κs = fits (c .before .before .before) rbg (case-2 c)
@@ -63,52 +66,80 @@ climbed-requires-2 c κs = fits (c .before .before .before) rbg (case-2 c)
 returns-2 : tie.Need-returns-2
 returns-2 c = in-order _ _ _ _ rbg _ (case-2 (c .before)) (c .climbed2 .ensures)
 
-case-3 : (c : tie.Then6) → order (f (c .before .before .before .before)) ≡ brg
-case-3 c = is-brg _ _ _ (c .before .if5 .taken) (leb-true _ _ (c .if6 .taken))
+case-3 : (c : tie.Then6) → order (f (c .before .before .before .before)) ≡ grb
+case-3 c = says-order _ grb (c .before .if5 .taken, leb-true _ _ (c .if6 .taken))
 
 climbed-requires-3 : tie.Need-climbed-requires-3
-climbed-requires-3 c κs = fits (c .before .before .before .before) brg (case-3 c)
+climbed-requires-3 c κs = fits (c .before .before .before .before) grb (case-3 c)
 
 returns-3 : tie.Need-returns-3
-returns-3 c = in-order _ _ _ _ brg _ (case-3 (c .before)) (c .climbed3 .ensures)
+returns-3 c = in-order _ _ _ _ grb _ (case-3 (c .before)) (c .climbed3 .ensures)
 
-case-4 : (c : tie.Then8) → order (f (c .before .before .before .before .before)) ≡ grb
-case-4 c = is-grb _ _ _ (c .before .if7 .taken) (leb-true _ _ (c .if8 .taken))
+case-4 : (c : tie.Then8) → order (f (c .before .before .before .before .before)) ≡ gbr
+case-4 c = says-order _ gbr (c .before .if7 .taken, ltb-true _ _ (c .if8 .taken))
 
 climbed-requires-4 : tie.Need-climbed-requires-4
-climbed-requires-4 c κs = fits (c .before .before .before .before .before) grb (case-4 c)
+climbed-requires-4 c κs = fits (c .before .before .before .before .before) gbr (case-4 c)
 
 returns-4 : tie.Need-returns-4
-returns-4 c = in-order _ _ _ _ grb _ (case-4 (c .before)) (c .climbed4 .ensures)
+returns-4 c = in-order _ _ _ _ gbr _ (case-4 (c .before)) (c .climbed4 .ensures)
 
-case-5 : (c : tie.Then10) → order (f (c .before .before .before .before .before .before)) ≡ gbr
-case-5 c = is-gbr _ _ _ (c .before .if9 .taken) (ltb-true _ _ (c .if10 .taken))
+case-5 : (c : tie.Then10) → order (f (c .before .before .before .before .before .before)) ≡ brg
+case-5 c = says-order _ brg (c .before .if9 .taken, leb-true _ _ (c .if10 .taken))
 
 climbed-requires-5 : tie.Need-climbed-requires-5
-climbed-requires-5 c κs = fits (c .before .before .before .before .before .before) gbr (case-5 c)
+climbed-requires-5 c κs = fits (c .before .before .before .before .before .before) brg (case-5 c)
 
 returns-5 : tie.Need-returns-5
-returns-5 c = in-order _ _ _ _ gbr _ (case-5 (c .before)) (c .climbed5 .ensures)
+returns-5 c = in-order _ _ _ _ brg _ (case-5 (c .before)) (c .climbed5 .ensures)
 
-case-6 : (c : tie.Joined9) → order (f (c .before .before .before .before .before)) ≡ bgr
-case-6 c =
-    let j7 = c .before in
-    let j5 = j7 .before in
-    let j3 = j5 .before in
-    let j1 = j3 .before in
-    let left = none-of-five _ _ _
-    (⊎-elim (λ t. inl (leb-false _ _ (t .1 .left))) (λ e. inr (e .left)) (j1 .if1 .came))
-    (⊎-elim (λ t. inl (ltb-false _ _ (t .1 .left))) (λ e. inr (e .left)) (j3 .if3 .came))
-    (⊎-elim (λ t. inl (leb-false _ _ (t .1 .left))) (λ e. inr (e .left)) (j5 .if5 .came))
-    (⊎-elim (λ t. inl (leb-false _ _ (t .1 .left))) (λ e. inr (e .left)) (j7 .if7 .came))
-    (⊎-elim (λ t. inl (ltb-false _ _ (t .1 .left))) (λ e. inr (e .left)) (c .if9 .came)) in
-    is-bgr _ _ _ (left .0) (left .1)
+case-6 : (c : tie.Then12) → order (f (c .before .before .before .before .before .before .before)) ≡ bgr
+case-6 c = says-order _ bgr (c .before .if11 .taken, ltb-true _ _ (c .if12 .taken))
 
 climbed-requires-6 : tie.Need-climbed-requires-6
-climbed-requires-6 c κs = fits (c .before .before .before .before .before) bgr (case-6 c)
+climbed-requires-6 c κs = fits (c .before .before .before .before .before .before .before) bgr (case-6 c)
 
 returns-6 : tie.Need-returns-6
 returns-6 c = in-order _ _ _ _ bgr _ (case-6 (c .before)) (c .climbed6 .ensures)
+
+-- ---- and no seventh
+
+module _ (c : tie.Joined11) where
+  abbrev j9 : tie.Joined9
+  j9 = c .before
+
+  abbrev j7 : tie.Joined7
+  j7 = j9 .before
+
+  abbrev j5 : tie.Joined5
+  j5 = j7 .before
+
+  abbrev j3 : tie.Joined3
+  j3 = j5 .before
+
+  abbrev j1 : tie.Joined1
+  j1 = j3 .before
+
+  abbrev left : Colour → ℕ
+  left = f (j1 .before)
+
+  fails : (o : Order) → chart (left Red) (left Green) (left Blue) o ≡ false
+  unfolding chart
+  fails rgb = one-fails _ _ (⊎-elim (λ t. inl (t .1 .left)) (λ e. inr (lt-leb _ _ (e .left))) (j1 .if1 .came))
+  fails rbg = one-fails _ _ (⊎-elim (λ t. inl (t .1 .left)) (λ e. inr (lt-leb _ _ (e .left))) (j3 .if3 .came))
+  fails grb = one-fails _ _ (⊎-elim (λ t. inl (t .1 .left)) (λ e. inr (le-ltb _ _ (e .left))) (j5 .if5 .came))
+  fails gbr = one-fails _ _ (⊎-elim (λ t. inl (t .1 .left)) (λ e. inr (lt-leb _ _ (e .left))) (j7 .if7 .came))
+  fails brg = one-fails _ _ (⊎-elim (λ t. inl (t .1 .left)) (λ e. inr (le-ltb _ _ (e .left))) (j9 .if9 .came))
+  fails bgr = one-fails _ _ (⊎-elim (λ t. inl (t .1 .left)) (λ e. inr (le-ltb _ _ (e .left))) (c .if11 .came))
+
+  none-left : ⊥
+  none-left = let (o, h) = none-missed left in no-true (sym h ∙ fails o)
+
+climbed-requires-7 : tie.Need-climbed-requires-7
+climbed-requires-7 c κs = absurd (none-left c)
+
+returns-7 : tie.Need-returns-7
+returns-7 c = absurd (none-left (c .before))
 
 pub path-along-spec : {M : Type 1} → statement M
 path-along-spec =
@@ -125,4 +156,6 @@ path-along-spec =
     climbed-requires-5
     returns-5
     climbed-requires-6
-    returns-6)
+    returns-6
+    climbed-requires-7
+    returns-7)

@@ -1,0 +1,125 @@
+-- The wall chart: of any three fractions the line of one order holds and no other, and that order is the rule's, the greatest first and equal ones red, green,
+-- blue. So the order in which the six lines are tried decides nothing.
+use Prim.Native.Nat.{ℕ, _≤_, _<_}
+use mathlib.Core.Path.{_≡_, sym, subst}
+use mathlib.Core.Bool.{true}
+use lib.Dec.{leb, ltb}
+use mathlib.Core.Logic.{_⊎_, inl, inr}
+use native.Mathlib.Nat as NatL
+use native.Mathlib.Decide.{decLe}
+use native.Mathlib.Omega.{arith}
+use borrow.Author.Tests.{leb-true, ltb-true, le-leb, lt-leb, lt-ltb, le-ltb}
+use Rattle.rules.specs.Looking.Interpolation.{Order, rgb, rbg, grb, gbr, brg, bgr, chart, order}
+use Rattle.rules.specs.Looking.Readings.{Descends, InTurn}
+use Rattle.rules.specs.declared.Colour.{Colour}
+use Rattle.rules.specs.declared.Colour.the-variants.{Red, Green, Blue}
+use Rattle.rules.proofs.Tests.{and-both, both-and}
+
+-- in falling order, and not equal
+strictly : {x y : ℕ} → y ≤ x → (x ≡ y → ⊥) → y < x
+strictly {x} {y} h n = by (NatL.eq-or-lt-of-le h)
+  where
+    by : (y ≡ x) ⊎ (y < x) → y < x
+    by (inl e) = absurd (n (sym e))
+    by (inr l) = l
+
+module _ (f : Colour → ℕ) where
+  abbrev r : ℕ
+  r = f Red
+
+  abbrev g : ℕ
+  g = f Green
+
+  abbrev b : ℕ
+  b = f Blue
+
+  -- the order's line of the chart holds
+  abbrev pub OnLine : Order → Type 0
+  OnLine o = chart r g b o ≡ true
+
+  -- what it says of the three
+  abbrev pub Says : Order → Type 0
+  Says rgb = (g ≤ r) × (b ≤ g)
+  Says rbg = (b ≤ r) × (g < b)
+  Says grb = (r < g) × (b ≤ r)
+  Says gbr = (b ≤ g) × (r < b)
+  Says brg = (r < b) × (g ≤ r)
+  Says bgr = (g < b) × (r < g)
+
+  pub line-says : (o : Order) → OnLine o → Says o
+  unfolding chart
+  line-says rgb h = let (p, q) = and-both (leb g r) (leb b g) h in (leb-true g r p, leb-true b g q)
+  line-says rbg h = let (p, q) = and-both (leb b r) (ltb g b) h in (leb-true b r p, ltb-true g b q)
+  line-says grb h = let (p, q) = and-both (ltb r g) (leb b r) h in (ltb-true r g p, leb-true b r q)
+  line-says gbr h = let (p, q) = and-both (leb b g) (ltb r b) h in (leb-true b g p, ltb-true r b q)
+  line-says brg h = let (p, q) = and-both (ltb r b) (leb g r) h in (ltb-true r b p, leb-true g r q)
+  line-says bgr h = let (p, q) = and-both (ltb g b) (ltb r g) h in (ltb-true g b p, ltb-true r g q)
+
+  pub says-line : (o : Order) → Says o → OnLine o
+  unfolding chart
+  says-line rgb (p, q) = both-and (leb g r) (leb b g) (le-leb g r p) (le-leb b g q)
+  says-line rbg (p, q) = both-and (leb b r) (ltb g b) (le-leb b r p) (lt-ltb g b q)
+  says-line grb (p, q) = both-and (ltb r g) (leb b r) (lt-ltb r g p) (le-leb b r q)
+  says-line gbr (p, q) = both-and (leb b g) (ltb r b) (le-leb b g p) (lt-ltb r b q)
+  says-line brg (p, q) = both-and (ltb r b) (leb g r) (lt-ltb r b p) (le-leb g r q)
+  says-line bgr (p, q) = both-and (ltb g b) (ltb r g) (lt-ltb g b p) (lt-ltb r g q)
+
+  -- ---- a line is the rule
+
+  says-rule : (o : Order) → Says o → Descends f o × InTurn f o
+  says-rule rgb (p, q) = omega arith
+  says-rule rbg (p, q) = omega arith
+  says-rule grb (p, q) = omega arith
+  says-rule gbr (p, q) = omega arith
+  says-rule brg (p, q) = omega arith
+  says-rule bgr (p, q) = omega arith
+
+  pub line-rule : (o : Order) → OnLine o → Descends f o × InTurn f o
+  line-rule o h = says-rule o (line-says o h)
+
+  pub rule-says : (o : Order) → Descends f o → InTurn f o → Says o
+  rule-says rgb d t = (d .upper, d .lower)
+  rule-says rbg d t = (d .upper, strictly (d .lower) (λ e. omega (arith, t .lower e)))
+  rule-says grb d t = (strictly (d .upper) (λ e. omega (arith, t .upper e)), d .lower)
+  rule-says gbr d t = (d .upper, strictly (d .lower) (λ e. omega (arith, t .lower e)))
+  rule-says brg d t = (strictly (d .upper) (λ e. omega (arith, t .upper e)), d .lower)
+  rule-says bgr d t = (strictly (d .upper) (λ e. omega (arith, t .upper e)), strictly (d .lower) (λ e. omega (arith, t .lower e)))
+
+  -- ---- no line is missed
+
+  said-by : Dec (g ≤ r) → Dec (b ≤ g) → Dec (b ≤ r) → (o : Order) × Says o
+  said-by (yes p) (yes q) t = (rgb, (p, q))
+  said-by (yes p) (no q) (yes t) = (rbg, (t, omega arith))
+  said-by (yes p) (no q) (no t) = (brg, (omega arith, p))
+  said-by (no p) q (yes t) = (grb, (omega arith, t))
+  said-by (no p) (yes q) (no t) = (gbr, (q, omega arith))
+  said-by (no p) (no q) (no t) = (bgr, (omega arith, omega arith))
+
+  pub none-missed : (o : Order) × OnLine o
+  none-missed = let (o, s) = said-by (decLe g r) (decLe b g) (decLe b r) in (o, says-line o s)
+
+  -- ---- no two lines hold
+
+  -- the first line to hold is this one: those that are tried before it fail
+  pub says-order : (o : Order) → Says o → order f ≡ o
+  unfolding order chart
+  says-order rgb (p, q) = rw (le-leb g r p, le-leb b g q)
+  says-order rbg (p, q) = rw (le-leb g r (omega arith), lt-leb b g q, le-leb b r p, lt-ltb g b q)
+  says-order grb (p, q) = rw (lt-leb g r p, le-leb b r q, le-ltb g b (omega arith), lt-ltb r g p)
+  says-order gbr (p, q) = rw (lt-leb g r (omega arith), lt-leb b r q, lt-ltb r g (omega arith), le-leb b g p, lt-ltb r b q)
+  says-order brg (p, q) = rw (le-leb g r q, lt-leb b g (omega arith), lt-leb b r p, le-ltb r g q, lt-ltb r b p)
+  says-order bgr (p, q) = rw (lt-leb g r q, lt-leb b r (omega arith), lt-ltb r g q, lt-leb b g p, lt-ltb r b (omega arith), lt-ltb g b p)
+
+  pub line-order : (o : Order) → OnLine o → order f ≡ o
+  line-order o h = says-order o (line-says o h)
+
+  pub order-line : OnLine (order f)
+  order-line = let (o, h) = none-missed in subst OnLine (sym (line-order o h)) h
+
+  -- ---- the order of the rule
+
+  pub rule-descends : Descends f (order f)
+  rule-descends = line-rule (order f) order-line .0
+
+  pub rule-in-turn : InTurn f (order f)
+  rule-in-turn = line-rule (order f) order-line .1
