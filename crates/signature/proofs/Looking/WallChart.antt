@@ -1,30 +1,44 @@
--- Document 02, Req 03: of the wall chart's six lines exactly one holds for any three fractions, it is the rule's, and so the path that a look takes is the
--- rule's. The order is what it was before the chart.
+-- Document 02, Req 03: of the wall chart's six lines exactly one holds for any three fractions, it is the rule's, and so the path that look and picture take is
+-- the rule's. The order is what it was before the chart.
 use Prim.Native.Nat.{ℕ}
-use mathlib.Core.Path.{_≡_, sym, ap}
+use mathlib.Core.Path.{_≡_, sym, ap, subst, _∙_}
+use mathlib.Core.List.{List}
 use native.Mathlib.Omega.{arith}
 use borrow.Author.Tests.{le-leb, lt-leb}
-use Rattle.rules.specs.Looking.Interpolation.{Order, rgb, rbg, grb, gbr, brg, bgr, chart, order, denOf, indexOf, fractionOf, pathBy, path}
-use Rattle.rules.specs.Looking.Readings.{Descends, InTurn}
+use lib.IntN.{ℤ}
+use Rattle.rules.specs.Units.{rawM}
+use Rattle.rules.specs.Looking.Interpolation.{Order, rgb, rbg, grb, gbr, brg, bgr, chart, order, fractionOf, path, sharesFor}
+use Rattle.rules.specs.Demands.{used, LookRight}
 use Rattle.rules.specs.declared.Codes.{Codes}
 use Rattle.rules.specs.declared.Colour.{Colour}
 use Rattle.rules.specs.declared.Colour.the-variants.{Red, Green, Blue}
+use Rattle.rules.specs.declared.Depths.{Depths}
 use Rattle.rules.specs.declared.Description.{Description}
+use Rattle.rules.specs.declared.Kind.the-variants.{ThreeD}
+use Rattle.rules.specs.declared.Shares.{Shares}
 use Rattle.rules.proofs.Looking.Chart.{OnLine, Says, line-says, says-line, line-rule, rule-says, says-order, line-order, order-line}
-use Rattle.signature.specs.WallChart.{ExactlyOne, orderBefore}
+use Rattle.signature.specs.WallChart.{ExactlyOne, ByRule, pathIn, orderBefore}
+
+-- ---- the order of three fractions
 
 module _ (f : Colour → ℕ) where
   -- none is missed, and no two overlap
   pub exactly-one : ExactlyOne (chart (f Red) (f Green) (f Blue))
   exactly-one = record { one = order f; passes = order-line f; no-other = λ o h. sym (line-order f o h) }
 
-  -- an order's line holds exactly where the order is the rule's: the greatest first, equal ones red, green, blue
-  pub line-is-rule : (o : Order) → (OnLine f o → Descends f o × InTurn f o) × (Descends f o × InTurn f o → OnLine f o)
-  line-is-rule o = (line-rule f o, λ rule. says-line f o (rule-says f o (rule .0) (rule .1)))
+  -- an order's line holds exactly where the order is the rule's
+  pub line-by-rule : (o : Order) → OnLine f o → ByRule f o
+  line-by-rule o h = let (descends, in-turn) = line-rule f o h in record { descends = descends; in-turn = in-turn }
+
+  pub rule-by-line : (o : Order) → ByRule f o → OnLine f o
+  rule-by-line o rule = says-line f o (rule-says f o (rule .descends) (rule .in-turn))
 
   -- so the rule allows one order, and that is the chart's
-  pub rule-one : (o : Order) → Descends f o → InTurn f o → order f ≡ o
-  rule-one o d t = says-order f o (rule-says f o d t)
+  pub order-by-rule : ByRule f (order f)
+  order-by-rule = line-by-rule (order f) (order-line f)
+
+  pub rule-one : (o : Order) → ByRule f o → order f ≡ o
+  rule-one o rule = line-order f o (rule-by-line o rule)
 
   before-says : (o : Order) → Says f o → orderBefore f ≡ o
   unfolding orderBefore
@@ -39,16 +53,22 @@ module _ (f : Colour → ℕ) where
   pub order-as-before : order f ≡ orderBefore f
   order-as-before = sym (before-says (order f) (line-says f (order f) (order-line f)))
 
--- the path of a look is the rule's
-pub path-by-rule : (d : Description) (m : ℕ) (pixel : Codes) (o : Order) → Descends (fractionOf d m pixel) o → InTurn (fractionOf d m pixel) o
-    → path d m pixel ≡ pathBy (d .n) (denOf d m Red) (indexOf d m pixel) (fractionOf d m pixel) o
-unfolding path
-path-by-rule d m pixel o down turn =
-    ap (pathBy (d .n) (denOf d m Red) (indexOf d m pixel) (fractionOf d m pixel)) (rule-one (fractionOf d m pixel) o down turn)
+-- ---- the path of a pixel
 
--- and is what it was
-pub path-as-before : (d : Description) (m : ℕ) (pixel : Codes)
-    → path d m pixel ≡ pathBy (d .n) (denOf d m Red) (indexOf d m pixel) (fractionOf d m pixel) (orderBefore (fractionOf d m pixel))
-unfolding path
-path-as-before d m pixel =
-    ap (pathBy (d .n) (denOf d m Red) (indexOf d m pixel) (fractionOf d m pixel)) (order-as-before (fractionOf d m pixel))
+module _ (d : Description) (m : ℕ) (pixel : Codes) where
+  -- it is the rule's
+  pub path-by-rule : (o : Order) → ByRule (fractionOf d m pixel) o → path d m pixel ≡ pathIn d m pixel o
+  unfolding path
+  path-by-rule o rule = ap (pathIn d m pixel) (rule-one (fractionOf d m pixel) o rule)
+
+  -- and what it was
+  pub path-as-before : path d m pixel ≡ pathIn d m pixel (orderBefore (fractionOf d m pixel))
+  unfolding path
+  path-as-before = ap (pathIn d m pixel) (order-as-before (fractionOf d m pixel))
+
+-- so in an accepted look at a 3D table, and at each pixel of an accepted picture, the four rows and weights that make a colour's code are the rule's path
+pub right-by-rule : (d : Description) (table : List ℤ) (depths : Depths) (pixel codes : Codes) (shares : Shares) (c : Colour)
+    → LookRight d table depths pixel codes shares c → d .kind ≡ ThreeD → (o : Order) → ByRule (fractionOf d (rawM depths) pixel) o
+    → used ThreeD c shares ≡ pathIn d (rawM depths) pixel o
+right-by-rule d table depths pixel codes shares c right e o rule =
+    subst (λ k. used k c shares ≡ sharesFor d (rawM depths) pixel k c) e (right .by-rule) ∙ path-by-rule d (rawM depths) pixel o rule
