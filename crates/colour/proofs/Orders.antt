@@ -1,8 +1,6 @@
 -- An order of the three fractions that has been told, and the path that it gives.
 use Prim.Native.Nat.{ℕ, _*_}
 use mathlib.Core.Path.{_≡_, refl, sym, ap, ap₂, subst, fun-ext, _∙_}
-use mathlib.Core.Bool.{Bool, true, false, _&&_}
-use mathlib.Core.Logic.{_⊎_, inl, inr}
 use Rattle.rules.specs.Units.{rowAt, stride}
 use Rattle.rules.specs.Looking.Interpolation.{Order, 1st, 2nd, 3rd, order, climb, pathBy}
 use Rattle.rules.specs.Looking.{six}
@@ -10,21 +8,11 @@ use Rattle.rules.specs.Looking.Readings.{Descends}
 use Rattle.rules.specs.declared.Colour.{Colour}
 use Rattle.rules.specs.declared.Colour.the-variants.{Red, Green, Blue}
 use Rattle.rules.specs.declared.Shares.{Shares}
-use Rattle.rules.proofs.Looking.Chart.{rule-descends}
+use Rattle.rules.proofs.Looking.Chart.{order-rule}
 use Rattle.colour.specs.Places.{three, along}
 
--- ---- which order
-
--- a line of the chart fails in one of its two tests, tried one after the other
-pub one-fails : (x y : Bool) → (y ≡ false) ⊎ (x ≡ false) → x && y ≡ false
-one-fails true y (inl q) = q
-one-fails false y (inl q) = refl
-one-fails x y (inr p) = rw p
-
--- ---- what the path of an order has
-
 pub descends : (f : Colour → ℕ) (o : Order) → order f ≡ o → Descends f o
-descends f o e = subst (Descends f) e (rule-descends f)
+descends f o e = subst (Descends f) e (order-rule f .descends)
 
 -- a climb in the order that the fractions have
 pub in-order : (start den : ℕ) (f s : Colour → ℕ) (o : Order) (r : Shares) → order f ≡ o

@@ -1,7 +1,8 @@
 -- What a test that came out one way says of its parts, and back.
 use Prim.Native.Nat.{ℕ}
 use mathlib.Core.Path.{_≡_, refl}
-use mathlib.Core.Bool.{Bool, true, false, _&&_, _||_, true≢false, false≢true}
+use mathlib.Core.Bool.{Bool, true, false, _&&_, _||_, and-false, true≢false, false≢true}
+use mathlib.Core.Logic.{_⊎_, inl, inr}
 use mathlib.Core.Option.{Option, none, some}
 use native.Mathlib.Omega.{arith}
 use Rattle.rules.specs.Reading.Judge.{Fault, need, first}
@@ -19,6 +20,11 @@ and-both false b h = absurd (false≢true h)
 
 pub both-and : (a b : Bool) → a ≡ true → b ≡ true → a && b ≡ true
 both-and a b p q = rw p q
+
+-- tried one after the other, the second fails or the first
+pub and-fails : (a b : Bool) → (b ≡ false) ⊎ (a ≡ false) → a && b ≡ false
+and-fails a b (inl q) = rw q (and-false a)
+and-fails a b (inr p) = rw p
 
 pub or-none : (a b : Bool) → a || b ≡ false → (a ≡ false) × (b ≡ false)
 or-none true b h = absurd (true≢false h)

@@ -1,4 +1,4 @@
--- Documents 000 and 01 as definitions. A reader who believes these files, and whole's, knows what is promised.
+-- Documents 000, 01 and 02 as definitions. A reader who believes these files, and whole's, knows what is promised.
 
 -- units, depths, rows and places; lent memory; numbers as text; the description, the rules on its domains, and 24
 pub mod Units

@@ -4,24 +4,16 @@ use Prim.Native.Nat.{ℕ, _≤_, _<_}
 use mathlib.Core.Path.{_≡_, sym, subst}
 use mathlib.Core.Bool.{true}
 use lib.Dec.{leb, ltb}
-use mathlib.Core.Logic.{_⊎_, inl, inr}
-use native.Mathlib.Nat as NatL
 use native.Mathlib.Decide.{decLe}
+use native.Mathlib.Numerals.{lt-of-le-of-ne}
 use native.Mathlib.Omega.{arith}
 use borrow.Author.Tests.{leb-true, ltb-true, le-leb, lt-leb, lt-ltb, le-ltb}
-use Rattle.rules.specs.Looking.Interpolation.{Order, rgb, rbg, grb, gbr, brg, bgr, chart, order}
-use Rattle.rules.specs.Looking.Readings.{Descends, InTurn}
+use Rattle.rules.specs.Units.{colourPlace}
+use Rattle.rules.specs.Looking.Interpolation.{Order, 1st, 2nd, 3rd, rgb, rbg, grb, gbr, brg, bgr, chart, order}
+use Rattle.rules.specs.Looking.Readings.{ByRule}
 use Rattle.rules.specs.declared.Colour.{Colour}
 use Rattle.rules.specs.declared.Colour.the-variants.{Red, Green, Blue}
 use Rattle.rules.proofs.Tests.{and-both, both-and}
-
--- in falling order, and not equal
-strictly : {x y : ℕ} → y ≤ x → (x ≡ y → ⊥) → y < x
-strictly {x} {y} h n = by (NatL.eq-or-lt-of-le h)
-  where
-    by : (y ≡ x) ⊎ (y < x) → y < x
-    by (inl e) = absurd (n (sym e))
-    by (inr l) = l
 
 module _ (f : Colour → ℕ) where
   abbrev r : ℕ
@@ -66,7 +58,7 @@ module _ (f : Colour → ℕ) where
 
   -- ---- a line is the rule
 
-  says-rule : (o : Order) → Says o → Descends f o × InTurn f o
+  says-rule : (o : Order) → Says o → ByRule f o
   says-rule rgb (p, q) = omega arith
   says-rule rbg (p, q) = omega arith
   says-rule grb (p, q) = omega arith
@@ -74,16 +66,26 @@ module _ (f : Colour → ℕ) where
   says-rule brg (p, q) = omega arith
   says-rule bgr (p, q) = omega arith
 
-  pub line-rule : (o : Order) → OnLine o → Descends f o × InTurn f o
+  pub line-rule : (o : Order) → OnLine o → ByRule f o
   line-rule o h = says-rule o (line-says o h)
 
-  pub rule-says : (o : Order) → Descends f o → InTurn f o → Says o
-  rule-says rgb d t = (d .upper, d .lower)
-  rule-says rbg d t = (d .upper, strictly (d .lower) (λ e. omega (arith, t .lower e)))
-  rule-says grb d t = (strictly (d .upper) (λ e. omega (arith, t .upper e)), d .lower)
-  rule-says gbr d t = (d .upper, strictly (d .lower) (λ e. omega (arith, t .lower e)))
-  rule-says brg d t = (strictly (d .upper) (λ e. omega (arith, t .upper e)), d .lower)
-  rule-says bgr d t = (strictly (d .upper) (λ e. omega (arith, t .upper e)), strictly (d .lower) (λ e. omega (arith, t .lower e)))
+  -- two that are not in the order red, green, blue are not equal
+  below-1st : (o : Order) → ByRule f o → colourPlace (2nd o) ≤ colourPlace (1st o) → f (2nd o) < f (1st o)
+  below-1st o h out = lt-of-le-of-ne (h .descends .upper) (λ e. omega (arith, out, h .upper (sym e)))
+
+  below-2nd : (o : Order) → ByRule f o → colourPlace (3rd o) ≤ colourPlace (2nd o) → f (3rd o) < f (2nd o)
+  below-2nd o h out = lt-of-le-of-ne (h .descends .lower) (λ e. omega (arith, out, h .lower (sym e)))
+
+  rule-says : (o : Order) → ByRule f o → Says o
+  rule-says rgb h = (h .descends .upper, h .descends .lower)
+  rule-says rbg h = (h .descends .upper, below-2nd rbg h (omega arith))
+  rule-says grb h = (below-1st grb h (omega arith), h .descends .lower)
+  rule-says gbr h = (h .descends .upper, below-2nd gbr h (omega arith))
+  rule-says brg h = (below-1st brg h (omega arith), h .descends .lower)
+  rule-says bgr h = (below-1st bgr h (omega arith), below-2nd bgr h (omega arith))
+
+  pub rule-line : (o : Order) → ByRule f o → OnLine o
+  rule-line o h = says-line o (rule-says o h)
 
   -- ---- no line is missed
 
@@ -116,10 +118,7 @@ module _ (f : Colour → ℕ) where
   pub order-line : OnLine (order f)
   order-line = let (o, h) = none-missed in subst OnLine (sym (line-order o h)) h
 
-  -- ---- the order of the rule
+  -- ---- the order is the rule's
 
-  pub rule-descends : Descends f (order f)
-  rule-descends = line-rule (order f) order-line .0
-
-  pub rule-in-turn : InTurn f (order f)
-  rule-in-turn = line-rule (order f) order-line .1
+  pub order-rule : ByRule f (order f)
+  order-rule = line-rule (order f) order-line

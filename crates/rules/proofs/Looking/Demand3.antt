@@ -37,7 +37,7 @@ use Rattle.rules.proofs.KnownDepths.{depths-bounds}
 use Rattle.rules.proofs.Looking.Layers.{level, level-own, Stairs, layered, layered-own, stairs-total}
 use Rattle.rules.proofs.Looking.EitherReading.{rowIn, line-stairs, cube-stairs}
 use Rattle.rules.proofs.Looking.Rule.{rule-reads}
-use Rattle.rules.proofs.Looking.Chart.{rule-descends}
+use Rattle.rules.proofs.Looking.Chart.{order-rule}
 use Rattle.rules.proofs.Looking.RowsAndWeights.{weights-not-negative, weights-unsigned, weights-add-up, pair-rows, path-rows}
 use Rattle.rules.proofs.Answers.{looks-is}
 use Rattle.rules.proofs.Looking.Checks.{LookPassed, look-passed, look-0}
@@ -80,7 +80,7 @@ module _ (d : Description) (table : List ℤ) (raw : ℕ) (pixel : Codes) (could
       let f = fractionOf d raw pixel in
       let i = indexOf d raw pixel in
       subst (λ x. Stairs (rowIn (d .n) x (positionOf d raw pixel)) x (path d raw pixel)) (one-den e Red c)
-      (cube-stairs (over-one e Red i f reads) (rule-descends f))
+      (cube-stairs (over-one e Red i f reads) (order-rule f .descends))
 
   pub reading-layers : (k : Kind) → d .kind ≡ k → (c : Colour) (t : ℤ) → ByReading d table raw pixel c k t → t ≡ layered table c (layerRow d raw pixel k c) (denOf d raw c)
   unfolding layerRow
@@ -95,7 +95,7 @@ module _ (d : Description) (table : List ℤ) (raw : ℕ) (pixel : Codes) (could
       let f = fractionOf d raw pixel in
       let i = indexOf d raw pixel in
       subst (λ x. ByReading d table raw pixel c ThreeD (total table c (pathBy (d .n) x i f (order f)))) (one-den e c Red)
-      (cube i f (order f) reads (rule-descends f))
+      (cube i f (order f) reads (order-rule f .descends))
 
   -- and every other gives the same
   pub one-value : (c : Colour) (t : ℤ) → ByReading d table raw pixel c (d .kind) t → t ≡ total table c (sharesFor d raw pixel (d .kind) c)

@@ -95,7 +95,7 @@ chart r g b gbr = g atLeast b && b above r
 chart r g b brg = b above r && r atLeast g
 chart r g b bgr = b above g && g above r
 
--- the first of some orders that passes a test
+-- the first of some orders that passes a test; the last of all where none does, which no three fractions come to
 abbrev pub firstOf : (Order → Bool) → List Order → Order
 firstOf test [] = bgr
 firstOf test (o ∷ os) = cond (test o) o (firstOf test os)
@@ -142,9 +142,13 @@ module _ (d : Description) (m : ℕ) (pixel : Codes) where
   unfoldable pub pair : Colour → List Share
   pair c = pairAt d m c (codeIn pixel c)
 
-  -- 3D: the three colours have one domain, so one D
+  -- 3D: along the axes in an order; the three colours have one domain, so one D
+  abbrev pub pathIn : Order → List Share
+  pathIn o = pathBy (d .n) (denOf d m Red) indexOf fractionOf o
+
+  -- in the order of the fractions
   unfoldable pub path : List Share
-  path = pathBy (d .n) (denOf d m Red) indexOf fractionOf (order fractionOf)
+  path = pathIn (order fractionOf)
 
   -- the rows and weights that make a colour's code
   abbrev pub sharesFor : Kind → Colour → List Share

@@ -16,7 +16,8 @@ pub record Descends (f : Colour → ℕ) (o : Order) : Type 0 where
   pub upper : f (2nd o) ≤ f (1st o)
   pub lower : f (3rd o) ≤ f (2nd o)
 
--- and in which equal ones stand red, green, blue: that is the rule's own
-pub record InTurn (f : Colour → ℕ) (o : Order) : Type 0 where
+-- the rule's own order: the greatest first, and equal ones stand red, green, blue
+pub record ByRule (f : Colour → ℕ) (o : Order) : Type 0 where
+  pub descends : Descends f o
   pub upper : f (1st o) ≡ f (2nd o) → colourPlace (1st o) < colourPlace (2nd o)
   pub lower : f (2nd o) ≡ f (3rd o) → colourPlace (2nd o) < colourPlace (3rd o)

@@ -7,7 +7,8 @@ use native.Mathlib.Omega.{arith}
 use borrow.Author.Tests.{le-leb, lt-leb}
 use lib.IntN.{ℤ}
 use Rattle.rules.specs.Units.{rawM}
-use Rattle.rules.specs.Looking.Interpolation.{Order, rgb, rbg, grb, gbr, brg, bgr, chart, order, fractionOf, path, sharesFor}
+use Rattle.rules.specs.Looking.Interpolation.{Order, rgb, rbg, grb, gbr, brg, bgr, chart, order, fractionOf, pathIn, path, sharesFor}
+use Rattle.rules.specs.Looking.Readings.{ByRule}
 use Rattle.rules.specs.Demands.{used, LookRight}
 use Rattle.rules.specs.declared.Codes.{Codes}
 use Rattle.rules.specs.declared.Colour.{Colour}
@@ -16,8 +17,8 @@ use Rattle.rules.specs.declared.Depths.{Depths}
 use Rattle.rules.specs.declared.Description.{Description}
 use Rattle.rules.specs.declared.Kind.the-variants.{ThreeD}
 use Rattle.rules.specs.declared.Shares.{Shares}
-use Rattle.rules.proofs.Looking.Chart.{OnLine, Says, line-says, says-line, line-rule, rule-says, says-order, line-order, order-line}
-use Rattle.signature.specs.WallChart.{ExactlyOne, ByRule, pathIn, orderBefore}
+use Rattle.rules.proofs.Looking.Chart.{Says, line-says, rule-line, line-order, order-line}
+use Rattle.signature.specs.WallChart.{ExactlyOne, orderBefore}
 
 -- ---- the order of three fractions
 
@@ -26,19 +27,9 @@ module _ (f : Colour → ℕ) where
   pub exactly-one : ExactlyOne (chart (f Red) (f Green) (f Blue))
   exactly-one = record { one = order f; passes = order-line f; no-other = λ o h. sym (line-order f o h) }
 
-  -- an order's line holds exactly where the order is the rule's
-  pub line-by-rule : (o : Order) → OnLine f o → ByRule f o
-  line-by-rule o h = let (descends, in-turn) = line-rule f o h in record { descends = descends; in-turn = in-turn }
-
-  pub rule-by-line : (o : Order) → ByRule f o → OnLine f o
-  rule-by-line o rule = says-line f o (rule-says f o (rule .descends) (rule .in-turn))
-
-  -- so the rule allows one order, and that is the chart's
-  pub order-by-rule : ByRule f (order f)
-  order-by-rule = line-by-rule (order f) (order-line f)
-
+  -- the rule allows one order, and that is the chart's
   pub rule-one : (o : Order) → ByRule f o → order f ≡ o
-  rule-one o rule = line-order f o (rule-by-line o rule)
+  rule-one o rule = line-order f o (rule-line f o rule)
 
   before-says : (o : Order) → Says f o → orderBefore f ≡ o
   unfolding orderBefore

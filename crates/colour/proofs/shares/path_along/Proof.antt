@@ -9,11 +9,11 @@ use Rattle.rules.specs.Looking.Interpolation.{Order, 1st, 2nd, 3rd, rgb, rbg, g
 use Rattle.rules.specs.declared.Colour.{Colour}
 use Rattle.rules.specs.declared.Colour.the-variants.{Red, Green, Blue}
 use Rattle.rules.specs.Units.{rowLimit}
-use Rattle.rules.proofs.Tests.{no-true}
+use Rattle.rules.proofs.Tests.{no-true, and-fails}
 use Rattle.rules.proofs.Looking.Chart.{says-order, none-missed}
 use Rattle.colour.specs.Limits.{denLimit}
 use Rattle.colour.specs.Places.{three}
-use Rattle.colour.proofs.Orders.{one-fails, descends, in-order}
+use Rattle.colour.proofs.Orders.{descends, in-order}
 use Rattle.colour.proofs.shares.path_along.Statement.{statement}
 use Rattle.colour.proofs.shares.path_along.Tie as tie
 
@@ -125,12 +125,12 @@ module _ (c : tie.Joined11) where
 
   fails : (o : Order) → chart (left Red) (left Green) (left Blue) o ≡ false
   unfolding chart
-  fails rgb = one-fails _ _ (⊎-elim (λ t. inl (t .1 .left)) (λ e. inr (lt-leb _ _ (e .left))) (j1 .if1 .came))
-  fails rbg = one-fails _ _ (⊎-elim (λ t. inl (t .1 .left)) (λ e. inr (lt-leb _ _ (e .left))) (j3 .if3 .came))
-  fails grb = one-fails _ _ (⊎-elim (λ t. inl (t .1 .left)) (λ e. inr (le-ltb _ _ (e .left))) (j5 .if5 .came))
-  fails gbr = one-fails _ _ (⊎-elim (λ t. inl (t .1 .left)) (λ e. inr (lt-leb _ _ (e .left))) (j7 .if7 .came))
-  fails brg = one-fails _ _ (⊎-elim (λ t. inl (t .1 .left)) (λ e. inr (le-ltb _ _ (e .left))) (j9 .if9 .came))
-  fails bgr = one-fails _ _ (⊎-elim (λ t. inl (t .1 .left)) (λ e. inr (le-ltb _ _ (e .left))) (c .if11 .came))
+  fails rgb = and-fails _ _ (⊎-elim (λ t. inl (t .1 .left)) (λ e. inr (lt-leb _ _ (e .left))) (j1 .if1 .came))
+  fails rbg = and-fails _ _ (⊎-elim (λ t. inl (t .1 .left)) (λ e. inr (lt-leb _ _ (e .left))) (j3 .if3 .came))
+  fails grb = and-fails _ _ (⊎-elim (λ t. inl (t .1 .left)) (λ e. inr (le-ltb _ _ (e .left))) (j5 .if5 .came))
+  fails gbr = and-fails _ _ (⊎-elim (λ t. inl (t .1 .left)) (λ e. inr (lt-leb _ _ (e .left))) (j7 .if7 .came))
+  fails brg = and-fails _ _ (⊎-elim (λ t. inl (t .1 .left)) (λ e. inr (le-ltb _ _ (e .left))) (j9 .if9 .came))
+  fails bgr = and-fails _ _ (⊎-elim (λ t. inl (t .1 .left)) (λ e. inr (le-ltb _ _ (e .left))) (c .if11 .came))
 
   none-left : ⊥
   none-left = let (o, h) = none-missed left in no-true (sym h ∙ fails o)
