@@ -23,10 +23,10 @@ extern "C" {
 /* The version of this header and of the library beside it. MAJOR is the number in the shared library's name: it grows when
  * a call changes, so that a program never meets a library with other calls than it was compiled for. MINOR grows when a
  * rule changes, so that some file or pixel is answered otherwise. */
-#define ERYTHMODA_VERSION_MAJOR 0
-#define ERYTHMODA_VERSION_MINOR 3
+#define ERYTHMODA_VERSION_MAJOR 1
+#define ERYTHMODA_VERSION_MINOR 0
 #define ERYTHMODA_VERSION_PATCH 0
-#define ERYTHMODA_VERSION "0.3.0"
+#define ERYTHMODA_VERSION "1.0.0"
 
 /* What a table is, in eleven numbers:
  *
@@ -42,8 +42,9 @@ extern "C" {
  * rows counted from 0, stand at 3n (red), 3n + 1 (green) and 3n + 2 (blue). A 1D table has N rows. A 3D table has N*N*N,
  * and red index r, green g, blue b is row r + N*g + N*N*b.
  *
- * Pixels are 16-bit codes, red, green, blue, from 0 to M. Four depths are known: 8 bits with M = 255, 10 with 1023,
- * 12 with 4095, 16 with 65535. */
+ * A pixel is three codes in 16-bit numbers, red, green, blue, from 0 to the M of their depth. Four depths are known: 8 bits
+ * with M = 255, 10 with 1023, 12 with 4095, 16 with 65535. Raw codes, which are corrected, have one depth, and corrected
+ * codes another or the same. */
 #define ERYTHMODA_DESCRIPTION_PLACES 11
 
 enum erythmoda_number {
@@ -101,10 +102,10 @@ static inline const char *erythmoda_words(uint32_t number) {
     case ERYTHMODA_SAMPLE_TOO_FINE: return "a sample is no multiple of 0.0000001";
     case ERYTHMODA_TOO_FEW_ROWS: return "the file ends with too few rows";
     case ERYTHMODA_HALF_A_DOMAIN: return "one of DOMAIN_MIN and DOMAIN_MAX is there without the other";
-    case ERYTHMODA_DEPTH_UNKNOWN: return "the depth is not 8, 10, 12 or 16 bits";
+    case ERYTHMODA_DEPTH_UNKNOWN: return "the depth of raw or of corrected codes is not 8, 10, 12 or 16 bits";
     case ERYTHMODA_PICTURE_LENGTH: return "the picture's length is no multiple of 3";
     case ERYTHMODA_OUTPUT_TOO_SHORT: return "the output is shorter than the picture";
-    case ERYTHMODA_CODE_ABOVE_M: return "a code is above the depth's M";
+    case ERYTHMODA_CODE_ABOVE_M: return "a raw code is above the raw depth's M";
     case ERYTHMODA_COULD_NOT_BE_READ: return "reading could not have given this description and this table";
     case ERYTHMODA_REPORT_INPUT_TOO_LONG: return "the report's input has more than 65536 bytes";
     default: return "unknown number";
@@ -138,21 +139,32 @@ uint32_t erythmoda_check(const uint8_t *file, size_t file_len,
 
 /* Corrects one pixel, and shows which rows of the table made the codes, and with which weights.
  *
+ * `pixel` has codes of `raw_bits`, and `codes` gets codes of `corrected_bits`; each is 8, 10, 12 or 16, and the two may
+ * differ either way. Rows and weights go by the raw M alone: the weights of a colour in 1D, and of all three in 3D, add up
+ * to the raw M times the domain's width in thousandths. Of weights and samples comes a colour's exact value, a fraction;
+ * its code is the one from 0 to the corrected M that is nearest to the corrected M times that value, and of two equally
+ * near the greater. So a value below 0 gives 0, and one above 1 the corrected M.
+ *
  * 1D: places 2c and 2c + 1 of `rows` and `weights` belong to colour c (0 red, 1 green, 2 blue). 3D: places 0 to 3 are
- * the rows met, and 4 and 5 are zero. Rows with weight 0 are shown too. Refused: the answer is 24, 20 or 23, and all
- * codes, rows and weights are zero. Places 8 to 10 of `description` change no answer. */
+ * the rows met, and 4 and 5 are zero. Rows with weight 0 are shown too.
+ *
+ * Refused: the answer is 24, 20 or 23, tried in that order, and all codes, rows and weights are zero. 20 is for either
+ * depth, the raw one tried first; both come before 23, which is for a code above the raw M, whatever the corrected M.
+ * Places 8 to 10 of `description` change no answer. */
 uint32_t erythmoda_look(const int64_t description[11], const int64_t *table, size_t table_len,
-                        uint32_t bits, const uint16_t pixel[3],
+                        uint32_t raw_bits, uint32_t corrected_bits, const uint16_t pixel[3],
                         uint16_t codes[3], uint32_t rows[6], int64_t weights[6]);
 
-/* Corrects a run of pixels, each to the codes that erythmoda_look gives for it.
+/* Corrects a run of pixels, each to the codes that erythmoda_look gives for it at the same two depths: `src` has codes of
+ * `raw_bits`, and `dst` gets codes of `corrected_bits`.
  *
  * Accepted: the first `src_len` places of `dst` hold the codes, and its later places keep theirs; a length of 0 is
- * accepted. Refused: the answer is 24, 20, 21, 22 or 23, tried in that order, and nothing is written. Places 8 to 10 of
- * `description` change no answer. `dst` may not be `src`, nor overlap with it or with the table. */
+ * accepted. Refused: the answer is 24, 20, 21, 22 or 23, tried in that order, and nothing is written. 20 and 23 are as
+ * for a look: 20 for either depth, the raw one first, and 23 for a code above the raw M. Places 8 to 10 of `description`
+ * change no answer. `dst` may not be `src`, nor overlap with it or with the table. */
 uint32_t erythmoda_picture(const int64_t description[11], const int64_t *table, size_t table_len,
-                           uint32_t bits, const uint16_t *src, size_t src_len,
-                           uint16_t *dst, size_t dst_len);
+                           uint32_t raw_bits, uint32_t corrected_bits,
+                           const uint16_t *src, size_t src_len, uint16_t *dst, size_t dst_len);
 
 #ifdef __cplusplus
 }

@@ -3,6 +3,7 @@
     table = erythmoda.read(open("look.cube", "rb").read())
     table.look(8, (51, 102, 204))       # codes, and the rows and weights that made them
     table.picture(8, array("H", [51, 102, 204, 255, 255, 255]))
+    table.picture(12, array("H", [819, 1638, 3276]), corrected_bits=16)
 
 What the library refuses raises `Refused`. A wrong argument raises TypeError or ValueError before anything is called.
 
@@ -20,7 +21,7 @@ from ctypes import POINTER, byref, c_int64, c_size_t, c_uint8, c_uint16, c_uint3
 from pathlib import Path
 from typing import NamedTuple, Optional, Tuple
 
-__version__ = "0.3.0"
+__version__ = "1.0.0"
 __all__ = ["Description", "Look", "Refused", "Table", "WORDS", "check", "read"]
 
 WORDS = {
@@ -43,10 +44,10 @@ WORDS = {
     17: "a sample is no multiple of 0.0000001",
     18: "the file ends with too few rows",
     19: "one of DOMAIN_MIN and DOMAIN_MAX is there without the other",
-    20: "the depth is not 8, 10, 12 or 16 bits",
+    20: "the depth of raw or of corrected codes is not 8, 10, 12 or 16 bits",
     21: "the picture's length is no multiple of 3",
     22: "the output is shorter than the picture",
-    23: "a code is above the depth's M",
+    23: "a raw code is above the raw depth's M",
     24: "reading could not have given this description and this table",
 }
 
@@ -105,28 +106,33 @@ class Table:
     def __repr__(self):
         return f"<erythmoda.Table of kind {self.kind}, n {self.n}, domain {self.domain}, title {self.title}>"
 
-    def look(self, bits, pixel):
-        """Corrects one pixel, three codes of 8, 10, 12 or 16 bits, and shows which rows made it: a `Look`."""
+    def look(self, bits, pixel, *, corrected_bits=None):
+        """Corrects one pixel, three codes of 8, 10, 12 or 16 bits, and shows which rows made it: a `Look`.
+
+        Its codes are of `corrected_bits`; without them, of as many bits as the pixel's. Its rows and weights go by the
+        pixel's depth alone.
+        """
         raw = _three_codes(pixel)
         codes, rows, weights = (c_uint16 * 3)(), (c_uint32 * 6)(), (c_int64 * 6)()
-        number = _library.erythmoda_look(*self._lent(), _depth(bits), raw, codes, rows, weights)
+        number = _library.erythmoda_look(*self._lent(), *_depths(bits, corrected_bits), raw, codes, rows, weights)
         if number:
             raise Refused(number)
         return Look(tuple(codes), tuple(rows), tuple(weights))
 
-    def picture(self, bits, source, output=None):
+    def picture(self, bits, source, output=None, *, corrected_bits=None):
         """Corrects the pixels of `source` into `output`, and gives the output back; without one, a new array("H").
 
-        Both are buffers of 16-bit codes without gaps: red, green and blue of one pixel, then of the next. An array("H"), a
+        The source has codes of so many bits, and the output of `corrected_bits`, or of as many as the source without them.
+        Both are buffers of 16-bit numbers without gaps: red, green and blue of one pixel, then of the next. An array("H"), a
         numpy array of uint16 and a memoryview of either are such. The output may be longer, and keeps what it has there; it
         may not overlap the source or the samples. A source that cannot be written to is copied first.
         """
-        number, output = self._pictured(bits, source, output)
+        number, output = self._pictured(_depths(bits, corrected_bits), source, output)
         if number:
             raise Refused(number)
         return output
 
-    def _pictured(self, bits, source, output):
+    def _pictured(self, depths, source, output):
         # a function of its own, so that what is borrowed is given back before a refusal is raised
         src, src_count = _borrowed(source, _CODES, "the source")
         if output is None:
@@ -135,7 +141,7 @@ class Table:
         table = self._lent()
         if _overlap(dst, src) or _overlap(dst, table[1]):
             raise ValueError("the output overlaps the source or the table's samples")
-        return _library.erythmoda_picture(*table, _depth(bits), src, src_count, dst, dst_count), output
+        return _library.erythmoda_picture(*table, *depths, src, src_count, dst, dst_count), output
 
     def _lent(self):
         """The description, the samples and how many they are, as a call takes them. No call asks for the title."""
@@ -235,6 +241,11 @@ def _three_codes(pixel):
     return (c_uint16 * 3).from_buffer(codes)
 
 
+def _depths(bits, corrected_bits):
+    """The depths of raw and of corrected codes; the second is as the first where it is not given."""
+    return _depth(bits), _depth(bits if corrected_bits is None else corrected_bits)
+
+
 def _depth(bits):
     """The width as a 32-bit number; one that is none is no known depth, as 0 is none."""
     bits = operator.index(bits)
@@ -244,11 +255,12 @@ def _depth(bits):
 # ---- the library
 
 _TABLE = (POINTER(c_int64), POINTER(c_int64), c_size_t)
+_DEPTHS = (c_uint32, c_uint32)
 _TAKES = {
     "erythmoda_check": (POINTER(c_uint8), c_size_t, POINTER(c_int64), POINTER(c_uint64), POINTER(c_uint64)),
     "erythmoda_read": (POINTER(c_uint8), c_size_t, POINTER(c_int64), c_size_t, POINTER(c_int64), POINTER(c_uint64)),
-    "erythmoda_look": (*_TABLE, c_uint32, POINTER(c_uint16), POINTER(c_uint16), POINTER(c_uint32), POINTER(c_int64)),
-    "erythmoda_picture": (*_TABLE, c_uint32, POINTER(c_uint16), c_size_t, POINTER(c_uint16), c_size_t),
+    "erythmoda_look": (*_TABLE, *_DEPTHS, POINTER(c_uint16), POINTER(c_uint16), POINTER(c_uint32), POINTER(c_int64)),
+    "erythmoda_picture": (*_TABLE, *_DEPTHS, POINTER(c_uint16), c_size_t, POINTER(c_uint16), c_size_t),
 }
 
 

@@ -165,51 +165,127 @@ static void refused_check(void) {
     expect(line == 1 && places == 0, "no bytes are refused on line 1, with no places");
 }
 
-static void look(const struct colour_table *table) {
-    static const uint16_t pixel[3] = {51, 102, 204};
-    static const uint16_t codes_expected[3] = {51, 51, 51};
-    static const uint32_t rows_expected[6] = {0, 4, 6, 7, 0, 0};
-    static const int64_t weights_expected[6] = {51000, 102000, 51000, 51000, 0, 0};
-    static const uint16_t no_codes[3] = {0, 0, 0};
-    static const uint32_t no_rows[6] = {0, 0, 0, 0, 0, 0};
-    uint16_t codes[3] = {KEPT, KEPT, KEPT};
-    uint32_t rows[6] = {KEPT, KEPT, KEPT, KEPT, KEPT, KEPT};
-    int64_t weights[6] = {KEPT, KEPT, KEPT, KEPT, KEPT, KEPT};
-    uint32_t answer;
-    answer = erythmoda_look(table->description, table->samples, ROW_PLACES, 8, pixel, codes, rows, weights);
-    expect_number(answer, ERYTHMODA_ACCEPTED, "looking at 51 102 204");
-    expect(memcmp(codes, codes_expected, sizeof codes) == 0, "the codes");
-    expect(memcmp(rows, rows_expected, sizeof rows) == 0, "the rows");
-    expect(memcmp(weights, weights_expected, sizeof weights) == 0, "the weights");
-    answer = erythmoda_look(table->description, table->samples, ROW_PLACES, 9, pixel, codes, rows, weights);
-    expect_number(answer, ERYTHMODA_DEPTH_UNKNOWN, "looking with 9 bits");
-    expect(memcmp(codes, no_codes, sizeof codes) == 0 && memcmp(rows, no_rows, sizeof rows) == 0 && all_are(weights, 6, 0),
-           "a refused look gives zeros");
+/* All that a look writes. */
+struct looked {
+    uint16_t codes[3];
+    uint32_t rows[6];
+    int64_t weights[6];
+};
+
+static struct looked kept_look(void) {
+    static const struct looked kept = {{KEPT, KEPT, KEPT},
+                                       {KEPT, KEPT, KEPT, KEPT, KEPT, KEPT},
+                                       {KEPT, KEPT, KEPT, KEPT, KEPT, KEPT}};
+    return kept;
 }
 
+static int looks_alike(const struct looked *one, const struct looked *other) {
+    return memcmp(one->codes, other->codes, sizeof one->codes) == 0 && memcmp(one->rows, other->rows, sizeof one->rows) == 0 &&
+           memcmp(one->weights, other->weights, sizeof one->weights) == 0;
+}
+
+static void expect_look(const struct colour_table *table, uint32_t raw_bits, uint32_t corrected_bits, const uint16_t pixel[3],
+                        enum erythmoda_number number, const struct looked *expected, const char *what) {
+    struct looked seen = kept_look();
+    uint32_t answer = erythmoda_look(table->description, table->samples, ROW_PLACES, raw_bits, corrected_bits, pixel, seen.codes,
+                                     seen.rows, seen.weights);
+    expect_number(answer, number, what);
+    expect(looks_alike(&seen, expected), what);
+}
+
+/* A fifth, two fifths and four fifths of M: the least of them is what the table gives, in codes of either depth. The rows are
+ * the same at every depth, and the weights are those of the raw one. */
+static void look(const struct colour_table *table) {
+    static const uint16_t of_8[3] = {51, 102, 204}, of_12[3] = {819, 1638, 3276}, of_16[3] = {13107, 26214, 52428};
+    static const struct looked from_8_to_8 = {
+        {51, 51, 51}, {0, 4, 6, 7, 0, 0}, {51000, 102000, 51000, 51000, 0, 0}};
+    static const struct looked from_8_to_16 = {
+        {13107, 13107, 13107}, {0, 4, 6, 7, 0, 0}, {51000, 102000, 51000, 51000, 0, 0}};
+    static const struct looked from_12_to_16 = {
+        {13107, 13107, 13107}, {0, 4, 6, 7, 0, 0}, {819000, 1638000, 819000, 819000, 0, 0}};
+    static const struct looked from_16_to_8 = {
+        {51, 51, 51}, {0, 4, 6, 7, 0, 0}, {13107000, 26214000, 13107000, 13107000, 0, 0}};
+    expect_look(table, 8, 8, of_8, ERYTHMODA_ACCEPTED, &from_8_to_8, "looking at 51 102 204");
+    expect_look(table, 8, 16, of_8, ERYTHMODA_ACCEPTED, &from_8_to_16, "looking from 8 bits to 16");
+    expect_look(table, 12, 16, of_12, ERYTHMODA_ACCEPTED, &from_12_to_16, "looking from 12 bits to 16, above the raw M");
+    expect_look(table, 16, 8, of_16, ERYTHMODA_ACCEPTED, &from_16_to_8, "looking from 16 bits to 8");
+}
+
+static void refused_look(const struct colour_table *table) {
+    static const uint16_t pixel[3] = {51, 102, 204}, above[3] = {0, 0, 256};
+    static const struct looked zeros = {{0, 0, 0}, {0, 0, 0, 0, 0, 0}, {0, 0, 0, 0, 0, 0}};
+    struct colour_table unsound;
+    memcpy(&unsound, table, sizeof unsound);
+    unsound.description[0] = 2;
+    expect_look(&unsound, 9, 9, above, ERYTHMODA_COULD_NOT_BE_READ, &zeros, "looking with a table of no kind");
+    expect_look(table, 9, 9, pixel, ERYTHMODA_DEPTH_UNKNOWN, &zeros, "looking with 9 bits");
+    expect_look(table, 9, 8, pixel, ERYTHMODA_DEPTH_UNKNOWN, &zeros, "looking from 9 bits to 8");
+    expect_look(table, 8, 9, pixel, ERYTHMODA_DEPTH_UNKNOWN, &zeros, "looking from 8 bits to 9");
+    expect_look(table, 8, 9, above, ERYTHMODA_DEPTH_UNKNOWN, &zeros, "looking from 8 bits to 9 at the code 256");
+    expect_look(table, 8, 8, above, ERYTHMODA_CODE_ABOVE_M, &zeros, "looking at the code 256");
+    expect_look(table, 8, 16, above, ERYTHMODA_CODE_ABOVE_M, &zeros, "looking from 8 bits to 16 at the code 256");
+}
+
+#define OUTPUT_PLACES 8
+
+/* Corrects into the first `dst_len` of the output's places, and compares all of them afterwards. */
+static void expect_picture(const struct colour_table *table, uint32_t raw_bits, uint32_t corrected_bits, const uint16_t *src,
+                           size_t src_len, size_t dst_len, enum erythmoda_number number,
+                           const uint16_t expected[OUTPUT_PLACES], const char *what) {
+    uint16_t dst[OUTPUT_PLACES] = {KEPT, KEPT, KEPT, KEPT, KEPT, KEPT, KEPT, KEPT};
+    uint32_t answer = erythmoda_picture(table->description, table->samples, ROW_PLACES, raw_bits, corrected_bits, src, src_len,
+                                        dst, dst_len);
+    expect_number(answer, number, what);
+    expect(memcmp(dst, expected, sizeof dst) == 0, what);
+}
+
+static const uint16_t KEPT_OUTPUT[OUTPUT_PLACES] = {KEPT, KEPT, KEPT, KEPT, KEPT, KEPT, KEPT, KEPT};
+
 static void picture(const struct colour_table *table) {
-    static const uint16_t src[6] = {51, 102, 204, 255, 255, 255};
-    static const uint16_t above[3] = {0, 0, 256};
-    static const uint16_t expected[8] = {51, 51, 51, 255, 255, 255, KEPT, KEPT};
-    uint16_t dst[8] = {KEPT, KEPT, KEPT, KEPT, KEPT, KEPT, KEPT, KEPT};
-    uint16_t before[8];
-    uint32_t answer;
-    memcpy(before, dst, sizeof dst);
-    answer = erythmoda_picture(table->description, table->samples, ROW_PLACES - 1, 8, src, 6, dst, 8);
+    static const uint16_t of_8[6] = {51, 102, 204, 255, 255, 255}, of_12[6] = {819, 1638, 3276, 4095, 1, 4095};
+    static const uint16_t from_8_to_8[OUTPUT_PLACES] = {51, 51, 51, 255, 255, 255, KEPT, KEPT};
+    static const uint16_t from_8_to_10[OUTPUT_PLACES] = {205, 205, 205, 1023, 1023, 1023, KEPT, KEPT};
+    static const uint16_t from_12_to_16[OUTPUT_PLACES] = {13107, 13107, 13107, 16, 16, 16, KEPT, KEPT};
+    static const uint16_t from_12_to_8[OUTPUT_PLACES] = {51, 51, 51, 0, 0, 0, KEPT, KEPT};
+    expect_picture(table, 8, 8, of_8, 6, 8, ERYTHMODA_ACCEPTED, from_8_to_8, "a picture of two pixels");
+    expect_picture(table, 8, 10, of_8, 6, 8, ERYTHMODA_ACCEPTED, from_8_to_10, "a picture from 8 bits to 10");
+    expect_picture(table, 12, 16, of_12, 6, 8, ERYTHMODA_ACCEPTED, from_12_to_16, "a picture from 12 bits to 16");
+    expect_picture(table, 12, 8, of_12, 6, 8, ERYTHMODA_ACCEPTED, from_12_to_8, "a picture from 12 bits to 8");
+    expect_picture(table, 8, 8, of_8, 0, 0, ERYTHMODA_ACCEPTED, KEPT_OUTPUT, "a picture of no pixels");
+    expect_picture(table, 8, 16, of_8, 0, 8, ERYTHMODA_ACCEPTED, KEPT_OUTPUT, "a picture of no pixels from 8 bits to 16");
+}
+
+/* A refused picture, which keeps the output. */
+static void expect_refusal(const struct colour_table *table, uint32_t raw_bits, uint32_t corrected_bits, const uint16_t *src,
+                           size_t src_len, size_t dst_len, enum erythmoda_number number, const char *what) {
+    expect_picture(table, raw_bits, corrected_bits, src, src_len, dst_len, number, KEPT_OUTPUT, what);
+}
+
+static void refused_picture(const struct colour_table *table) {
+    static const uint16_t src[6] = {51, 102, 204, 255, 255, 255}, above[3] = {0, 0, 256};
+    struct colour_table unsound;
+    memcpy(&unsound, table, sizeof unsound);
+    unsound.samples[ROW_PLACES - 1] = INT64_MAX;
+    expect_refusal(&unsound, 9, 9, src, 5, 5, ERYTHMODA_COULD_NOT_BE_READ, "a picture through a sample beyond 1000");
+    expect_refusal(table, 9, 9, src, 0, 0, ERYTHMODA_DEPTH_UNKNOWN, "a picture of no pixels with 9 bits");
+    expect_refusal(table, 9, 8, src, 5, 8, ERYTHMODA_DEPTH_UNKNOWN, "a picture from 9 bits to 8");
+    expect_refusal(table, 8, 9, src, 6, 8, ERYTHMODA_DEPTH_UNKNOWN, "a picture from 8 bits to 9");
+    expect_refusal(table, 8, 9, src, 5, 8, ERYTHMODA_DEPTH_UNKNOWN, "a picture from 8 bits to 9 of five codes");
+    expect_refusal(table, 8, 9, src, 6, 5, ERYTHMODA_DEPTH_UNKNOWN, "a picture from 8 bits to 9 into five places");
+    expect_refusal(table, 8, 9, above, 3, 8, ERYTHMODA_DEPTH_UNKNOWN, "a picture from 8 bits to 9 with the code 256");
+    expect_refusal(table, 8, 8, src, 5, 8, ERYTHMODA_PICTURE_LENGTH, "a picture of five codes");
+    expect_refusal(table, 8, 8, src, 6, 5, ERYTHMODA_OUTPUT_TOO_SHORT, "a picture into five places");
+    expect_refusal(table, 8, 8, above, 3, 8, ERYTHMODA_CODE_ABOVE_M, "a picture with the code 256");
+    expect_refusal(table, 8, 16, above, 3, 8, ERYTHMODA_CODE_ABOVE_M, "a picture from 8 bits to 16 with the code 256");
+}
+
+/* A table with fewer places than its rows need. */
+static void short_table(const struct colour_table *table) {
+    static const uint16_t src[3] = {51, 102, 204};
+    uint16_t dst[3] = {KEPT, KEPT, KEPT};
+    uint32_t answer = erythmoda_picture(table->description, table->samples, ROW_PLACES - 1, 8, 8, src, 3, dst, 3);
     expect_number(answer, ERYTHMODA_COULD_NOT_BE_READ, "a picture through a short table");
-    answer = erythmoda_picture(table->description, table->samples, ROW_PLACES, 8, src, 5, dst, 8);
-    expect_number(answer, ERYTHMODA_PICTURE_LENGTH, "a picture of five codes");
-    answer = erythmoda_picture(table->description, table->samples, ROW_PLACES, 8, src, 6, dst, 5);
-    expect_number(answer, ERYTHMODA_OUTPUT_TOO_SHORT, "a picture into five places");
-    answer = erythmoda_picture(table->description, table->samples, ROW_PLACES, 8, above, 3, dst, 8);
-    expect_number(answer, ERYTHMODA_CODE_ABOVE_M, "a picture with the code 256");
-    expect(memcmp(dst, before, sizeof dst) == 0, "a refused picture keeps the output");
-    answer = erythmoda_picture(table->description, table->samples, ROW_PLACES, 8, src, 0, dst, 0);
-    expect_number(answer, ERYTHMODA_ACCEPTED, "a picture of no pixels");
-    expect(memcmp(dst, before, sizeof dst) == 0, "a picture of no pixels keeps the output");
-    answer = erythmoda_picture(table->description, table->samples, ROW_PLACES, 8, src, 6, dst, 8);
-    expect_number(answer, ERYTHMODA_ACCEPTED, "a picture of two pixels");
-    expect(memcmp(dst, expected, sizeof dst) == 0, "the picture's codes, and the places after them");
+    expect(memcmp(dst, KEPT_OUTPUT, sizeof dst) == 0, "a picture through a short table keeps the output");
 }
 
 /* Document 01 uses the numbers 0 to 18, 20 to 24 and 30, and document 02 adds 19. */
@@ -242,7 +318,10 @@ int main(void) {
     check_then_read();
     refused_check();
     look(&table);
+    refused_look(&table);
     picture(&table);
+    refused_picture(&table);
+    short_table(&table);
     expect(memcmp(&before, &table, sizeof table) == 0, "look and picture change neither description nor table");
     words();
     version();

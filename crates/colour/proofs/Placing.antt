@@ -33,7 +33,7 @@ place-fits {axis} {cells} a n code =
       part = rest-most _ (axis .den) (cells - 1) (a .wide) (rw whole (NatL.mul-le-mul-right cells (NatL.min-le-left (axis .den) _)));
     }
 
-pub place-is : (dom : Domain) (m n step c : ℕ)
-    → placeOf (axisOf dom m step) (n - 1) c ≡ record { index = index m dom n c; fraction = fraction m dom n c }
+pub place-is : (dom : Domain) (m q n step c : ℕ)
+    → placeOf (axisOf dom m q step) (n - 1) c ≡ record { index = index m dom n c; fraction = fraction m dom n c }
 unfolding placeOf index fraction position offset
-place-is dom m n step c = let two : n - 1 - 1 ≡ n - 2 = omega arith in rw two
+place-is dom m q n step c = let two : n - 1 - 1 ≡ n - 2 = omega arith in rw two

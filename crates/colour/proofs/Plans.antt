@@ -8,12 +8,12 @@ use native.Mathlib.Nat as NatL
 use native.Mathlib.Omega.{arith}
 use lib.IntN.{ℤ, natAbs}
 use Rattle.whole.proofs.Halves.{product-abs}
-use Rattle.rules.specs.Units.{depthsOf, sameBits, rawM, correctedM, sampleOne, sampleLimit, rowsOf, rowLimit, rowAt, stride}
+use Rattle.rules.specs.Units.{depthsOf, rawM, correctedM, sampleOne, sampleLimit, rowsOf, rowLimit, rowAt, stride}
 use Rattle.rules.specs.Descriptions.{rows, domain, width, couldBeRead, Sound, DomainFits}
-use Rattle.rules.specs.Looking.Interpolation.{den, denOf, positionOf, indexOf, fractionOf, rgb, climb, pathBy, pair, path, pairAt, codeBy}
+use Rattle.rules.specs.Looking.Interpolation.{den, denominator, denOf, positionOf, indexOf, fractionOf, rgb, climb, pathBy, pair, path, pairAt, codeBy}
 use Rattle.rules.specs.Looking.{six, shown, lineCode}
 use Rattle.rules.specs.Looking.Readings.{Reading}
-use Rattle.rules.specs.declared.Depth.{Depth}
+use Rattle.rules.specs.declared.Bits.{Bits}
 use Rattle.rules.specs.declared.Codes.{Codes}
 use Rattle.rules.specs.declared.Colour.{Colour}
 use Rattle.rules.specs.declared.Colour.the-variants.{Red, Green, Blue}
@@ -24,18 +24,20 @@ use Rattle.rules.specs.declared.Domain.{Domain}
 use Rattle.rules.specs.declared.Kind.{Kind}
 use Rattle.rules.specs.declared.Kind.the-variants.{OneD, ThreeD}
 use Rattle.rules.specs.declared.Shares.{Shares}
-use Rattle.rules.proofs.KnownDepths.{same-depths, depths-bounds}
+use Rattle.rules.proofs.KnownDepths.{depths-bounds}
 use Rattle.rules.proofs.Sound.{sound-of, wide-enough, rows-most, greatest-most}
 use Rattle.rules.proofs.Looking.Demand3 as D3
 use Rattle.rules.proofs.Looking.RowsAndWeights.{path-rows}
 use Rattle.colour.specs.Limits.{denLimit}
+use Rattle.colour.specs.Ratios.{ratioOf}
 use Rattle.colour.specs.Plans.{axisOf, planOf, axisIn, rowsIn, Readable, Planned}
 use Rattle.colour.specs.Places.{AxisFits, CellsFit, pairOf, stepOf, stepsOf, StepsFit, pathBySteps, shownBy}
-use Rattle.colour.specs.Adding.{Codable}
+use Rattle.colour.specs.Adding.{Codable, Coded}
 use Rattle.colour.specs.declared.plan.Plan.{Plan}
 use Rattle.colour.specs.declared.shares.Steps.{Steps}
 use Rattle.colour.proofs.Orders.{along-path}
 use Rattle.colour.proofs.Placing.{place-is}
+use Rattle.colour.proofs.Ratios.{ratio-known, crossed, all-fits}
 
 -- ---- a description that could have been read
 
@@ -49,29 +51,35 @@ module _ (dom : Domain) (fits : DomainFits dom) (m : ℕ) (most : m ≤ 65535) w
   pub den-most : den m dom ≤ denLimit
   den-most = NatL.mul-le-mul {n₂ = 65535} {m₂ = 10_000} most (fits .narrow)
 
-  pub low-most : natAbs (axisOf dom m 0 .low .0) ≤ denLimit
+  pub low-most : natAbs (axisOf dom m 0 0 .low .0) ≤ denLimit
   low-most = rw product-abs (NatL.mul-le-mul {n₂ = 65535} {m₂ = 10_000} most (fits .low))
 
 -- M times a bound or a sample
 pub times-m-most : (m : ℕ) (z : ℤ) → m < 65536 → natAbs z ≤ sampleLimit → m * natAbs z ≤ 65535 * sampleLimit
 times-m-most m z most h = NatL.mul-le-mul {n₂ = 65535} {m₂ = sampleLimit} (omega arith) h
 
--- ---- the plan of a call with one depth
+-- ---- the plan of a call
 
-pub one-depth : (bits : ℕ) (depths : Depths) → depthsOf (sameBits bits) ≡ Both depths → rawM depths ≡ correctedM depths
-one-depth bits depths known = ap (λ (m : Depth). m .greatest) (same-depths bits depths known)
-
-abbrev pub planned : (d : Description) {table : List ℤ} (bits : ℕ) {depths : Depths} {plan : Plan} → couldBeRead d table ≡ true
-    → depthsOf (sameBits bits) ≡ Both depths → plan ≡ planOf d depths → Planned plan table
+abbrev pub planned : (d : Description) {table : List ℤ} (bits : Bits) {depths : Depths} {plan : Plan} → couldBeRead d table ≡ true
+    → depthsOf bits ≡ Both depths → plan ≡ planOf d depths → Planned plan table
 planned d bits {depths = depths} could known is =
-    let deep = depths-bounds (sameBits bits) depths known .0 in
-    record { d = d; depths = depths; could = could; deep = deep .0; most = deep .1; one-depth = one-depth bits depths known; is = is }
+    let (raw, corrected) = depths-bounds bits depths known in
+    record {
+      d = d;
+      depths = depths;
+      could = could;
+      deep = raw .0;
+      most = raw .1;
+      corrected-most = corrected .1;
+      in-terms = ratio-known bits depths known;
+      is = is;
+    }
 
 -- ---- the axes of a plan
 
 -- what a plan says by its definition
 module _ (d : Description) (depths : Depths) where
-  pub axis-of : (c : Colour) → axisIn (planOf d depths) c ≡ axisOf (domain d c) (rawM depths) (stride (d .n) c)
+  pub axis-of : (c : Colour) → axisIn (planOf d depths) c ≡ axisOf (domain d c) (rawM depths) (ratioOf depths .bottom) (stride (d .n) c)
   axis-of Red = refl
   axis-of Green = refl
   axis-of Blue = refl
@@ -85,7 +93,8 @@ module _ (d : Description) (depths : Depths) where
   shown-of pixel OneD = rw (pairs-of Red (pixel .red), pairs-of Green (pixel .green), pairs-of Blue (pixel .blue))
   shown-of pixel ThreeD =
       let m = rawM depths in
-      rw (place-is (d .red) m (d .n) 1 (pixel .red), place-is (d .green) m (d .n) (d .n) (pixel .green), place-is (d .blue) m (d .n) (d .n * d .n) (pixel .blue), along-path (d .n) (denOf d m Red) (indexOf d m pixel) (fractionOf d m pixel))
+      let q = ratioOf depths .bottom in
+      rw (place-is (d .red) m q (d .n) 1 (pixel .red), place-is (d .green) m q (d .n) (d .n) (pixel .green), place-is (d .blue) m q (d .n) (d .n * d .n) (pixel .blue), along-path (d .n) (denOf d m Red) (indexOf d m pixel) (fractionOf d m pixel))
 
 module _ {plan : Plan} {table : List ℤ} (p : Planned plan table) where
   abbrev d : Description
@@ -93,6 +102,9 @@ module _ {plan : Plan} {table : List ℤ} (p : Planned plan table) where
 
   abbrev m : ℕ
   m = rawM (p .depths)
+
+  abbrev q : ℕ
+  q = ratioOf (p .depths) .bottom
 
   abbrev could-sound : Sound d table
   could-sound = sound-of d table (p .could)
@@ -105,11 +117,17 @@ module _ {plan : Plan} {table : List ℤ} (p : Planned plan table) where
   pub rows-are : rowsIn plan ≡ rows d
   rows-are = let n : suc (d .n - 1) ≡ d .n = omega (arith, could-sound .least) in ap rowsIn (p .is) ∙ ap (rowsOf (d .kind)) n
 
-  pub axis-is : (c : Colour) → axisIn plan c ≡ axisOf (domain d c) m (stride (d .n) c)
+  pub axis-is : (c : Colour) → axisIn plan c ≡ axisOf (domain d c) m q (stride (d .n) c)
   axis-is c = ap (λ x. axisIn x c) (p .is) ∙ axis-of d (p .depths) c
 
   pub den-is : (c : Colour) → axisIn plan c .den ≡ denOf d m c
   den-is c = ap (λ x. x .den) (axis-is c)
+
+  -- 3D has one D
+  pub one-den : plan .kind ≡ ThreeD → (c : Colour) → plan .red .den ≡ axisIn plan c .den
+  one-den e c =
+      let one = could-sound .one-domain (sym kind-is ∙ e) in
+      den-is Red ∙ ap (λ (x : Domain). m * width x) (one Red ∙ sym (one c)) ∙ sym (den-is c)
 
   pub cells-fit : CellsFit (plan .cells)
   cells-fit = rw (p .is) (record { some = omega (arith, could-sound .least); most = omega (arith, n-most could-sound) })
@@ -120,15 +138,23 @@ module _ {plan : Plan} {table : List ℤ} (p : Planned plan table) where
       rw (axis-is c)
       (record { low = low-most (domain d c) fits m (p .most); wide = NatL.mul-pos (p .deep) (wide-enough fits); most = den-most (domain d c) fits m (p .most) })
 
-  pub codable : (c : Colour) → Codable (axisIn plan c) (plan .depths)
+  pub codable : Coded plan (correctedM (p .depths))
   codable c =
       let fits = could-sound .domains c in
-      subst (λ x. Codable (axisIn x c) (x .depths)) (sym (p .is))
+      let w = width (domain d c) in
+      let u = w * sampleOne in
+      let over : denominator (den m (domain d c)) ≡ m * u = NatL.mul-assoc m w sampleOne in
+      let some : 0 < u = omega (arith, wide-enough fits) in
+      subst (λ x. Codable (x .times) (axisIn x c) (correctedM (p .depths))) (sym (p .is))
       (rw (axis-of d (p .depths) c)
       (record {
-        unit-fits =
-            record { above-0 = omega (arith, wide-enough fits); most = omega (arith, fits .narrow); deep = p .deep; deepest = p .most; one-depth = p .one-depth };
-        over = NatL.mul-assoc m (width (domain d c)) sampleOne;
+        full = refl;
+        wide = subst (λ x. 0 < x) (sym over) (NatL.mul-pos (p .deep) some);
+        in-terms = ap (λ x. ratioOf (p .depths) .top * x) over ∙ crossed (p .in-terms) u;
+        divisor = refl;
+        fits = subst (λ x. 2 * (ratioOf (p .depths) .top * x) + q * u < 4_611_686_018_427_387_904) (sym over) (all-fits (p .in-terms) u (omega (arith, fits .narrow)));
+        least = omega (arith, NatL.mul-le-mul-right u (p .in-terms .some), wide-enough fits);
+        deepest = p .corrected-most;
       }))
 
   -- ---- its rows and weights
@@ -170,5 +196,5 @@ module _ {plan : Plan} {table : List ℤ} (p : Planned plan table) where
     unfolding stepsOf stepOf
     steps-fit =
         subst (λ x. StepsFit (stepsOf x pixel)) (sym (p .is))
-        (rw (place-is (d .red) m (d .n) 1 (pixel .red), place-is (d .green) m (d .n) (d .n) (pixel .green), place-is (d .blue) m (d .n) (d .n * d .n) (pixel .blue))
+        (rw (place-is (d .red) m q (d .n) 1 (pixel .red), place-is (d .green) m q (d .n) (d .n) (pixel .green), place-is (d .blue) m q (d .n) (d .n * d .n) (pixel .blue))
         (record { end = end-most; most = den-most (d .red) (could-sound .domains Red) m (p .most); red = part Red; green = part Green; blue = part Blue }))

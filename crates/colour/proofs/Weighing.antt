@@ -1,6 +1,6 @@
 -- Rows and weights that may be weighed have a sum that fits an i64, and its code is that of the definition; the rows and weights of a pixel may be
 -- weighed, and their codes are the corrected ones.
-use Prim.Native.Nat.{ℕ, _+_, _*_, _≤_, _<_}
+use Prim.Native.Nat.{ℕ, _+_, _*_, _<_}
 use mathlib.Core.Path.{_≡_, refl, sym, ap, ap₂, subst, _∙_}
 use mathlib.Core.List.{List, [], _∷_}
 use native.Mathlib.Omega.{arith}
@@ -16,20 +16,19 @@ use Rattle.rules.specs.Demands.{Each, used}
 use Rattle.rules.specs.declared.Codes.{Codes}
 use Rattle.rules.specs.declared.Colour.{Colour}
 use Rattle.rules.specs.declared.Colour.the-variants.{Red, Green, Blue}
-use Rattle.rules.specs.declared.Depths.{Depths}
 use Rattle.rules.specs.declared.Description.{Description}
 use Rattle.rules.specs.declared.Kind.{Kind}
+use Rattle.rules.specs.declared.Kind.the-variants.{ThreeD}
 use Rattle.rules.specs.declared.Share.{Share}
 use Rattle.rules.specs.declared.Shares.{Shares}
 use Rattle.rules.proofs.Colours.{place-below}
 use Rattle.rules.proofs.Sound.{sound-of}
 use Rattle.rules.proofs.Looking.Demand3.{right, used-shown}
-use Rattle.colour.specs.Limits.{sumLimit}
 use Rattle.colour.specs.Plans.{axisIn, rowsIn, Planned}
 use Rattle.colour.specs.Adding.{RowAt, carried, SharesFit, Totalled, Weighable, Codable}
 use Rattle.colour.specs.declared.plan.Axis.{Axis}
 use Rattle.colour.specs.declared.plan.Plan.{Plan}
-use Rattle.colour.proofs.Plans.{kind-is, rows-are, axis-of, den-is, axis-fits}
+use Rattle.colour.proofs.Plans.{kind-is, rows-are, axis-of, den-is, one-den, axis-fits, codable}
 use Rattle.colour.proofs.Totals.{each-colour}
 
 -- ---- rows of the table, and weights that come to D
@@ -64,16 +63,9 @@ shares-fit {plan} {table} {c} {ss} p w =
 -- ---- the code of a sum
 
 module _ {table : List ℤ} {c : Colour} {ss : List Share} {z : ℤ} (t : Totalled table c ss z) where
-  pub sum-most : SharesFit table ss → natAbs z ≤ sumLimit
-  sum-most f = omega (arith, t .within, f .weights)
-
-  -- D·10,000,000 is the M of raw codes times the unit
-  pub sum-code : {axis : Axis} {depths : Depths} {r : ℕ} → Codable axis depths
-      → r ≡ code (pos (correctedM depths) *ℤ z) (rawM depths * axis .unit) (correctedM depths) → r ≡ codeBy (correctedM depths) (axis .den) table c ss
+  pub sum-code : {p : ℕ} {axis : Axis} {m r : ℕ} → Codable p axis m → r ≡ code (pos m *ℤ z) (axis .full) m → r ≡ codeBy m (axis .den) table c ss
   unfolding codeBy
-  sum-code {depths = depths} a e =
-      let m = correctedM depths in
-      e ∙ ap₂ (λ x y. code (pos m *ℤ x) y m) (t .is) (sym (a .over))
+  sum-code {m = m} a e = e ∙ ap₂ (λ x y. code (pos m *ℤ x) y m) (t .is) (a .full)
 
 -- ---- by the kind that the plan has
 
@@ -81,9 +73,16 @@ module _ {plan : Plan} {table : List ℤ} {k : Kind} (p : Planned plan table) (s
   pub kind-fit : ((c : Colour) → Weighable table c (rowsIn plan) (axisIn plan c .den) (used (plan .kind) c shares)) → (c : Colour) → SharesFit table (used k c shares)
   kind-fit w c = subst (λ x. SharesFit table (used x c shares)) e (shares-fit p (w c))
 
-  pub kind-codes : {r : Codes} → ((c : Colour) → codeIn r c ≡ codeBy (correctedM (plan .depths)) (axisIn plan c .den) table c (used k c shares))
-      → (c : Colour) → codeIn r c ≡ codeBy (correctedM (plan .depths)) (axisIn plan c .den) table c (used (plan .kind) c shares)
-  kind-codes h c = h c ∙ ap (λ x. codeBy (correctedM (plan .depths)) (axisIn plan c .den) table c (used x c shares)) (sym e)
+  pub kind-codes : {r : Codes} → ((c : Colour) → codeIn r c ≡ codeBy (correctedM (p .depths)) (axisIn plan c .den) table c (used k c shares))
+      → (c : Colour) → codeIn r c ≡ codeBy (correctedM (p .depths)) (axisIn plan c .den) table c (used (plan .kind) c shares)
+  kind-codes h c = h c ∙ ap (λ x. codeBy (correctedM (p .depths)) (axisIn plan c .den) table c (used x c shares)) (sym e)
+
+  -- 3D: the three colours have one D, so that the red axis serves them all
+  pub cube-codes : {r : Codes} {z : Colour → ℤ} → k ≡ ThreeD → ((c : Colour) → Totalled table c (used k c shares) (z c))
+      → let m = correctedM (p .depths) in ((c : Colour) → codeIn r c ≡ code (pos m *ℤ z c) (plan .red .full) m)
+      → (c : Colour) → codeIn r c ≡ codeBy m (axisIn plan c .den) table c (used k c shares)
+  cube-codes three t h c =
+      sum-code (t c) (codable p Red) (h c) ∙ ap (λ x. codeBy (correctedM (p .depths)) x table c (used k c shares)) (one-den p (e ∙ three) c)
 
 -- ---- what is shown of a pixel
 
@@ -99,7 +98,7 @@ module _ {plan : Plan} {table : List ℤ} (p : Planned plan table) (pixel : Code
       (rw (rows-are p, den-is p c, e) (record { in-table = r .in-table; not-negative = r .not-negative; add-up = r .add-up }))
 
   -- the codes made of it are the corrected ones
-  pub shown-corrects : {r : Codes} → ((c : Colour) → codeIn r c ≡ codeBy (correctedM (plan .depths)) (axisIn plan c .den) table c (used (plan .kind) c shares))
+  pub shown-corrects : {r : Codes} → ((c : Colour) → codeIn r c ≡ codeBy (correctedM (p .depths)) (axisIn plan c .den) table c (used (plan .kind) c shares))
       → r ≡ correct (p .d) table (p .depths) pixel
   shown-corrects {r} h = same-codes r (correct (p .d) table (p .depths) pixel) (each-colour _ (by Red) (by Green) (by Blue))
     where
@@ -109,6 +108,6 @@ module _ {plan : Plan} {table : List ℤ} (p : Planned plan table) (pixel : Code
       by : (c : Colour) → codeIn r c ≡ codeBy m (denOf (p .d) (rawM (p .depths)) c) table c (sharesFor (p .d) (rawM (p .depths)) pixel (p .d .kind) c)
       by c =
           h c
-          ∙ ap (λ x. codeBy (correctedM (x .depths)) (axisIn x c .den) table c (used (x .kind) c shares)) (p .is)
+          ∙ ap (λ x. codeBy m (axisIn x c .den) table c (used (x .kind) c shares)) (p .is)
           ∙ ap (λ x. codeBy m (x .den) table c (used (p .d .kind) c shares)) (axis-of (p .d) (p .depths) c)
           ∙ ap (codeBy m (denOf (p .d) (rawM (p .depths)) c) table c) (ap (used (p .d .kind) c) e ∙ used-shown (p .d) (rawM (p .depths)) pixel (p .d .kind) c)

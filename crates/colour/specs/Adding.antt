@@ -6,15 +6,17 @@ use lib.IntN.{ℤ, pos, natAbs, _+ℤ_, _*ℤ_}
 use lib.ListN.{length, getD}
 use lib.Signed.{_≤ℤ_}
 use Rattle.whole.specs.Nearest.{weights}
-use Rattle.rules.specs.Units.{sampleLimit, rawM, correctedM, colourPlace, sampleAt}
+use Rattle.whole.specs.Reciprocals.{divisorOf}
+use Rattle.rules.specs.Units.{sampleLimit, colourPlace, sampleAt}
 use Rattle.rules.specs.Looking.Interpolation.{weighed, total, denominator}
 use Rattle.rules.specs.Demands.{Each}
 use Rattle.rules.specs.declared.Colour.{Colour}
 use Rattle.rules.specs.declared.Colour.the-variants.{Red, Green, Blue}
-use Rattle.rules.specs.declared.Depths.{Depths}
 use Rattle.rules.specs.declared.Share.{Share}
-use Rattle.colour.specs.Limits.{denLimit, unitLimit, sumLimit}
+use Rattle.colour.specs.Limits.{denLimit, sumLimit}
+use Rattle.colour.specs.Plans.{axisIn}
 use Rattle.colour.specs.declared.plan.Axis.{Axis}
+use Rattle.colour.specs.declared.plan.Plan.{Plan}
 use Rattle.colour.specs.declared.sums.Sums.{Sums}
 
 -- ---- one term more
@@ -67,15 +69,17 @@ pub record Weighable (table : List ℤ) (c : Colour) (count den : ℕ) (ss : Lis
 
 -- ---- and divided
 
--- what S is divided by, at depths that are one
-pub record UnitFits (unit : ℕ) (depths : Depths) : Type 0 where
-  pub above-0 : 0 < unit
-  pub most : unit ≤ unitLimit
-  pub deep : 0 < rawM depths
-  pub deepest : rawM depths ≤ 65535
-  pub one-depth : rawM depths ≡ correctedM depths
+-- an axis by which p·S over its unit, S moved into 0 to D·10,000,000, is m·S over D·10,000,000, for codes up to m
+pub record Codable (p : ℕ) (axis : Axis) (m : ℕ) : Type 0 where
+  pub full : axis .full ≡ denominator (axis .den)
+  pub wide : 0 < axis .full
+  pub in-terms : p * axis .full ≡ m * axis .unit
+  pub divisor : axis .divisor ≡ divisorOf (2 * axis .unit)
+  -- what is divided and what it is divided by are as a reciprocal asks for
+  pub fits : 2 * (p * axis .full) + axis .unit < 4_611_686_018_427_387_904
+  pub least : 8_388_608 ≤ axis .unit
+  pub deepest : m ≤ 65535
 
--- an axis whose unit makes codes over its D
-pub record Codable (axis : Axis) (depths : Depths) : Type 0 where
-  pub unit-fits : UnitFits (axis .unit) depths
-  pub over : denominator (axis .den) ≡ rawM depths * axis .unit
+-- each axis of a plan
+abbrev pub Coded : Plan → ℕ → Type 0
+Coded plan m = (c : Colour) → Codable (plan .times) (axisIn plan c) m

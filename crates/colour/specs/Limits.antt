@@ -5,9 +5,12 @@ use Prim.Native.Nat.{ℕ}
 abbrev pub denLimit : ℕ
 denLimit = 655_350_000
 
--- the largest number that S is divided by: 10,000·10,000,000
-abbrev pub unitLimit : ℕ
-unitLimit = 100_000_000_000
+-- of the two M in lowest terms, p / q for corrected over raw: the largest q, and the largest p times the M of raw codes; both are those of 10 and 16 bits
+abbrev pub bottomLimit : ℕ
+bottomLimit = 21_845
+
+abbrev pub productLimit : ℕ
+productLimit = 22_347_435
 
 -- the largest S: that times the limit of a sample
 abbrev pub sumLimit : ℕ

@@ -4,31 +4,40 @@ use mathlib.Core.Path.{_≡_}
 use mathlib.Core.Bool.{true}
 use mathlib.Core.List.{List}
 use lib.IntN.{ℤ, pos, _*ℤ_}
+use Rattle.whole.specs.Reciprocals.{divisorOf}
 use Rattle.rules.specs.Units.{sampleOne, rawM, correctedM, rowsOf, stride}
 use Rattle.rules.specs.Descriptions.{width, couldBeRead}
-use Rattle.rules.specs.Looking.Interpolation.{den}
+use Rattle.rules.specs.Looking.Interpolation.{den, denominator}
 use Rattle.rules.specs.declared.Colour.{Colour}
 use Rattle.rules.specs.declared.Colour.the-variants.{Red, Green, Blue}
 use Rattle.rules.specs.declared.Depths.{Depths}
 use Rattle.rules.specs.declared.Description.{Description}
 use Rattle.rules.specs.declared.Domain.{Domain}
+use Rattle.colour.specs.Ratios.{ratioOf, InTerms}
 use Rattle.colour.specs.declared.plan.Axis.{Axis}
 use Rattle.colour.specs.declared.plan.Plan.{Plan}
 
 -- ---- what is kept
 
--- of a domain, at the M of raw codes: lo·M, D and w·10,000,000; one index up along the axis is so many rows up
-abbrev pub axisOf : Domain → ℕ → ℕ → Axis
-axisOf dom m step = record { low = record { 0 = pos m *ℤ dom .lower .0 }; den = den m dom; unit = width dom * sampleOne; stride = step }
+-- of a domain, at the M of raw codes: lo·M, D, D·10,000,000 and, with q of p / q, q·w·10,000,000 and its double; one index up along the axis is so many rows up
+abbrev pub axisOf : Domain → ℕ → ℕ → ℕ → Axis
+axisOf dom m q step = record {
+  low = record { 0 = pos m *ℤ dom .lower .0 };
+  den = den m dom;
+  full = denominator (den m dom);
+  unit = q * (width dom * sampleOne);
+  divisor = divisorOf (2 * (q * (width dom * sampleOne)));
+  stride = step;
+}
 
 abbrev pub planOf : Description → Depths → Plan
 planOf d depths = record {
   kind = d .kind;
   cells = d .n - 1;
-  red = axisOf (d .red) (rawM depths) (stride (d .n) Red);
-  green = axisOf (d .green) (rawM depths) (stride (d .n) Green);
-  blue = axisOf (d .blue) (rawM depths) (stride (d .n) Blue);
-  depths = depths;
+  red = axisOf (d .red) (rawM depths) (ratioOf depths .bottom) (stride (d .n) Red);
+  green = axisOf (d .green) (rawM depths) (ratioOf depths .bottom) (stride (d .n) Green);
+  blue = axisOf (d .blue) (rawM depths) (ratioOf depths .bottom) (stride (d .n) Blue);
+  times = ratioOf depths .top;
 }
 
 abbrev pub axisIn : Plan → Colour → Axis
@@ -53,8 +62,8 @@ pub record Planned (plan : Plan) (table : List ℤ) : Type 0 where
   pub could : couldBeRead d table ≡ true
   pub deep : 0 < rawM depths
   pub most : rawM depths ≤ 65535
-  -- raw and corrected codes have one depth: that alone is why the short division suffices
-  pub one-depth : rawM depths ≡ correctedM depths
+  pub corrected-most : correctedM depths ≤ 65535
+  pub in-terms : InTerms (ratioOf depths) depths
   pub is : plan ≡ planOf d depths
 
 -- with some table

@@ -23,7 +23,7 @@ use sums::cube_sums;
 ghost use mathlib.Core.Path.{_≡_};
 ghost use mathlib.Core.List.{List};
 ghost use lib.IntN.{ℤ};
-ghost use Rattle.rules.specs.Units.{rawM, correctedM, sameBits, codeIn};
+ghost use Rattle.rules.specs.Units.{rawM, correctedM, codeIn};
 ghost use Rattle.rules.specs.Looking.Interpolation.{codeBy};
 ghost use Rattle.rules.specs.Looking.{within, shown, correct};
 ghost use Rattle.rules.specs.Demands.{used};
@@ -34,6 +34,7 @@ ghost use Rattle.colour.specs.Adding.{Weighable};
 mod codes;
 mod place;
 mod plan;
+mod ratio;
 mod rows;
 mod shares;
 mod sums;
@@ -54,12 +55,12 @@ fn shares_of(plan: Plan, pixel: Codes) -> Shares
 fn codes_of(plan: Plan, table: &[i64], shares: Shares) -> Codes
     requires { ⌜ Planned plan (now table) ⌝ }
     requires { ⌜ ((c : Colour) → Weighable (now table) c (rowsIn plan) (axisIn plan c .den) (used (plan .kind) c shares)) ⌝ }
-    ensures { λ r. ⌜ ((c : Colour) → codeIn r c ≡ codeBy (correctedM (plan .depths)) (axisIn plan c .den) (now (table .entry)) c (used (plan .kind) c shares)) ⌝ }
+    ensures { λ r. ⌜ ((p : Planned plan (now (table .entry))) (c : Colour) → codeIn r c ≡ codeBy (correctedM (p .depths)) (axisIn plan c .den) (now (table .entry)) c (used (plan .kind) c shares)) ⌝ }
 {
     let kind = plan.kind;
     match kind {
         Kind::OneD => line_codes(plan, table, shares),
-        Kind::ThreeD => codes_by(plan, cube_sums(table, shares)),
+        Kind::ThreeD => codes_by(plan.times, plan.red, cube_sums(table, shares)),
     }
 }
 
@@ -72,7 +73,10 @@ pub fn correct(plan: Plan, table: &[i64], pixel: Codes) -> Codes
     let kind = plan.kind;
     match kind {
         Kind::OneD => line_codes(plan, table, line(plan, pixel)),
-        Kind::ThreeD => codes_by(plan, cube_sums(table, path_by(steps_of(plan, pixel)))),
+        Kind::ThreeD => {
+            let sums = cube_sums(table, path_by(steps_of(plan, pixel)));
+            codes_by(plan.times, plan.red, sums)
+        }
     }
 }
 
@@ -92,14 +96,14 @@ fn codes_within(m: u16, pixel: Codes) -> bool
     blue <= m
 }
 
-// The checks run 24, 20, 23.
-pub fn look(d: Description, table: &[i64], bits: u32, pixel: Codes) -> Look
-    ensures { λ r. ⌜ Looks d (now (table .entry)) (sameBits bits) pixel r ⌝ }
+// The checks run 24, 20 for the raw depth and then for the corrected one, 23.
+pub fn look(d: Description, table: &[i64], bits: Bits, pixel: Codes) -> Look
+    ensures { λ r. ⌜ Looks d (now (table .entry)) bits pixel r ⌝ }
 {
     if !could_be_read(d, table) {
         return Look::Refused(Refusal::CouldNotBeRead);
     }
-    let DepthsFound::Both(depths) = Depths::of(Bits::same(bits)) else {
+    let DepthsFound::Both(depths) = Depths::of(bits) else {
         return Look::Refused(Refusal::DepthUnknown);
     };
     let raw = depths.raw;

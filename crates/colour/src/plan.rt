@@ -1,15 +1,19 @@
 // A plan: what of a description and the depths is the same for every pixel, made once.
+use crate::ratio::ratio_of;
 use rules::Depths;
 use rules::Description;
 use rules::Domain;
 use rules::Kind;
 use rules::TenMillionths;
+use whole::Divisor;
 use whole::Whole;
 ghost use mathlib.Core.Path.{_≡_};
-ghost use Prim.Native.Nat.{_≤_};
+ghost use Prim.Native.Nat.{_≤_, _<_};
 ghost use lib.IntN.{pos, natAbs, _*ℤ_};
 ghost use Rattle.rules.specs.Units.{sampleLimit};
 ghost use Rattle.rules.specs.Descriptions.{width, DomainFits};
+ghost use Rattle.colour.specs.Limits.{bottomLimit};
+ghost use Rattle.colour.specs.Ratios.{ratioOf, InTerms};
 ghost use Rattle.colour.specs.Plans.{axisOf, planOf, Readable};
 
 // One colour's axis.
@@ -18,8 +22,12 @@ pub struct Axis {
     pub low: Whole,
     // D, over which the colour's fraction is.
     pub den: u64,
-    // D / M · 10,000,000, with the same M: what S is divided by where the two depths are one.
+    // D·10,000,000: an S so great is the value 1.
+    pub full: u64,
+    // q·w·10,000,000, over which p·S is the corrected code, p / q being the ratio of the two M.
     pub unit: u64,
+    // Twice the unit, which the nearest code of every colour of every pixel is divided by.
+    pub divisor: Divisor,
     // One index up is so many rows up.
     pub stride: usize,
 }
@@ -31,7 +39,8 @@ pub struct Plan {
     pub red: Axis,
     pub green: Axis,
     pub blue: Axis,
-    pub depths: Depths,
+    // p.
+    pub times: u64,
 }
 
 // w, the width of a domain, in thousandths.
@@ -54,22 +63,29 @@ pub fn times_m(m: u16, value: Whole) -> Whole
     Whole::of(m as u64).times(value)
 }
 
-fn axis_of(dom: Domain, m: u16, stride: usize) -> Axis
+fn axis_of(dom: Domain, m: u16, q: u64, stride: usize) -> Axis
     requires { ⌜ DomainFits dom ⌝ }
-    ensures { λ r. ⌜ r ≡ axisOf dom m stride ⌝ }
+    requires { ⌜ 0 < q ⌝ }
+    requires { ⌜ q ≤ bottomLimit ⌝ }
+    ensures { λ r. ⌜ r ≡ axisOf dom m q stride ⌝ }
 {
     let lower = dom.lower;
     let w = width_of(dom);
+    let den = m as u64 * w;
+    let unit = q * (w * TenMillionths::ONE);
     Axis {
         low: times_m(m, Whole(lower.0)),
-        den: m as u64 * w,
-        unit: w * TenMillionths::ONE,
+        den,
+        full: den * TenMillionths::ONE,
+        unit,
+        divisor: Divisor::of(2 * unit),
         stride,
     }
 }
 
 pub fn plan_of(d: Description, depths: Depths) -> Plan
     requires { ⌜ Readable d ⌝ }
+    requires { ⌜ InTerms (ratioOf depths) depths ⌝ }
     ensures { λ r. ⌜ r ≡ planOf d depths ⌝ }
 {
     let kind = d.kind;
@@ -77,12 +93,14 @@ pub fn plan_of(d: Description, depths: Depths) -> Plan
     let square = n * n;
     let raw = depths.raw;
     let m = raw.greatest();
+    let ratio = ratio_of(depths);
+    let q = ratio.bottom;
     Plan {
         kind,
         cells: n - 1,
-        red: axis_of(d.red, m, 1),
-        green: axis_of(d.green, m, n),
-        blue: axis_of(d.blue, m, square),
-        depths,
+        red: axis_of(d.red, m, q, 1),
+        green: axis_of(d.green, m, q, n),
+        blue: axis_of(d.blue, m, q, square),
+        times: ratio.top,
     }
 }

@@ -1,9 +1,9 @@
 // What the command says of itself.
 use desk::write;
 
-// As `erythmoda 0.3.0`; tests hold it to the version of the header.
+// As `erythmoda 1.0.0`; tests hold it to the version of the header.
 pub fn version(fd: i32) -> bool {
-    write(fd, b"erythmoda 0.3.0\n")
+    write(fd, b"erythmoda 1.0.0\n")
 }
 
 // What there is, with an example of each.
@@ -25,7 +25,7 @@ pub fn help(fd: i32) -> bool {
         && write(fd, b"erythmoda correct table.cube < in.ppm > out.ppm\n")
         && write(
             fd,
-            b"    a binary PPM picture of 8, 10, 12 or 16 bits, corrected by the table\n",
+            b"    a binary PPM picture of 8, 10, 12 or 16 bits, corrected by the table, in the same depth or another one\n",
         )
         && write(fd, b"erythmoda VERB --help, erythmoda --version\n\n")
         && write(

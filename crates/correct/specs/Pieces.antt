@@ -9,45 +9,55 @@ use lib.ListN.{length, take}
 use Rattle.rules.specs.Descriptions.{couldBeRead}
 use Rattle.rules.specs.Reading.Lines.{run}
 use Rattle.rules.specs.Picturing.{corrected}
-use Rattle.rules.specs.Units.{depthOf, sameBits}
-use Rattle.rules.specs.declared.DepthFound.the-variants.{Known}
+use Rattle.rules.specs.Units.{depthsOf, bitsOf}
+use Rattle.rules.specs.declared.Bits.{Bits}
+use Rattle.rules.specs.declared.Depths.{Depths}
+use Rattle.rules.specs.declared.DepthsFound.the-variants.{Both}
 use Rattle.rules.specs.declared.Description.{Description}
 use Rattle.ppm.specs.Header.{mostSize}
-use Rattle.ppm.specs.Raster.{bytesOf, codeCount, codesOf}
+use Rattle.ppm.specs.Raster.{bytesOf, byteCount, codeCount, codesOf}
 use Rattle.ppm.specs.Scales.{depthIn}
-use Rattle.ppm.specs.declared.depth.Scale.{Scale}
 use Rattle.desk.specs.declared.outcomes.Outcome.{Outcome}
 use Rattle.desk.specs.declared.outcomes.Outcome.the-variants.{Done, Refused, Failed}
 use Rattle.correct.specs.declared.pieces.Passed.{Passed}
 use Rattle.correct.specs.declared.pieces.Passed.the-variants.{Whole, Ends, TooGreat, Unread, Unwritten}
 use Rattle.correct.specs.declared.pieces.Piece.{Piece}
+use Rattle.correct.specs.declared.pieces.Scales.{Scales}
 
 -- the bytes of a pixel
 abbrev pub pixelBytes : Bool → ℕ
 pixelBytes false = 3
 pixelBytes true = 6
 
--- a table that was read, at a known depth
-pub record Readable (d : Description) (table : List ℤ) (s : Scale) : Type 0 where
-  pub could : couldBeRead d table ≡ true
-  pub known : depthOf (s .bits) ≡ Known (depthIn s)
+-- the depths of the picture and of the output
+abbrev pub bitsIn : Scales → Bits
+bitsIn s = bitsOf (s .raw .bits) (s .corrected .bits)
 
--- room for the codes that n bytes are, raw and corrected
-pub record Room (s : Scale) (n bytes raw corrected : ℕ) : Type 0 where
+abbrev pub depthsIn : Scales → Depths
+depthsIn s = record { raw = depthIn (s .raw); corrected = depthIn (s .corrected) }
+
+-- a table that was read, at known depths
+pub record Readable (d : Description) (table : List ℤ) (s : Scales) : Type 0 where
+  pub could : couldBeRead d table ≡ true
+  pub known : depthsOf (bitsIn s) ≡ Both (depthsIn s)
+
+-- room for the codes that n bytes are, raw and corrected, and for the bytes that those are
+pub record Room (s : Scales) (n bytes raw corrected : ℕ) : Type 0 where
   pub there : n ≤ bytes
-  pub for-raw : codeCount (s .wide) n ≤ raw
+  pub for-raw : codeCount (s .raw .wide) n ≤ raw
   pub for-corrected : raw ≤ corrected
+  pub for-bytes : byteCount (s .corrected .wide) (codeCount (s .raw .wide) n) ≤ bytes
 
 -- how many whole pixels stand before the first code above m
 abbrev pub pixelsWithin : ℕ → List ℕ → ℕ
 pixelsWithin m codes = length (run (λ c. leb c m) codes) / 3
 
 -- the first bytes are the corrected pixels of the input, as many as stand before the first with a code above the greatest
-pub record Corrects (d : Description) (table : List ℤ) (s : Scale) (input : List ℕ) (r : Piece) (bytes : List ℕ) : Type 0 where
-  pub pixels : r .pixels ≡ pixelsWithin (s .greatest) (codesOf (s .wide) input)
+pub record Corrects (d : Description) (table : List ℤ) (s : Scales) (input : List ℕ) (r : Piece) (bytes : List ℕ) : Type 0 where
+  pub pixels : r .pixels ≡ pixelsWithin (s .raw .greatest) (codesOf (s .raw .wide) input)
   pub few : r .pixels ≤ length input
   pub inside : r .bytes ≤ length bytes
-  pub made : take (r .bytes) bytes ≡ bytesOf (s .wide) (corrected d table (sameBits (s .bits)) (take (r .pixels * 3) (codesOf (s .wide) input)))
+  pub made : take (r .bytes) bytes ≡ bytesOf (s .corrected .wide) (corrected d table (bitsIn s) (take (r .pixels * 3) (codesOf (s .raw .wide) input)))
 
 -- ---- sizes
 

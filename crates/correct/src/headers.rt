@@ -63,14 +63,14 @@ pub fn read() -> Heading
     read_into(&mut bytes)
 }
 
-// The header in its plainest form; comments are left out.
-pub fn write(frame: Frame) -> bool {
+// The header in its plainest form, with the output's maxval; comments are left out.
+pub fn write(frame: Frame, maxval: u64) -> bool {
     io::write_all(STDOUT_FILENO, b"P6\n")
         && io::print_decimal(STDOUT_FILENO, frame.width)
         && io::write_all(STDOUT_FILENO, b" ")
         && io::print_decimal(STDOUT_FILENO, frame.height)
         && io::write_all(STDOUT_FILENO, b"\n")
-        && io::print_decimal(STDOUT_FILENO, frame.maxval)
+        && io::print_decimal(STDOUT_FILENO, maxval)
         && io::write_all(STDOUT_FILENO, b"\n")
 }
 

@@ -3,14 +3,17 @@ mod headers;
 mod pieces;
 mod words;
 
+use desk::Last;
 use desk::Loaded;
 use desk::Outcome;
 use desk::load_argument;
+use desk::option_at;
 use desk::say_unread;
 use desk::say_unwritten;
 use desk::write;
 use headers::Heading;
 use libc::STDERR_FILENO;
+use pieces::Scales;
 use pieces::has_room;
 use pieces::outcome_of;
 use pieces::pass_all;
@@ -18,6 +21,7 @@ use ppm::Frame;
 use ppm::Header;
 use ppm::ScaleFound;
 use ppm::scale_of;
+use rules::Depth;
 use rules::Description;
 pub use words::help;
 ghost use mathlib.Core.Path.{_≡_};
@@ -25,13 +29,27 @@ ghost use mathlib.Core.Bool.{true};
 ghost use lib.ListN.{length};
 ghost use Rattle.rules.specs.Descriptions.{couldBeRead};
 ghost use Rattle.ppm.specs.Header.{SizedFrame};
+ghost use Rattle.correct.specs.Headers.{maxvalWanted};
 ghost use Rattle.correct.specs.Pieces.{Buffers};
 
-// The pixels after a header that stands; nothing is written before the depth is known.
+// The output's maxval: the picture's, where no other is wanted; one above all depths is none of theirs.
+fn maxval_wanted(wanted: Last, picture: u64) -> u64
+    ensures { λ r. ⌜ r ≡ maxvalWanted wanted picture ⌝ }
+{
+    match wanted {
+        Last::Number(n) => n,
+        Last::TooGreat => 65_536,
+        Last::Nothing => picture,
+        Last::Unclear => picture,
+    }
+}
+
+// The pixels after a header that stands; nothing is written before both depths are known, the picture's and the output's.
 fn correct_pixels(
     d: Description,
     table: &[i64],
     frame: Frame,
+    wanted: Last,
     bytes: &mut [u8],
     raw: &mut [u16],
     corrected: &mut [u16],
@@ -40,18 +58,26 @@ fn correct_pixels(
     requires { ⌜ SizedFrame frame ⌝ }
     requires { ⌜ Buffers (length (now bytes)) (length (now raw)) (length (now corrected)) ⌝ }
 {
-    let ScaleFound::Known(scale) = scale_of(frame.maxval) else {
+    let ScaleFound::Known(raw_scale) = scale_of(frame.maxval) else {
         words::say_maxval(frame.maxval);
         return Outcome::Refused;
     };
-    if !headers::write(frame) {
+    let maxval = maxval_wanted(wanted, frame.maxval);
+    let ScaleFound::Known(corrected_scale) = scale_of(maxval) else {
+        words::say_wanted();
+        return Outcome::Refused;
+    };
+    if !headers::write(frame, maxval) {
         say_unwritten(b"erythmoda correct");
         return Outcome::Failed;
     }
     let passed = pass_all(
         d,
         table,
-        scale,
+        Scales {
+            raw: raw_scale,
+            corrected: corrected_scale,
+        },
         headers::pixels(frame),
         bytes,
         raw,
@@ -65,6 +91,7 @@ fn correct_pixels(
 fn correct_input(
     d: Description,
     table: &[i64],
+    wanted: Last,
     bytes: &mut [u8],
     raw: &mut [u16],
     corrected: &mut [u16],
@@ -82,7 +109,9 @@ fn correct_input(
                 words::say_wrong(fault);
                 Outcome::Refused
             }
-            Header::Stands(frame) => correct_pixels(d, table, frame, bytes, raw, corrected),
+            Header::Stands(frame) => {
+                correct_pixels(d, table, frame, wanted, bytes, raw, corrected)
+            }
         },
     }
 }
@@ -91,6 +120,7 @@ fn correct_input(
 fn correct_by(
     file: &mut [u8],
     table: &mut [i64],
+    wanted: Last,
     bytes: &mut [u8],
     raw: &mut [u16],
     corrected: &mut [u16],
@@ -101,7 +131,7 @@ fn correct_by(
         Loaded::Table {
             description,
             bytes: _,
-        } => correct_input(description, table, bytes, raw, corrected),
+        } => correct_input(description, table, wanted, bytes, raw, corrected),
         Loaded::Refused => Outcome::Refused,
         Loaded::Unread => Outcome::Failed,
     }
@@ -115,7 +145,8 @@ pub fn correct(
     raw: &mut [u16],
     corrected: &mut [u16],
 ) -> Outcome {
-    if os::arg_count() != 3 {
+    let wanted = option_at(3, b"--maxval", Depth::BITS_16 as u64);
+    if let Last::Unclear = wanted {
         help(STDERR_FILENO);
         return Outcome::Failed;
     }
@@ -126,5 +157,5 @@ pub fn correct(
         );
         return Outcome::Failed;
     }
-    correct_by(file, table, bytes, raw, corrected)
+    correct_by(file, table, wanted, bytes, raw, corrected)
 }

@@ -9,6 +9,7 @@ use ppm::Scale;
 use ppm::bytes_from;
 use ppm::codes_from;
 use ppm::count_within;
+use rules::Bits;
 use rules::Description;
 ghost use mathlib.Core.Path.{_≡_};
 ghost use Prim.Native.Nat.{_≤_, min};
@@ -35,6 +36,12 @@ pub fn outcome_of(passed: Passed) -> Outcome
         Passed::Unread(_) => Outcome::Failed,
         Passed::Unwritten => Outcome::Failed,
     }
+}
+
+// What maxval says of the codes, of the picture and of the output.
+pub struct Scales {
+    pub raw: Scale,
+    pub corrected: Scale,
 }
 
 // How many pixels of a piece were corrected, and how many bytes those are.
@@ -64,23 +71,28 @@ pub fn has_room(bytes: usize, raw: usize, corrected: usize) -> bool
 fn correct_piece(
     d: Description,
     table: &[i64],
-    scale: Scale,
+    scales: Scales,
     bytes: &mut [u8],
     n: usize,
     raw: &mut [u16],
     corrected: &mut [u16],
 ) -> Piece
-    requires { ⌜ Readable d (now table) scale ⌝ }
-    requires { ⌜ Room scale n (length (now bytes)) (length (now raw)) (length (now corrected)) ⌝ }
-    ensures corrects { λ r. ⌜ Corrects d (now (table .entry)) scale (take n (now (bytes .entry))) r (now (bytes .exit)) ⌝ }
+    requires { ⌜ Readable d (now table) scales ⌝ }
+    requires { ⌜ Room scales n (length (now bytes)) (length (now raw)) (length (now corrected)) ⌝ }
+    ensures corrects { λ r. ⌜ Corrects d (now (table .entry)) scales (take n (now (bytes .entry))) r (now (bytes .exit)) ⌝ }
     ensures few { λ r. ⌜ r .pixels ≤ n ⌝ }
 {
-    let wide = scale.wide;
-    let count = codes_from(&bytes[..n], wide, &mut *raw);
-    let pixels = count_within(&raw[..count], scale.greatest) / 3;
+    let of_raw = scales.raw;
+    let of_corrected = scales.corrected;
+    let count = codes_from(&bytes[..n], of_raw.wide, &mut *raw);
+    let pixels = count_within(&raw[..count], of_raw.greatest) / 3;
     let codes = pixels * 3;
-    picture(d, table, scale.bits, &raw[..codes], &mut *corrected);
-    let made = bytes_from(&corrected[..codes], wide, bytes);
+    let bits = Bits {
+        raw: of_raw.bits,
+        corrected: of_corrected.bits,
+    };
+    picture(d, table, bits, &raw[..codes], &mut *corrected);
+    let made = bytes_from(&corrected[..codes], of_corrected.wide, bytes);
     Piece {
         pixels,
         bytes: made,
@@ -97,22 +109,23 @@ fn pixel_bytes(wide: bool) -> usize
 fn pass_piece(
     d: Description,
     table: &[i64],
-    scale: Scale,
+    scales: Scales,
     first: u64,
     want: usize,
     bytes: &mut [u8],
     raw: &mut [u16],
     corrected: &mut [u16],
 ) -> Passed
-    requires { ⌜ Readable d (now table) scale ⌝ }
+    requires { ⌜ Readable d (now table) scales ⌝ }
     requires { ⌜ Buffers (length (now bytes)) (length (now raw)) (length (now corrected)) ⌝ }
     requires { ⌜ (first ≤ mostPixels) × (want ≤ piecePixels) ⌝ }
 {
-    let size = pixel_bytes(scale.wide);
+    let of_raw = scales.raw;
+    let size = pixel_bytes(of_raw.wide);
     let Filled::Bytes(got) = fill(STDIN_FILENO, &mut bytes[..want * size]) else {
         return Passed::Unread(first);
     };
-    let piece = correct_piece(d, table, scale, &mut *bytes, got, raw, corrected);
+    let piece = correct_piece(d, table, scales, &mut *bytes, got, raw, corrected);
     let made = piece.bytes;
     if !io::write_all(STDOUT_FILENO, &bytes[..made]) {
         return Passed::Unwritten;
@@ -142,13 +155,13 @@ fn next_piece(left: u64) -> usize
 pub fn pass_all(
     d: Description,
     table: &[i64],
-    scale: Scale,
+    scales: Scales,
     pixels: u64,
     bytes: &mut [u8],
     raw: &mut [u16],
     corrected: &mut [u16],
 ) -> Passed
-    requires { ⌜ Readable d (now table) scale ⌝ }
+    requires { ⌜ Readable d (now table) scales ⌝ }
     requires { ⌜ Buffers (length (now bytes)) (length (now raw)) (length (now corrected)) ⌝ }
     requires { ⌜ pixels ≤ mostPixels ⌝ }
 {
@@ -158,7 +171,7 @@ pub fn pass_all(
         let passed = pass_piece(
             d,
             table,
-            scale,
+            scales,
             pixels - left,
             want,
             &mut *bytes,

@@ -13,7 +13,10 @@ fn say(text: &[u8]) {
 }
 
 pub fn help(fd: i32) -> bool {
-    write(fd, b"usage: erythmoda correct TABLE < in.ppm > out.ppm\n")
+    write(
+        fd,
+        b"usage: erythmoda correct TABLE [--maxval MAXVAL] < in.ppm > out.ppm\n",
+    )
         && write(
             fd,
             b"Corrects a picture by the .cube table in the file TABLE: each code becomes the one nearest to the table's exact value.\n",
@@ -21,6 +24,10 @@ pub fn help(fd: i32) -> bool {
         && write(
             fd,
             b"The picture is a binary PPM (P6) with maxval 255, 1023, 4095 or 65535. Comments in its header are left out.\n",
+        )
+        && write(
+            fd,
+            b"The output has the picture's maxval, or with --maxval another of these four: its codes are then of that depth.\n",
         )
         && write(
             fd,
@@ -34,6 +41,10 @@ pub fn help(fd: i32) -> bool {
         && write(
             fd,
             b"example: erythmoda correct look.cube < in.ppm > out.ppm\n",
+        )
+        && write(
+            fd,
+            b"example: erythmoda correct look.cube --maxval 65535 < in.ppm > out.ppm\n",
         )
 }
 
@@ -84,6 +95,10 @@ pub fn say_maxval(maxval: u64) {
     say(b"erythmoda correct: maxval ");
     write_count(STDERR_FILENO, maxval);
     say(b" is none of 255, 1023, 4095 and 65535\n");
+}
+
+pub fn say_wanted() {
+    say(b"erythmoda correct: the output's --maxval is none of 255, 1023, 4095 and 65535\n");
 }
 
 // ---- the pixels

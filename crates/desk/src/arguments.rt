@@ -1,10 +1,11 @@
-// An argument as a number: digits alone, up to a limit.
+// An argument as a number: digits alone, up to a limit; and an option with a number, last on the command line.
 use numbers::is_digits;
 use numbers::spelt;
+use text::is_named;
 ghost use mathlib.Core.Path.{_≡_};
 ghost use Prim.Native.Nat.{_≤_};
 ghost use Rattle.numbers.specs.Cuts.{mostLimit};
-ghost use Rattle.desk.specs.Arguments.{argumentOf, UpTo};
+ghost use Rattle.desk.specs.Arguments.{argumentOf, UpTo, OptionUpTo};
 
 // What an argument says: a number up to the limit, a greater one, or none.
 pub enum Argument {
@@ -36,4 +37,44 @@ pub fn number_at(place: usize, most: u64) -> Argument
     let mut text = io::buffer();
     let n = os::arg(place, &mut text);
     number_in(&text[..n], most)
+}
+
+// Whether the argument at a place is this word.
+fn is_word_at(place: usize, word: &[u8]) -> bool {
+    let mut text = io::buffer();
+    let n = os::arg(place, &mut text);
+    is_named(&text[..n], word)
+}
+
+// What stands last on the command line: nothing more, an option's number up to the limit or a greater one, or what is not understood.
+pub enum Last {
+    Nothing,
+    Number(u64),
+    TooGreat,
+    Unclear,
+}
+
+// From a place on: nothing, or the option of this name and its number.
+pub fn option_at(place: usize, name: &[u8], most: u64) -> Last
+    requires { ⌜ most ≤ mostLimit ⌝ }
+    ensures { λ r. ⌜ OptionUpTo most r ⌝ }
+{
+    let count = os::arg_count();
+    if count < place {
+        return Last::Unclear;
+    }
+    if count == place {
+        return Last::Nothing;
+    }
+    if count - place != 2 {
+        return Last::Unclear;
+    }
+    if !is_word_at(place, name) {
+        return Last::Unclear;
+    }
+    match number_at(place + 1, most) {
+        Argument::Number(n) => Last::Number(n),
+        Argument::TooGreat => Last::TooGreat,
+        Argument::NoNumber => Last::Unclear,
+    }
 }

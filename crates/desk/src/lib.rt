@@ -8,8 +8,10 @@ mod refusals;
 mod reports;
 
 pub use arguments::Argument;
+pub use arguments::Last;
 pub use arguments::number_at;
 pub use arguments::number_in;
+pub use arguments::option_at;
 pub use failures::say_unread;
 pub use failures::say_unwritten;
 pub use loading::Filled;

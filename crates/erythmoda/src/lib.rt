@@ -18,11 +18,12 @@ use layout::weights_laid;
 use picture::picture;
 use reading::check;
 use reading::read;
+use rules::Bits;
 use rules::Codes;
 use rules::Look;
 use rules::Picture;
 use rules::Refusal;
-ghost use Rattle.rules.specs.Units.{sameBits};
+ghost use Rattle.rules.specs.Units.{bitsOf};
 ghost use Rattle.rules.specs.Boundary.{ReadsC, ChecksC, LooksC, PicturesC};
 ghost use Rattle.erythmoda.specs.Layout.{LooksIn};
 
@@ -63,8 +64,8 @@ pub extern "C" fn erythmoda_check(
 }
 
 // Look, of a description as eleven numbers.
-fn look_in(description: &[i64; 11], table: &[i64], bits: u32, pixel: Codes) -> Look
-    ensures { λ r. ⌜ LooksIn (now (description .entry)) (now (table .entry)) (sameBits bits) pixel r ⌝ }
+fn look_in(description: &[i64; 11], table: &[i64], bits: Bits, pixel: Codes) -> Look
+    ensures { λ r. ⌜ LooksIn (now (description .entry)) (now (table .entry)) bits pixel r ⌝ }
 {
     let DescriptionFound::Known(d) = described(description) else {
         return Look::Refused(Refusal::CouldNotBeRead);
@@ -72,19 +73,21 @@ fn look_in(description: &[i64; 11], table: &[i64], bits: u32, pixel: Codes) -> L
     look(d, table, bits, pixel)
 }
 
-// One pixel to three corrected codes, with the six rows and weights.
+// One pixel to three corrected codes, with the six rows and weights; the widths in bits are those of raw and of corrected codes.
 #[no_mangle]
 pub extern "C" fn erythmoda_look(
     description: &[i64; 11],
     table: &[i64],
-    bits: u32,
+    raw: u32,
+    corrected: u32,
     pixel: &[u16; 3],
     codes: &mut [u16; 3],
     rows: &mut [u32; 6],
     weights: &mut [i64; 6],
 ) -> u32
-    ensures { λ r. ⌜ LooksC (now (description .entry)) (now (table .entry)) (sameBits bits) (now (pixel .entry)) r (now (codes .exit)) (now (rows .exit)) (now (weights .exit)) ⌝ }
+    ensures { λ r. ⌜ LooksC (now (description .entry)) (now (table .entry)) (bitsOf raw corrected) (now (pixel .entry)) r (now (codes .exit)) (now (rows .exit)) (now (weights .exit)) ⌝ }
 {
+    let bits = Bits { raw, corrected };
     let answer = look_in(description, table, bits, pixel_of(pixel));
     let shares = look_shares(answer);
     *codes = codes_laid(look_codes(answer));
@@ -98,14 +101,16 @@ pub extern "C" fn erythmoda_look(
 pub extern "C" fn erythmoda_picture(
     description: &[i64; 11],
     table: &[i64],
-    bits: u32,
+    raw: u32,
+    corrected: u32,
     src: &[u16],
     dst: &mut [u16],
 ) -> u32
-    ensures { λ r. ⌜ PicturesC (now (description .entry)) (now (table .entry)) (sameBits bits) (now (src .entry)) (now (dst .entry)) r (now (dst .exit)) ⌝ }
+    ensures { λ r. ⌜ PicturesC (now (description .entry)) (now (table .entry)) (bitsOf raw corrected) (now (src .entry)) (now (dst .entry)) r (now (dst .exit)) ⌝ }
 {
     let DescriptionFound::Known(d) = described(description) else {
         return picture_number(Picture::Refused(Refusal::CouldNotBeRead));
     };
+    let bits = Bits { raw, corrected };
     picture_number(picture(d, table, bits, src, dst))
 }

@@ -7,16 +7,16 @@ use native.Mathlib.Omega.{arith}
 use lib.IntN.{ℤ, pos}
 use lib.Signed.{_<ℤ_, ltZ}
 use Rattle.whole.proofs.Held.{true-by}
-use Rattle.rules.specs.Units.{depthOf, sameBits, sameDepth, codeIn}
+use Rattle.rules.specs.Units.{depthsOf, rawM, correctedM, codeIn}
 use Rattle.rules.specs.Looking.Interpolation.{denOf, rowCode}
 use Rattle.rules.specs.Answers.{lookNumber}
 use Rattle.rules.specs.Promises.{Looks}
 use Rattle.rules.specs.Demands.{used, Carried, LookRight, AllRight}
+use Rattle.rules.specs.declared.Bits.{Bits}
 use Rattle.rules.specs.declared.Codes.{Codes}
 use Rattle.rules.specs.declared.Colour.{Colour}
-use Rattle.rules.specs.declared.Depth.{Depth}
 use Rattle.rules.specs.declared.Depths.{Depths}
-use Rattle.rules.specs.declared.DepthFound.the-variants.{Known}
+use Rattle.rules.specs.declared.DepthsFound.the-variants.{Both}
 use Rattle.rules.specs.declared.Description.{Description}
 use Rattle.rules.specs.declared.Look.{Look}
 use Rattle.rules.specs.declared.Look.the-variants.{Accepted}
@@ -24,7 +24,7 @@ use Rattle.rules.specs.declared.Share.{Share}
 use Rattle.rules.specs.declared.Shares.{Shares}
 use Rattle.rules.proofs.Looking.Checks.{look-passed}
 use Rattle.rules.proofs.Looking.Demand3.{looks-right}
-use Rattle.rules.proofs.KnownDepths.{depth-bounds, same-known}
+use Rattle.rules.proofs.KnownDepths.{depths-bounds}
 use Rattle.explain.specs.Spans.{carries, widened, spanOf, shownSpan, Seen}
 use Rattle.explain.specs.declared.rows.Span.{Span}
 
@@ -67,11 +67,11 @@ module _ (codeOf : ℕ → ℕ) (m : ℕ) where
       let w = wider s (spanOf codeOf m ss) in
       (λ p. omega (arith, w .own-high (carrying s p)), greatest-above a ss (omega (arith, w .higher)))
 
-right-between : (d : Description) (table : List ℤ) (depth : Depth) (pixel codes : Codes) (shares : Shares) (c : Colour) → LookRight d table (sameDepth depth) pixel codes shares c
-    → let span = shownSpan d table (depth .greatest) shares c in (span .least ≤ codeIn codes c) × (codeIn codes c ≤ span .greatest)
-right-between d table depth pixel codes shares c r =
-    let m = depth .greatest in
-    let f = rowCode m (denOf d m c) table c in
+right-between : (d : Description) (table : List ℤ) (depths : Depths) (pixel codes : Codes) (shares : Shares) (c : Colour) → LookRight d table depths pixel codes shares c
+    → let span = shownSpan d table depths shares c in (span .least ≤ codeIn codes c) × (codeIn codes c ≤ span .greatest)
+right-between d table depths pixel codes shares c r =
+    let m = correctedM depths in
+    let f = rowCode m (denOf d (rawM depths) c) table c in
     let ss = used (d .kind) c shares in
     (r .above _ (least-below f m _ ss (omega arith)), r .below _ (greatest-above f m _ ss (omega arith)))
 
@@ -81,14 +81,14 @@ right-same : {d : Description} {table : List ℤ} {depths depths′ : Depths} {p
     → depths ≡ depths′ → codes ≡ codes′ → shares ≡ shares′ → LookRight d table depths pixel codes shares c → LookRight d table depths′ pixel codes′ shares′ c
 right-same p q s r = rw (← p, ← q, ← s) r
 
-module _ {d : Description} {table : List ℤ} {bits : ℕ} {pixel : Codes} {r : Look} (l : Looks d table (sameBits bits) pixel r)
-    {codes : Codes} {shares : Shares} (e : r ≡ Accepted codes shares) (depth : Depth) (known : depthOf bits ≡ Known depth) where
-  all : AllRight d table (sameBits bits) pixel r
+module _ {d : Description} {table : List ℤ} {bits : Bits} {pixel : Codes} {r : Look} (l : Looks d table bits pixel r)
+    {codes : Codes} {shares : Shares} (e : r ≡ Accepted codes shares) (depths : Depths) (known : depthsOf bits ≡ Both depths) where
+  all : AllRight d table bits pixel r
   all = looks-right l (ap lookNumber e)
 
-  -- the depth is one, and so are the codes and the shares
-  depths-same : all .depths ≡ sameDepth depth
-  depths-same = let q = sym (all .known) ∙ same-known bits depth known in cc
+  -- the depths are these, and so are the codes and the shares
+  depths-same : all .depths ≡ depths
+  depths-same = let q = sym (all .known) ∙ known in cc
 
   codes-same : all .codes ≡ codes
   codes-same = let q = sym (all .accepted) ∙ e in cc
@@ -96,17 +96,17 @@ module _ {d : Description} {table : List ℤ} {bits : ℕ} {pixel : Codes} {r : 
   shares-same : all .shares ≡ shares
   shares-same = let q = sym (all .accepted) ∙ e in cc
 
-  right : (c : Colour) → LookRight d table (sameDepth depth) pixel codes shares c
+  right : (c : Colour) → LookRight d table depths pixel codes shares c
   right c = right-same depths-same codes-same shares-same (all .all-right c)
 
   -- it can be shown
-  pub seen : Seen d table (depth .greatest) shares
+  pub seen : Seen d table depths shares
   seen = record {
-    could = look-passed d table (sameBits bits) pixel (sym (l .number) ∙ ap lookNumber e) .could;
-    deep = depth-bounds bits depth known .0;
+    could = look-passed d table bits pixel (sym (l .number) ∙ ap lookNumber e) .could;
+    deep = depths-bounds bits depths known .0 .0;
     in-table = λ c. right c .in-table;
   }
 
   -- no colour's code lies outside the codes that are shown beside it
-  pub code-between : (c : Colour) → let span = shownSpan d table (depth .greatest) shares c in (span .least ≤ codeIn codes c) × (codeIn codes c ≤ span .greatest)
-  code-between c = right-between d table depth pixel codes shares c (right c)
+  pub code-between : (c : Colour) → let span = shownSpan d table depths shares c in (span .least ≤ codeIn codes c) × (codeIn codes c ≤ span .greatest)
+  code-between c = right-between d table depths pixel codes shares c (right c)

@@ -1,6 +1,5 @@
--- How a question ends: as the look does, and refused where the depth is unknown.
-use Prim.Native.Nat.{ℕ}
-use mathlib.Core.Path.{_≡_, refl, sym, ap, ap₂, subst, _∙_}
+-- How a question ends: as the look does, and refused where a depth is unknown.
+use mathlib.Core.Path.{_≡_, refl, sym, ap, subst, _∙_}
 use mathlib.Core.Bool.{Bool, true, false, cond}
 use mathlib.Core.List.{List}
 use mathlib.Core.Logic.{inl}
@@ -8,9 +7,9 @@ use lib.IntN.{ℤ}
 use Rattle.rules.specs.Descriptions.{couldBeRead}
 use Rattle.rules.specs.Looking.{look}
 use Rattle.rules.specs.Promises.{Looks}
-use Rattle.rules.specs.Units.{depthOf, depthsOf, sameBits, together}
+use Rattle.rules.specs.Units.{depthsOf}
+use Rattle.rules.specs.declared.Bits.{Bits}
 use Rattle.rules.specs.declared.Codes.{Codes}
-use Rattle.rules.specs.declared.DepthFound.the-variants.{Unknown}
 use Rattle.rules.specs.declared.DepthsFound.the-variants.{NotBoth}
 use Rattle.rules.specs.declared.Description.{Description}
 use Rattle.rules.specs.declared.Look.{Look}
@@ -27,22 +26,19 @@ use Rattle.explain.specs.Questions.{askedAs, lookedAs}
 use Rattle.explain.specs.declared.question.Pixel.{Pixel}
 use Rattle.explain.specs.declared.question.Pixel.the-variants.{Held, Beyond}
 
-module _ (d : Description) (table : List ℤ) (bits : ℕ) (raw : Codes) where
+module _ (d : Description) (table : List ℤ) (bits : Bits) (raw : Codes) where
   abbrev ended : Outcome
-  ended = lookedAs (look d table (sameBits bits) raw)
+  ended = lookedAs (look d table bits raw)
 
-  pub ends-unknown : {r : Outcome} → r ≡ Refused → depthOf bits ≡ Unknown → EndsAs ended r
+  pub ends-unknown : {r : Outcome} → r ≡ Refused → depthsOf bits ≡ NotBoth → EndsAs ended r
   unfolding lookedAs
   ends-unknown {r} refused e = inl (refused ∙ by (couldBeRead d table) refl)
     where
-      neither : depthsOf (sameBits bits) ≡ NotBoth
-      neither = ap₂ together e e
-
       by : (b : Bool) → couldBeRead d table ≡ b → Refused ≡ ended
-      by true could = sym (ap lookedAs (look-20 d table (sameBits bits) raw could neither))
-      by false could = sym (ap lookedAs (look-24 d table (sameBits bits) raw could))
+      by true could = sym (ap lookedAs (look-20 d table bits raw could e))
+      by false could = sym (ap lookedAs (look-24 d table bits raw could))
 
-  module _ {a : Look} (looks : Looks d table (sameBits bits) raw a) where
+  module _ {a : Look} (looks : Looks d table bits raw a) where
     pub ends-refused : {r : Outcome} {reason : Refusal} → r ≡ Refused → a ≡ L.Refused reason → EndsAs ended r
     unfolding lookedAs
     ends-refused refused e = inl (refused ∙ ap lookedAs (sym e ∙ looks-is looks))
@@ -52,8 +48,8 @@ module _ (d : Description) (table : List ℤ) (bits : ℕ) (raw : Codes) where
     ends-shown written r shown e = subst (λ o. EndsAs o r) (ap lookedAs (sym e ∙ looks-is looks)) (ends-as written Done r shown)
 
 -- a pixel that is held, and one that no depth has
-module _ (d : Description) (table : List ℤ) (bits : ℕ) {p : Pixel} (r : Outcome) where
-  pub ends-held : (raw : Codes) → p ≡ Held raw → EndsAs (lookedAs (look d table (sameBits bits) raw)) r → EndsAs (askedAs d table bits p) r
+module _ (d : Description) (table : List ℤ) (bits : Bits) {p : Pixel} (r : Outcome) where
+  pub ends-held : (raw : Codes) → p ≡ Held raw → EndsAs (lookedAs (look d table bits raw)) r → EndsAs (askedAs d table bits p) r
   unfolding askedAs
   ends-held raw e h = subst (λ x. EndsAs (askedAs d table bits x) r) (sym e) h
 

@@ -7,12 +7,13 @@ use native.Mathlib.Nat.{mul-pos}
 use native.Mathlib.Omega.{arith}
 use borrow.Author.Tests.{le-leb}
 use lib.IntN.{ℤ}
-use Rattle.rules.specs.Units.{rowsOf, inRange}
+use Rattle.rules.specs.Units.{rawM, correctedM, rowsOf, inRange}
 use Rattle.rules.specs.Descriptions.{rows, Sound}
 use Rattle.rules.specs.Looking.Interpolation.{denOf, rowCode}
 use Rattle.rules.specs.Demands.{used, Each}
 use Rattle.rules.specs.declared.Colour.{Colour}
 use Rattle.rules.specs.declared.Colour.the-variants.{Red, Green, Blue}
+use Rattle.rules.specs.declared.Depths.{Depths}
 use Rattle.rules.specs.declared.Description.{Description}
 use Rattle.rules.specs.declared.Kind.{Kind}
 use Rattle.rules.specs.declared.Kind.the-variants.{OneD, ThreeD}
@@ -51,7 +52,7 @@ module _ (codeOf : ℕ → ℕ) (s : Share) (span : Span) where
 
 -- ---- the rows of a look that is shown stand in the table
 
-module _ {d : Description} {table : List ℤ} {m : ℕ} {shares : Shares} (seen : Seen d table m shares) where
+module _ {d : Description} {table : List ℤ} {depths : Depths} {shares : Shares} (seen : Seen d table depths shares) where
   abbrev sound : Sound d table
   sound = sound-of d table (seen .could)
 
@@ -78,7 +79,7 @@ module _ {d : Description} {table : List ℤ} {m : ℕ} {shares : Shares} (seen 
   pub in-range : inRange (d .kind) (d .n) ≡ true
   in-range = both-and _ _ (le-leb _ _ (sound .least)) (le-leb _ _ (sound .most))
 
-  pub den-there : (c : Colour) → 0 < denOf d m c
+  pub den-there : (c : Colour) → 0 < denOf d (rawM depths) c
   den-there c = mul-pos (seen .deep) (wide-enough (sound .domains c))
 
   pub listed-stand : (c : Colour) (four : Four) → listed four ≡ fourOf (d .kind) c shares → Each (λ s. RowAt table (3 * s .row)) (listed four)
@@ -86,5 +87,8 @@ module _ {d : Description} {table : List ℤ} {m : ℕ} {shares : Shares} (seen 
 
   -- the span of the four is what is shown
   pub four-shown : (c : Colour) (four : Four) → listed four ≡ fourOf (d .kind) c shares
-      → spanOf (rowCode m (denOf d m c) table c) m (listed four) ≡ shownSpan d table m shares c
-  four-shown c four e = let codeOf = rowCode m (denOf d m c) table c in ap (spanOf codeOf m) e ∙ four-spans codeOf m (d .kind) c shares
+      → let m = correctedM depths in spanOf (rowCode m (denOf d (rawM depths) c) table c) m (listed four) ≡ shownSpan d table depths shares c
+  four-shown c four e =
+      let m = correctedM depths in
+      let codeOf = rowCode m (denOf d (rawM depths) c) table c in
+      ap (spanOf codeOf m) e ∙ four-spans codeOf m (d .kind) c shares

@@ -5,7 +5,7 @@ use mathlib.Core.List.{List}
 use lib.Dec.{leb}
 use lib.IntN.{ℤ}
 use Rattle.rules.specs.Looking.{look}
-use Rattle.rules.specs.Units.{sameBits}
+use Rattle.rules.specs.declared.Bits.{Bits}
 use Rattle.rules.specs.declared.Description.{Description}
 use Rattle.rules.specs.declared.Look.{Look}
 use Rattle.rules.specs.declared.Look.the-variants as L
@@ -25,6 +25,6 @@ lookedAs (L.Accepted codes shares) = Done
 lookedAs (L.Refused r) = Refused
 
 -- and a code that no depth has is refused
-unfoldable pub askedAs : Description → List ℤ → ℕ → Pixel → Outcome
-askedAs d table bits (Held raw) = lookedAs (look d table (sameBits bits) raw)
+unfoldable pub askedAs : Description → List ℤ → Bits → Pixel → Outcome
+askedAs d table bits (Held raw) = lookedAs (look d table bits raw)
 askedAs d table bits Beyond = Refused

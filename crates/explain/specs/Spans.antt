@@ -5,10 +5,12 @@ use mathlib.Core.Bool.{Bool, true, cond}
 use mathlib.Core.List.{List, [], _∷_, _++_}
 use lib.IntN.{ℤ, pos}
 use lib.Signed.{ltZ}
+use Rattle.rules.specs.Units.{rawM, correctedM}
 use Rattle.rules.specs.Descriptions.{rows, couldBeRead}
 use Rattle.rules.specs.Looking.Interpolation.{share, denOf, rowCode}
 use Rattle.rules.specs.Demands.{used, Each}
 use Rattle.rules.specs.declared.Colour.{Colour}
+use Rattle.rules.specs.declared.Depths.{Depths}
 use Rattle.rules.specs.declared.Description.{Description}
 use Rattle.rules.specs.declared.Kind.{Kind}
 use Rattle.rules.specs.declared.Kind.the-variants.{OneD, ThreeD}
@@ -32,8 +34,8 @@ spanOf codeOf m [] = record { least = m; greatest = 0 }
 spanOf codeOf m (s ∷ ss) = widened codeOf s (spanOf codeOf m ss)
 
 -- what is shown of a colour
-abbrev pub shownSpan : Description → List ℤ → ℕ → Shares → Colour → Span
-shownSpan d table m shares c = spanOf (rowCode m (denOf d m c) table c) m (used (d .kind) c shares)
+abbrev pub shownSpan : Description → List ℤ → Depths → Shares → Colour → Span
+shownSpan d table depths shares c = spanOf (rowCode (correctedM depths) (denOf d (rawM depths) c) table c) (correctedM depths) (used (d .kind) c shares)
 
 -- ---- as the code keeps a colour's rows: in 1D with two that carry nothing
 
@@ -45,7 +47,7 @@ fourOf OneD c s = used OneD c s ++ (share 0 0 ∷ share 0 0 ∷ [])
 fourOf ThreeD c s = used ThreeD c s
 
 -- what is asked of a look that is shown
-pub record Seen (d : Description) (table : List ℤ) (m : ℕ) (shares : Shares) : Type 0 where
+pub record Seen (d : Description) (table : List ℤ) (depths : Depths) (shares : Shares) : Type 0 where
   pub could : couldBeRead d table ≡ true
-  pub deep : 0 < m
+  pub deep : 0 < rawM depths
   pub in-table : (c : Colour) → Each (λ s. s .row < rows d) (used (d .kind) c shares)

@@ -13,11 +13,12 @@ use question::Asked;
 use question::Pixel;
 use question::pixel_of;
 use question::read_arguments;
+use rules::Bits;
 use show::explain;
 pub use words::help;
 
-// A pixel of a depth, explained by the table that the argument after the verb names.
-fn explain_pixel(file: &mut [u8], table: &mut [i64], bits: u32, pixel: Pixel) -> Outcome {
+// A pixel, explained by the table that the argument after the verb names.
+fn explain_pixel(file: &mut [u8], table: &mut [i64], bits: Bits, pixel: Pixel) -> Outcome {
     match load_argument(b"erythmoda explain", 2, &mut *file, &mut *table) {
         Loaded::Table { description, bytes } => {
             explain(description, &file[..bytes], table, bits, pixel)

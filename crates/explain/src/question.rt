@@ -1,6 +1,9 @@
-// The arguments after the verb and the table: a depth and a pixel.
+// The arguments after the verb and the table: a depth and a pixel, and perhaps another depth for the corrected codes.
 use desk::Argument;
+use desk::Last;
 use desk::number_at;
+use desk::option_at;
+use rules::Bits;
 use rules::Codes;
 use rules::Depth;
 ghost use mathlib.Core.Path.{_≡_};
@@ -9,10 +12,10 @@ ghost use Rattle.explain.specs.Questions.{pixelAsked};
 // The greatest code of any depth. No depth has more bits either.
 const MOST: u32 = Depth::BITS_16 as u32;
 
-// What the arguments ask about: a depth and three codes, or nothing that can be understood.
+// What the arguments ask about: two depths and three codes, or nothing that can be understood.
 pub enum Asked {
     Plainly {
-        bits: u32,
+        bits: Bits,
         red: u32,
         green: u32,
         blue: u32,
@@ -41,12 +44,22 @@ fn value_at(place: usize) -> Given {
     }
 }
 
-// Five arguments after the verb, and four of them numbers.
-pub fn read_arguments() -> Asked {
-    if os::arg_count() != 7 {
-        return Asked::Unclear;
+// The depth of the corrected codes: the raw one, where no other is given after the pixel.
+fn corrected_width(raw: u32) -> Given {
+    match option_at(7, b"--corrected-bits", MOST as u64) {
+        Last::Nothing => Given::Value(raw),
+        Last::Number(n) => Given::Value(n as u32),
+        Last::TooGreat => Given::Value(MOST + 1),
+        Last::Unclear => Given::NoNumber,
     }
-    let Given::Value(bits) = value_at(3) else {
+}
+
+// Five arguments after the verb, and four of them numbers; then perhaps the option.
+pub fn read_arguments() -> Asked {
+    let Given::Value(raw) = value_at(3) else {
+        return Asked::Unclear;
+    };
+    let Given::Value(corrected) = corrected_width(raw) else {
         return Asked::Unclear;
     };
     let Given::Value(red) = value_at(4) else {
@@ -58,6 +71,7 @@ pub fn read_arguments() -> Asked {
     let Given::Value(blue) = value_at(6) else {
         return Asked::Unclear;
     };
+    let bits = Bits { raw, corrected };
     Asked::Plainly {
         bits,
         red,

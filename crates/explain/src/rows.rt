@@ -1,6 +1,7 @@
 // The rows that a colour's code is made of, and the least and the greatest of their codes.
 use colour::row_code;
 use rules::Colour;
+use rules::Depths;
 use rules::Description;
 use rules::Kind;
 use rules::Share;
@@ -103,10 +104,11 @@ fn span_of(table: &[i64], m: u16, c: Colour, four: Four) -> Span
 }
 
 // The least and the greatest code of the rows that a colour's code is made of. The code never lies outside them.
-pub fn span_shown(d: Description, table: &[i64], m: u16, shares: Shares, c: Colour) -> Span
-    requires { ⌜ Seen d (now table) m shares ⌝ }
-    ensures { λ r. ⌜ r ≡ shownSpan d (now (table .entry)) m shares c ⌝ }
+pub fn span_shown(d: Description, table: &[i64], depths: Depths, shares: Shares, c: Colour) -> Span
+    requires { ⌜ Seen d (now table) depths shares ⌝ }
+    ensures { λ r. ⌜ r ≡ shownSpan d (now (table .entry)) depths shares c ⌝ }
 {
     let kind = d.kind;
-    span_of(table, m, c, four_of(kind, c, shares))
+    let corrected = depths.corrected;
+    span_of(table, corrected.greatest(), c, four_of(kind, c, shares))
 }

@@ -16,10 +16,11 @@ use desk::write_sample;
 use desk::write_signed;
 use judge::count_rows;
 use libc::STDOUT_FILENO;
+use rules::Bits;
 use rules::Codes;
 use rules::Colour;
-use rules::Depth;
-use rules::DepthFound;
+use rules::Depths;
+use rules::DepthsFound;
 use rules::Description;
 use rules::Kind;
 use rules::Look;
@@ -31,7 +32,7 @@ ghost use mathlib.Core.Path.{_≡_};
 ghost use mathlib.Core.Bool.{true};
 ghost use Prim.Native.Nat.{_*_};
 ghost use Rattle.rules.specs.Looking.{look};
-ghost use Rattle.rules.specs.Units.{inRange, sameBits};
+ghost use Rattle.rules.specs.Units.{inRange};
 ghost use Rattle.colour.specs.Adding.{RowAt};
 ghost use Rattle.desk.specs.Outcomes.{EndsAs};
 ghost use Rattle.desk.specs.declared.outcomes.Outcome.the-variants.{Refused};
@@ -62,9 +63,14 @@ fn show_codes(codes: Codes) -> bool {
         && say_number(codes.blue as u64)
 }
 
+// As ` at 8 bits`.
+fn show_depth(bits: u32) -> bool {
+    say(b" at ") && say_number(bits as u64) && say(b" bits")
+}
+
 // As `pixel  51 102 204 at 8 bits`.
 fn show_pixel(raw: Codes, bits: u32) -> bool {
-    say(b"pixel  ") && show_codes(raw) && say(b" at ") && say_number(bits as u64) && say(b" bits\n")
+    say(b"pixel  ") && show_codes(raw) && show_depth(bits) && say(b"\n")
 }
 
 // As `       row 4 on line 6: `.
@@ -135,17 +141,20 @@ fn show_colour(
     d: Description,
     file: &[u8],
     table: &[i64],
-    m: u16,
+    depths: Depths,
     codes: Codes,
     shares: Shares,
     c: Colour,
 ) -> bool
-    requires { ⌜ Seen d (now table) m shares ⌝ }
+    requires { ⌜ Seen d (now table) depths shares ⌝ }
 {
     let kind = d.kind;
+    let raw = depths.raw;
+    let corrected = depths.corrected;
+    let m = corrected.greatest();
     let four = four_of(kind, c, shares);
-    let den = den_of(d, m, c);
-    let span = span_shown(d, table, m, shares, c);
+    let den = den_of(d, raw.greatest(), c);
+    let span = span_shown(d, table, depths, shares, c);
     show_span(c, codes, span)
         && show_row(file, table, m, c, den, four.first)
         && show_row(file, table, m, c, den, four.second)
@@ -153,9 +162,13 @@ fn show_colour(
         && show_row(file, table, m, c, den, four.fourth)
 }
 
-// As `codes  51 51 51`.
-fn show_corrected(codes: Codes) -> bool {
-    say(b"codes  ") && show_codes(codes) && say(b"\n")
+// As `codes  51 51 51`; with their depth, where it is not the pixel's.
+fn show_corrected(codes: Codes, depths: Depths) -> bool {
+    let raw = depths.raw;
+    let corrected = depths.corrected;
+    let width = corrected.bits();
+    let same = width == raw.bits();
+    say(b"codes  ") && show_codes(codes) && (same || show_depth(width)) && say(b"\n")
 }
 
 // Everything of an accepted look.
@@ -163,18 +176,18 @@ fn show_look(
     d: Description,
     file: &[u8],
     table: &[i64],
-    m: u16,
+    depths: Depths,
     codes: Codes,
     shares: Shares,
 ) -> bool
-    requires { ⌜ Seen d (now table) m shares ⌝ }
+    requires { ⌜ Seen d (now table) depths shares ⌝ }
 {
     let kind = d.kind;
     show_table(kind, d.n)
-        && show_corrected(codes)
-        && show_colour(d, file, table, m, codes, shares, Colour::Red)
-        && show_colour(d, file, table, m, codes, shares, Colour::Green)
-        && show_colour(d, file, table, m, codes, shares, Colour::Blue)
+        && show_corrected(codes, depths)
+        && show_colour(d, file, table, depths, codes, shares, Colour::Red)
+        && show_colour(d, file, table, depths, codes, shares, Colour::Green)
+        && show_colour(d, file, table, depths, codes, shares, Colour::Blue)
 }
 
 fn refuse(reason: Refusal) -> Outcome
@@ -185,34 +198,34 @@ fn refuse(reason: Refusal) -> Outcome
 }
 
 // The look at a pixel of 16-bit codes, explained or refused.
-fn explain_held(d: Description, file: &[u8], table: &[i64], bits: u32, raw: Codes) -> Outcome
-    ensures { λ r. ⌜ EndsAs (lookedAs (look d (now (table .entry)) (sameBits bits) raw)) r ⌝ }
+fn explain_held(d: Description, file: &[u8], table: &[i64], bits: Bits, raw: Codes) -> Outcome
+    ensures { λ r. ⌜ EndsAs (lookedAs (look d (now (table .entry)) bits raw)) r ⌝ }
 {
-    let DepthFound::Known(depth) = Depth::of(bits) else {
+    let DepthsFound::Both(depths) = Depths::of(bits) else {
         return refuse(Refusal::DepthUnknown);
     };
     match look(d, table, bits, raw) {
         Look::Refused(reason) => refuse(reason),
         Look::Accepted { codes, shares } => {
-            let m = depth.greatest();
-            let written = show_pixel(raw, bits) && show_look(d, file, table, m, codes, shares);
+            let written = show_pixel(raw, bits.raw)
+                && show_look(d, file, table, depths, codes, shares);
             Outcome::Done.if_written(written, b"erythmoda explain")
         }
     }
 }
 
 // A code that no depth has: 20 comes before 23.
-fn refuse_beyond(bits: u32) -> Outcome
+fn refuse_beyond(bits: Bits) -> Outcome
     ensures { λ r. ⌜ r ≡ Refused ⌝ }
 {
-    match Depth::of(bits) {
-        DepthFound::Known(_) => refuse(Refusal::CodeTooGreat),
-        DepthFound::Unknown => refuse(Refusal::DepthUnknown),
+    match Depths::of(bits) {
+        DepthsFound::Both(_) => refuse(Refusal::CodeTooGreat),
+        DepthsFound::NotBoth => refuse(Refusal::DepthUnknown),
     }
 }
 
 // The answer to a question about a table that was loaded, which is never 24: then come 20 and 23.
-pub fn explain(d: Description, file: &[u8], table: &[i64], bits: u32, pixel: Pixel) -> Outcome
+pub fn explain(d: Description, file: &[u8], table: &[i64], bits: Bits, pixel: Pixel) -> Outcome
     ensures { λ r. ⌜ EndsAs (askedAs d (now (table .entry)) bits pixel) r ⌝ }
 {
     match pixel {

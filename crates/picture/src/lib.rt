@@ -16,7 +16,6 @@ ghost use mathlib.Core.List.{_++_};
 ghost use Prim.Native.Nat.{ℕ, _+_, _<_};
 ghost use lib.Dec.{leb};
 ghost use lib.ListN.{length, drop};
-ghost use Rattle.rules.specs.Units.{sameBits};
 ghost use Rattle.rules.specs.Reading.Lines.{every};
 ghost use Rattle.rules.specs.Looking.{correct};
 ghost use Rattle.rules.specs.Answers.{codesOf};
@@ -81,14 +80,14 @@ fn correct_all(plan: Plan, table: &[i64], src: &[u16], dst: &mut [u16])
     }
 }
 
-// The checks run 24, 20, 21, 22, 23, all before the first code is written.
-pub fn picture(d: Description, table: &[i64], bits: u32, src: &[u16], dst: &mut [u16]) -> Picture
-    ensures { λ r. ⌜ Pictures d (now (table .entry)) (sameBits bits) (now (src .entry)) (now (dst .entry)) r (now (dst .exit)) ⌝ }
+// The checks run 24, 20 for the raw depth and then for the corrected one, 21, 22, 23, all before the first code is written.
+pub fn picture(d: Description, table: &[i64], bits: Bits, src: &[u16], dst: &mut [u16]) -> Picture
+    ensures { λ r. ⌜ Pictures d (now (table .entry)) bits (now (src .entry)) (now (dst .entry)) r (now (dst .exit)) ⌝ }
 {
     if !could_be_read(d, table) {
         return Picture::Refused(Refusal::CouldNotBeRead);
     }
-    let DepthsFound::Both(depths) = Depths::of(Bits::same(bits)) else {
+    let DepthsFound::Both(depths) = Depths::of(bits) else {
         return Picture::Refused(Refusal::DepthUnknown);
     };
     let raw = depths.raw;

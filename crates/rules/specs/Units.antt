@@ -84,9 +84,13 @@ together (Known raw) (Known corrected) = Both (record { raw = raw; corrected = c
 abbrev pub depthsOf : Bits → DepthsFound
 depthsOf bits = together (depthOf (bits .raw)) (depthOf (bits .corrected))
 
+-- the widths asked for, raw and corrected
+abbrev pub bitsOf : ℕ → ℕ → Bits
+bitsOf raw corrected = record { raw = raw; corrected = corrected }
+
 -- one width for both
 abbrev pub sameBits : ℕ → Bits
-sameBits width = record { raw = width; corrected = width }
+sameBits width = bitsOf width width
 
 abbrev pub sameDepth : Depth → Depths
 sameDepth m = record { raw = m; corrected = m }

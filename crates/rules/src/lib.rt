@@ -1,7 +1,7 @@
 // The types of document 01. What the calls answer and promise over them is in specs/, the theorems are in proofs/.
 ghost use mathlib.Core.Path.{_≡_};
 ghost use Rattle.rules.specs.Answers.{refusalNumber};
-ghost use Rattle.rules.specs.Units.{depthOf, depthWith, depthsOf, sameBits};
+ghost use Rattle.rules.specs.Units.{depthOf, depthWith, depthsOf};
 
 // ---- units and depths
 
@@ -120,18 +120,6 @@ impl Depth {
 pub struct Bits {
     pub raw: u32,
     pub corrected: u32,
-}
-
-impl Bits {
-    // One width for both.
-    pub fn same(width: u32) -> Bits
-        ensures { λ r. ⌜ r ≡ sameBits width ⌝ }
-    {
-        Bits {
-            raw: width,
-            corrected: width,
-        }
-    }
 }
 
 // The depths of raw and of corrected codes.

@@ -9,6 +9,10 @@ pub mod Looks
 pub mod Pictures
 pub mod Together
 pub mod Checks
+-- what the two depths decide
+pub mod Depths
+-- with one depth they are document 01's
+pub mod OneDepth
 -- wrong calls that the promises rule out
 pub mod WrongReads
 pub mod WrongChecks

@@ -25,7 +25,7 @@ use Rattle.rules.specs.Picturing.{eachPixel, pictureWith, picture, outputAfter}
 use Rattle.rules.specs.Answers.{refusalNumber, readNumber, readLine}
 use Rattle.rules.proofs.Tests.{and-both}
 use Rattle.rules.proofs.Reading.Wordings.{same-eq}
-use Rattle.signature.specs.Cases.{Outcome, Case, outcome, marked, numbered, halves, points, AllMet, ReadA3}
+use Rattle.signature.specs.Cases.{Outcome, Case, outcome, marked, numbered, halves, points, twoDepths, AllMet, ReadA3}
 
 -- ---- a test that antt computes over a whole table, and what it tells
 
@@ -123,6 +123,10 @@ halves-pass : test halves ≡ true
 unfolding opened
 halves-pass = refl
 
+two-depths-pass : test twoDepths ≡ true
+unfolding opened
+two-depths-pass = refl
+
 -- the cases of document 01 that are marked P
 pub marked-met : AllMet marked
 marked-met = tested marked marked-pass
@@ -138,6 +142,10 @@ points-met = tested points points-pass
 -- document 02's half domains
 pub halves-met : AllMet halves
 halves-met = tested halves halves-pass
+
+-- document 02's two depths
+pub two-depths-met : AllMet twoDepths
+two-depths-met = tested twoDepths two-depths-pass
 
 -- 30, on line 0
 pub report-30 : (input : List ℕ) → reportBytes < length input → (readNumber (report input) ≡ 30) × (readLine (report input) ≡ 0)

@@ -4,9 +4,12 @@
 pub mod SamePlaces
 pub mod DomainEnds
 pub mod ShortDivision
+-- with one depth it is document 01's
+pub mod OneDepth
 -- the order of the axes: the wall chart
 pub mod WallChart
--- the numbers that it answers
+-- the numbers that it answers; what the two depths decide
 pub mod Numbers
+pub mod Depths
 -- wrong programs that its promise rules out
 pub mod WrongPrograms

@@ -5,5 +5,9 @@ pub mod Codes
 -- the numbers that it answers, and what its promise decides
 pub mod Numbers
 pub mod Promised
+-- what the two depths decide
+pub mod Depths
+-- with one depth it is document 01's
+pub mod OneDepth
 -- wrong programs that it rules out
 pub mod WrongPrograms

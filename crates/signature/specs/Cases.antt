@@ -6,11 +6,13 @@ use mathlib.Core.Bool.{true}
 use mathlib.Core.List.{List, [], _∷_, _++_}
 use lib.IntN.{ℤ, pos, negsuc}
 use lib.ListN.{length, replicate}
+use Rattle.rules.specs.Units.{bitsOf, sameBits}
 use Rattle.rules.specs.Reading.Lines.{bytes, after}
 use Rattle.rules.specs.Reading.{read, tableAfter}
 use Rattle.rules.specs.Looking.{look}
 use Rattle.rules.specs.Picturing.{picture, outputAfter}
 use Rattle.rules.specs.Answers.{readNumber, readLine, readDescription, lookNumber, lookCodes, lookRows, lookWeights, pictureNumber}
+use Rattle.rules.specs.declared.Bits.{Bits}
 use Rattle.rules.specs.declared.Codes.{Codes}
 use Rattle.rules.specs.declared.Description.{Description}
 use Rattle.rules.specs.declared.Kind.the-variants.{OneD}
@@ -18,7 +20,6 @@ use Rattle.rules.specs.declared.Look.{Look}
 use Rattle.rules.specs.declared.Picture.{Picture}
 use Rattle.rules.specs.declared.Read.{Read}
 use Rattle.rules.specs.declared.Read.the-variants.{Accepted}
-use Rattle.rules.specs.Units.{sameBits}
 
 -- ---- what is asked, and what comes out
 
@@ -26,9 +27,9 @@ pub data Question : Type 0 where
   -- reading a file into a table of so many places that hold 77
   reading : List ℕ → ℕ → Question
   -- looking at one pixel
-  looking : Description → List ℤ → ℕ → Codes → Question
+  looking : Description → List ℤ → Bits → Codes → Question
   -- correcting a picture into an output of so many places that hold 77
-  picturing : Description → List ℤ → ℕ → List ℕ → ℕ → Question
+  picturing : Description → List ℤ → Bits → List ℕ → ℕ → Question
 
 -- in the paper's numbers; what a call does not give is empty
 pub record Outcome : Type 0 where
@@ -51,11 +52,11 @@ outcome (reading file places) =
     let r : Read = read file places in
     record { number = readNumber r; line = readLine r; table = tableAfter file (untouched places) r; codes = []; rows = []; weights = [] }
 outcome (looking d table bits pixel) =
-    let r : Look = look d table (sameBits bits) pixel in
+    let r : Look = look d table bits pixel in
     record { number = lookNumber r; line = 0; table = []; codes = lookCodes r; rows = lookRows r; weights = lookWeights r }
 outcome (picturing d table bits src places) =
-    let r : Picture = picture d table (sameBits bits) src places in
-    record { number = pictureNumber r; line = 0; table = []; codes = outputAfter d table (sameBits bits) src (replicate places 77) r; rows = []; weights = [] }
+    let r : Picture = picture d table bits src places in
+    record { number = pictureNumber r; line = 0; table = []; codes = outputAfter d table bits src (replicate places 77) r; rows = []; weights = [] }
 
 -- ---- cases, from the text of a file on
 
@@ -83,16 +84,16 @@ refused file places number line = record {
 }
 
 -- a pixel that is corrected
-abbrev pub looked : String → ℕ → Codes → List ℕ → List ℕ → List ℤ → Case
+abbrev pub looked : String → Bits → Codes → List ℕ → List ℕ → List ℤ → Case
 looked file bits pixel codes rows weights = record {
   asked = looking (describedBy file) (tableFrom file) bits pixel;
   expected = record { number = 0; line = 0; table = []; codes = codes; rows = rows; weights = weights };
 }
 
--- 1D with N = 2 at 8 bits, all colours alike: a code, its answer, its two weights
-abbrev pub twoRows : String → ℕ → ℕ → ℕ → ℕ → Case
-twoRows file c r v w =
-    looked file 8 (grey c) (r ∷ r ∷ r ∷ []) (0 ∷ 1 ∷ 0 ∷ 1 ∷ 0 ∷ 1 ∷ []) (pos v ∷ pos w ∷ pos v ∷ pos w ∷ pos v ∷ pos w ∷ [])
+-- 1D with N = 2, all colours alike: a code, its answer, its two weights
+abbrev pub twoRows : String → Bits → ℕ → ℕ → ℕ → ℕ → Case
+twoRows file bits c r v w =
+    looked file bits (grey c) (r ∷ r ∷ r ∷ []) (0 ∷ 1 ∷ 0 ∷ 1 ∷ 0 ∷ 1 ∷ []) (pos v ∷ pos w ∷ pos v ∷ pos w ∷ pos v ∷ pos w ∷ [])
 
 abbrev pub zeroAndHalf : String
 zeroAndHalf = "LUT_1D_SIZE 2\n0 0 0\n0.5 0.5 0.5\n"
@@ -130,15 +131,15 @@ marked =
     ∷ word "-.5" 0 0 (negsuc 4_999_999 ∷ replicate 5 (pos 0))
     ∷ word "1000.00000001" 16 2 (untouched 6)
     ∷ refused [] 6 9 1
-    ∷ twoRows zeroAndHalf 1 1 254_000 1_000
-    ∷ twoRows minusAndPlusHalf 127 0 128_000 127_000
-    ∷ twoRows minusAndPlusHalf 128 1 127_000 128_000
-    ∷ twoRows zeroAndTwo 200 255 55_000 200_000
-    ∷ looked threeRows 16 (grey 32768) (32768 ∷ 32768 ∷ 32768 ∷ []) (1 ∷ 2 ∷ 1 ∷ 2 ∷ 1 ∷ 2 ∷ [])
+    ∷ twoRows zeroAndHalf (sameBits 8) 1 1 254_000 1_000
+    ∷ twoRows minusAndPlusHalf (sameBits 8) 127 0 128_000 127_000
+    ∷ twoRows minusAndPlusHalf (sameBits 8) 128 1 127_000 128_000
+    ∷ twoRows zeroAndTwo (sameBits 8) 200 255 55_000 200_000
+    ∷ looked threeRows (sameBits 16) (grey 32768) (32768 ∷ 32768 ∷ 32768 ∷ []) (1 ∷ 2 ∷ 1 ∷ 2 ∷ 1 ∷ 2 ∷ [])
     (pos 65_534_000 ∷ pos 1_000 ∷ pos 65_534_000 ∷ pos 1_000 ∷ pos 65_534_000 ∷ pos 1_000 ∷ [])
-    ∷ looked sampleA3 8 (grey 255) (255 ∷ 255 ∷ 255 ∷ []) (1 ∷ 2 ∷ 1 ∷ 2 ∷ 0 ∷ 1 ∷ [])
+    ∷ looked sampleA3 (sameBits 8) (grey 255) (255 ∷ 255 ∷ 255 ∷ []) (1 ∷ 2 ∷ 1 ∷ 2 ∷ 0 ∷ 1 ∷ [])
     (pos 0 ∷ pos 255_000 ∷ pos 510_000 ∷ pos 0 ∷ pos 255_000 ∷ pos 510_000 ∷ [])
-    ∷ looked corner 8 cornerPixel (51 ∷ 51 ∷ 51 ∷ []) (0 ∷ 4 ∷ 6 ∷ 7 ∷ 0 ∷ 0 ∷ []) (pos 51_000 ∷ pos 102_000 ∷ pos 51_000 ∷ pos 51_000 ∷ pos 0 ∷ pos 0 ∷ [])
+    ∷ looked corner (sameBits 8) cornerPixel (51 ∷ 51 ∷ 51 ∷ []) (0 ∷ 4 ∷ 6 ∷ 7 ∷ 0 ∷ 0 ∷ []) (pos 51_000 ∷ pos 102_000 ∷ pos 51_000 ∷ pos 51_000 ∷ pos 0 ∷ pos 0 ∷ [])
     ∷ []
 
 -- ---- a case for every other number
@@ -155,14 +156,14 @@ oneRow = record {
 }
 
 -- a look that is refused gives zeros
-abbrev pub lookRefused : Description → ℕ → Codes → ℕ → Case
+abbrev pub lookRefused : Description → Bits → Codes → ℕ → Case
 lookRefused d bits pixel number = record {
   asked = looking d (tableFrom zeroAndHalf) bits pixel;
   expected = record { number = number; line = 0; table = []; codes = replicate 3 0; rows = replicate 6 0; weights = replicate 6 (pos 0) };
 }
 
 -- a picture with its number and what the output holds afterwards
-abbrev pub pictured : Description → ℕ → List ℕ → ℕ → ℕ → List ℕ → Case
+abbrev pub pictured : Description → Bits → List ℕ → ℕ → ℕ → List ℕ → Case
 pictured d bits src places number after = record {
   asked = picturing d (tableFrom zeroAndHalf) bits src places;
   expected = record { number = number; line = 0; table = []; codes = after; rows = []; weights = [] };
@@ -185,16 +186,16 @@ numbered =
     ∷ refused (bytes "LUT_1D_SIZE 2\n0 0 0\n0 0 0\n0 0 0") 6 14 4
     ∷ refused (bytes "LUT_1D_SIZE 2\n. 0 0") 6 15 2
     ∷ refused (bytes "LUT_1D_SIZE 2\n0 0 0") 6 18 2
-    ∷ lookRefused (describedBy zeroAndHalf) 9 (grey 1) 20
-    ∷ lookRefused (describedBy zeroAndHalf) 8 (grey 256) 23
-    ∷ lookRefused oneRow 9 (grey 256) 24
-    ∷ pictured (describedBy zeroAndHalf) 9 (1 ∷ 3 ∷ 1 ∷ 256 ∷ []) 3 20 (77 ∷ 77 ∷ 77 ∷ [])
-    ∷ pictured (describedBy zeroAndHalf) 8 (1 ∷ 3 ∷ 1 ∷ 256 ∷ []) 3 21 (77 ∷ 77 ∷ 77 ∷ [])
-    ∷ pictured (describedBy zeroAndHalf) 8 (1 ∷ 3 ∷ 256 ∷ []) 2 22 (77 ∷ 77 ∷ [])
-    ∷ pictured (describedBy zeroAndHalf) 8 (1 ∷ 3 ∷ 256 ∷ []) 3 23 (77 ∷ 77 ∷ 77 ∷ [])
-    ∷ pictured oneRow 9 (1 ∷ 3 ∷ 1 ∷ 256 ∷ []) 3 24 (77 ∷ 77 ∷ 77 ∷ [])
-    ∷ pictured (describedBy zeroAndHalf) 8 (1 ∷ 3 ∷ 1 ∷ 3 ∷ 1 ∷ 3 ∷ []) 7 0 (1 ∷ 2 ∷ 1 ∷ 2 ∷ 1 ∷ 2 ∷ 77 ∷ [])
-    ∷ pictured (describedBy zeroAndHalf) 8 [] 1 0 (77 ∷ [])
+    ∷ lookRefused (describedBy zeroAndHalf) (sameBits 9) (grey 1) 20
+    ∷ lookRefused (describedBy zeroAndHalf) (sameBits 8) (grey 256) 23
+    ∷ lookRefused oneRow (sameBits 9) (grey 256) 24
+    ∷ pictured (describedBy zeroAndHalf) (sameBits 9) (1 ∷ 3 ∷ 1 ∷ 256 ∷ []) 3 20 (77 ∷ 77 ∷ 77 ∷ [])
+    ∷ pictured (describedBy zeroAndHalf) (sameBits 8) (1 ∷ 3 ∷ 1 ∷ 256 ∷ []) 3 21 (77 ∷ 77 ∷ 77 ∷ [])
+    ∷ pictured (describedBy zeroAndHalf) (sameBits 8) (1 ∷ 3 ∷ 256 ∷ []) 2 22 (77 ∷ 77 ∷ [])
+    ∷ pictured (describedBy zeroAndHalf) (sameBits 8) (1 ∷ 3 ∷ 256 ∷ []) 3 23 (77 ∷ 77 ∷ 77 ∷ [])
+    ∷ pictured oneRow (sameBits 9) (1 ∷ 3 ∷ 1 ∷ 256 ∷ []) 3 24 (77 ∷ 77 ∷ 77 ∷ [])
+    ∷ pictured (describedBy zeroAndHalf) (sameBits 8) (1 ∷ 3 ∷ 1 ∷ 3 ∷ 1 ∷ 3 ∷ []) 7 0 (1 ∷ 2 ∷ 1 ∷ 2 ∷ 1 ∷ 2 ∷ 77 ∷ [])
+    ∷ pictured (describedBy zeroAndHalf) (sameBits 8) [] 1 0 (77 ∷ [])
     ∷ []
 
 -- ---- document 02, Req 01: digits and a bare point are a number, a lone point is none, and N stays digits alone
@@ -250,6 +251,27 @@ halves =
       asked = reading (bytes "DOMAIN_MIN 0 0 0\nDOMAIN_MAX 1 1 1\nLUT_1D_SIZE 2\n0 0 0\n1 1 1") 6;
       expected = record { number = 0; line = 0; table = replicate 3 (pos 0) ++ replicate 3 (pos 10_000_000); codes = []; rows = []; weights = [] };
     }
+    ∷ []
+
+-- ---- document 02, Req 06: two depths
+
+-- half of 65535 is 32767.5, a sixth of it 10922.5, half of 255 is 127.5: each goes to the greater code. 23 goes by the raw M, and both depths are tried before it.
+abbrev pub twoDepths : List Case
+twoDepths =
+    twoRows zeroAndHalf (bitsOf 8 16) 255 32768 0 255_000
+    ∷ twoRows zeroAndHalf (bitsOf 12 16) 1365 10923 2_730_000 1_365_000
+    ∷ twoRows zeroAndHalf (bitsOf 16 8) 65535 128 0 65_535_000
+    ∷ twoRows zeroAndHalf (bitsOf 16 8) 256 0 65_279_000 256_000
+    ∷ looked corner (bitsOf 12 8) (record { red = 819; green = 1638; blue = 3276 }) (51 ∷ 51 ∷ 51 ∷ []) (0 ∷ 4 ∷ 6 ∷ 7 ∷ 0 ∷ 0 ∷ [])
+    (pos 819_000 ∷ pos 1_638_000 ∷ pos 819_000 ∷ pos 819_000 ∷ pos 0 ∷ pos 0 ∷ [])
+    ∷ lookRefused (describedBy zeroAndHalf) (bitsOf 9 8) (grey 256) 20
+    ∷ lookRefused (describedBy zeroAndHalf) (bitsOf 8 9) (grey 256) 20
+    ∷ lookRefused (describedBy zeroAndHalf) (bitsOf 8 16) (grey 256) 23
+    ∷ pictured (describedBy zeroAndHalf) (bitsOf 8 16) (1 ∷ 3 ∷ 255 ∷ []) 4 0 (129 ∷ 386 ∷ 32768 ∷ 77 ∷ [])
+    ∷ pictured (describedBy zeroAndHalf) (bitsOf 16 8) (0 ∷ 256 ∷ 65535 ∷ []) 3 0 (0 ∷ 0 ∷ 128 ∷ [])
+    ∷ pictured (describedBy zeroAndHalf) (bitsOf 9 8) (1 ∷ 3 ∷ 1 ∷ 256 ∷ []) 3 20 (77 ∷ 77 ∷ 77 ∷ [])
+    ∷ pictured (describedBy zeroAndHalf) (bitsOf 8 9) (1 ∷ 3 ∷ 1 ∷ 256 ∷ []) 3 20 (77 ∷ 77 ∷ 77 ∷ [])
+    ∷ pictured (describedBy zeroAndHalf) (bitsOf 8 16) (1 ∷ 3 ∷ 256 ∷ []) 3 23 (77 ∷ 77 ∷ 77 ∷ [])
     ∷ []
 
 -- ---- what the report program prints

@@ -3,12 +3,12 @@ use mathlib.Core.Path.{_≡_, refl, sym, ap, ap₂, _∙_}
 use mathlib.Core.Logic.{_⊎_, inl, inr, ⊎-elim}
 use Prim.Native.Nat.{ℕ, _+_, _-_, _*_, _/_, _≤_, _<_, min}
 use native.Mathlib.Nat as NatL
-use native.Mathlib.Decide.{decLt}
+use native.Mathlib.Decide.{decLt, decLe}
 use native.Mathlib.Omega.{arith}
 use lib.IntN.{ℤ, pos, negsuc, negℤ, _-ℤ_, _*ℤ_}
 use lib.Signed.{_≤ℤ_}
 use Rattle.whole.specs.Integers.{up, dn}
-use Rattle.whole.specs.Nearest.{dist, Nearest, code}
+use Rattle.whole.specs.Nearest.{dist, Nearest, rounded, code}
 use Rattle.whole.proofs.Halves as H
 
 -- ---- the two bounds that fix the code: it is not too great, and where it is below m not too small
@@ -90,12 +90,49 @@ code-mono s t den m d h =
 
 -- ---- it is the same at a multiple of both
 
+rounded-scale : (w n den : ℕ) → 0 < w → rounded (w * n) (w * den) ≡ rounded n den
+rounded-scale w n den d =
+    ap₂ _/_ (ap (λ x. x + w * den) (NatL.mul-left-comm 2 w n) ∙ sym (NatL.mul-add w (2 * n) den)) (NatL.mul-left-comm 2 w den)
+    ∙ NatL.mul-div-mul-left (2 * n + den) (2 * den) d
+
 pub code-scale : (w : ℕ) (s : ℤ) (den m : ℕ) → 0 < w → code (pos w *ℤ s) (w * den) m ≡ code s den m
 unfolding code
-code-scale w s den m d =
-    ap (min m)
-    (ap₂ _/_ (ap (λ x. 2 * x + w * den) (H.times w s .ups) ∙ ap (λ x. x + w * den) (NatL.mul-left-comm 2 w (up s)) ∙ sym (NatL.mul-add w (2 * up s) den)) (NatL.mul-left-comm 2 w den)
-    ∙ NatL.mul-div-mul-left (2 * up s + den) (2 * den) d)
+code-scale w s den m d = ap (min m) (ap (λ x. rounded x (w * den)) (H.times w s .ups) ∙ rounded-scale w (up s) den d)
+
+-- ---- the code of m·s / den: s may be moved into 0 to den first, and no code need be cut afterwards
+
+rounded-mono : {a b : ℕ} (den : ℕ) → 0 < den → a ≤ b → rounded a den ≤ rounded b den
+rounded-mono den d h = div-mono (2 * den) (omega arith) (omega arith)
+
+rounded-whole : (k den : ℕ) → 0 < den → rounded (k * den) den ≡ k
+rounded-whole k den d =
+    let twice = NatL.mul-left-comm 2 k den in
+    NatL.div-eq-of-lt-le {k = k} (2 * den) (omega (arith, twice)) (omega (arith, twice, NatL.add-mul k 1 (2 * den)))
+
+pub code-moved : (m : ℕ) (s : ℤ) (den : ℕ) → 0 < den → code (pos m *ℤ s) den m ≡ rounded (m * min den (up s)) den
+unfolding code
+code-moved m s den d = ap (λ x. min m (rounded x den)) (H.times m s .ups) ∙ by (decLe (up s) den)
+  where
+    by : Dec (up s ≤ den) → min m (rounded (m * up s) den) ≡ rounded (m * min den (up s)) den
+    by (yes h) =
+        let inside : rounded (m * up s) den ≤ m = NatL.le-trans (rounded-mono den d (NatL.mul-le-mul-left m h)) (NatL.le-of-eq (rounded-whole m den d)) in
+        rw (NatL.min-eq-right h) (NatL.min-eq-right inside)
+    by (no h) =
+        let beyond : den ≤ up s = omega arith in
+        let top : m ≤ rounded (m * up s) den = NatL.le-trans (NatL.le-of-eq (sym (rounded-whole m den d))) (rounded-mono den d (NatL.mul-le-mul-left m beyond)) in
+        rw (NatL.min-eq-left beyond) (NatL.min-eq-left top ∙ sym (rounded-whole m den d))
+
+-- m / den in other terms, p / unit
+pub code-in-terms : (p m den unit : ℕ) (s : ℤ) → 0 < den → 0 < unit → p * den ≡ m * unit → code (pos m *ℤ s) den m ≡ rounded (p * min den (up s)) unit
+code-in-terms p m den unit s d u e =
+    let t = min den (up s) in
+    code-moved m s den d
+    ∙ sym (rounded-scale unit (m * t) den u)
+    ∙ ap₂ rounded (crossed t) (NatL.mul-comm unit den)
+    ∙ rounded-scale den (p * t) unit d
+  where
+    crossed : (t : ℕ) → unit * (m * t) ≡ den * (p * t)
+    crossed t = NatL.mul-left-comm unit m t ∙ sym (NatL.mul-assoc m unit t) ∙ ap (λ x. x * t) (sym e) ∙ NatL.mul-assoc p den t ∙ NatL.mul-left-comm p den t
 
 -- ---- worked examples
 

@@ -19,9 +19,13 @@ pub record Nearest (s : ℤ) (den m r : ℕ) : Type 0 where
   pub least : (k : ℕ) → k ≤ m → dist s (r * den) ≤ dist s (k * den)
   pub greatest : (k : ℕ) → k ≤ m → dist s (r * den) ≡ dist s (k * den) → k ≤ r
 
+-- the whole number nearest to n / den, the greater of two equally near
+abbrev pub rounded : ℕ → ℕ → ℕ
+rounded n den = (2 * n + den) / (2 * den)
+
 -- how it is computed
 unfoldable pub code : ℤ → ℕ → ℕ → ℕ
-code s den m = min m ((2 * up s + den) / (2 * den))
+code s den m = min m (rounded (up s) den)
 
 -- ---- a weighed sum: a list of weights and values
 

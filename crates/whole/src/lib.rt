@@ -1,15 +1,20 @@
-// Whole numbers held in 64 bits: sums of weight times value, and the nearest code, exact over ℤ; the lesser and the greater of two numbers.
+// Whole numbers held in 64 bits: sums of weight times value, and the nearest code, exact over ℤ; the lesser and the greater of two numbers, and their
+// greatest common divisor; division by a number that stays the same.
+pub use divisor::common_divisor;
 pub use order::greater_code;
 pub use order::lesser;
 pub use order::lesser_code;
 pub use order::lesser_count;
+pub use reciprocal::Divisor;
 ghost use mathlib.Core.Path.{_≡_};
 ghost use Prim.Native.Nat.{_+_, _*_, _≤_, _<_, max};
 ghost use lib.IntN.{pos, natAbs, _+ℤ_, _*ℤ_};
 ghost use Rattle.whole.specs.Integers.{up, dn};
-ghost use Rattle.whole.specs.Nearest.{code};
+ghost use Rattle.whole.specs.Nearest.{rounded, code};
 
+mod divisor;
 mod order;
+mod reciprocal;
 
 pub struct Whole(pub i64);
 
@@ -88,7 +93,15 @@ impl Whole {
         ensures { λ r. ⌜ r ≡ code (self .0) den m ⌝ }
     {
         let n = self.above();
-        let q = (2 * n + den) / (2 * den);
-        lesser(m, q)
+        lesser(m, rounded(n, den))
     }
+}
+
+// The whole number nearest to n / den, the greater of two equally near.
+pub fn rounded(n: u64, den: u64) -> u64
+    requires { ⌜ 0 < den ⌝ }
+    requires { ⌜ 2 * n + 2 * den ≤ 18_446_744_073_709_551_615 ⌝ }
+    ensures { λ r. ⌜ r ≡ rounded n den ⌝ }
+{
+    (2 * n + den) / (2 * den)
 }

@@ -8,35 +8,58 @@ const ONE: u64 = 10_000_000;
 /// Document 01's number where the picture is refused.
 pub type Refused = u32;
 
+/// The depths of raw and of corrected codes, in bits.
+#[derive(Clone, Copy, PartialEq, Eq, Debug)]
+pub struct Bits {
+    pub raw: u32,
+    pub corrected: u32,
+}
+
 /// Corrects `src` into `dst`, or writes nothing.
 pub fn picture(
     description: &Description,
     table: &[i64],
-    bits: u32,
+    bits: Bits,
     src: &[u16],
     dst: &mut [u16],
 ) -> Result<(), Refused> {
-    let m = judge(description, table, bits, src, dst.len())?;
-    let axes = axes(&description.domains, description.n, m);
-    let pixels = src.chunks_exact(3).zip(dst.chunks_exact_mut(3));
-    match description.kind {
-        Kind::OneD => pixels.for_each(|(pixel, out)| linear(&axes, table, pixel, out)),
-        Kind::ThreeD => {
-            let n = description.n;
-            pixels.for_each(|(pixel, out)| tetrahedral(&axes, n, table, pixel, out));
-        }
+    let greatest = judge(description, table, bits, src, dst.len())?;
+    let axes = axes(&description.domains, description.n, greatest);
+    if bits.raw == bits.corrected {
+        correct::<false>(description, &axes, table, src, dst);
+    } else {
+        correct::<true>(description, &axes, table, src, dst);
     }
     Ok(())
 }
 
-/// The depth's greatest code, if nothing is to be refused.
+/// Corrects every pixel. SCALED says whether the two depths differ, so that equal ones are not
+/// multiplied by 1.
+fn correct<const SCALED: bool>(
+    description: &Description,
+    axes: &[Axis; 3],
+    table: &[i64],
+    src: &[u16],
+    dst: &mut [u16],
+) {
+    let pixels = src.chunks_exact(3).zip(dst.chunks_exact_mut(3));
+    match description.kind {
+        Kind::OneD => pixels.for_each(|(pixel, out)| linear::<SCALED>(axes, table, pixel, out)),
+        Kind::ThreeD => {
+            let n = description.n;
+            pixels.for_each(|(pixel, out)| tetrahedral::<SCALED>(axes, n, table, pixel, out));
+        }
+    }
+}
+
+/// The greatest raw and the greatest corrected code, if nothing is to be refused.
 fn judge(
     description: &Description,
     table: &[i64],
-    bits: u32,
+    bits: Bits,
     src: &[u16],
     places: usize,
-) -> Result<u16, Refused> {
+) -> Result<[u16; 2], Refused> {
     let beyond = |sample: &i64| !(-GREATEST_SAMPLE..=GREATEST_SAMPLE).contains(sample);
     if !description.keeps_limits() {
         return Err(24);
@@ -45,23 +68,27 @@ fn judge(
         Some(samples) if !samples.iter().any(beyond) => {}
         _ => return Err(24),
     }
-    let m = match bits {
-        8 => 255,
-        10 => 1023,
-        12 => 4095,
-        16 => 65535,
-        _ => return Err(20),
-    };
+    let [raw, corrected] = [greatest_code(bits.raw)?, greatest_code(bits.corrected)?];
     if src.len() % 3 != 0 {
         return Err(21);
     }
     if places < src.len() {
         return Err(22);
     }
-    if src.iter().any(|code| *code > m) {
+    if src.iter().any(|code| *code > raw) {
         return Err(23);
     }
-    Ok(m)
+    Ok([raw, corrected])
+}
+
+fn greatest_code(bits: u32) -> Result<u16, Refused> {
+    match bits {
+        8 => Ok(255),
+        10 => Ok(1023),
+        12 => Ok(4095),
+        16 => Ok(65535),
+        _ => Err(20),
+    }
 }
 
 /// All that one colour's codes need, worked out once.
@@ -72,23 +99,37 @@ struct Axis {
     den: u64,
     /// N - 1.
     cells: u64,
-    /// The greatest sum that is no more than M, and the sum that makes one code.
+    /// The sum of a value of one: no greater one has another code.
     ceiling: i64,
+    /// The corrected M over the raw M in lowest terms: what is above; with equal depths it is 1.
+    times: u64,
+    /// What makes one corrected code of a sum that was multiplied by it.
     one_code: u64,
 }
 
-fn axes(domains: &Domains, n: usize, m: u16) -> [Axis; 3] {
+fn axes(domains: &Domains, n: usize, greatest: [u16; 2]) -> [Axis; 3] {
+    let [raw, corrected] = greatest.map(u64::from);
+    let common = common_divisor(raw, corrected);
     domains.map(|[lower, upper]| {
         let width = (upper - lower) as u64;
-        let one_code = width * ONE;
+        let den = raw * width;
         Axis {
-            start: lower * i64::from(m),
-            den: u64::from(m) * width,
+            start: lower * raw as i64,
+            den,
             cells: n as u64 - 1,
-            ceiling: (u64::from(m) * one_code) as i64,
-            one_code,
+            ceiling: (den * ONE) as i64,
+            times: corrected / common,
+            one_code: raw / common * width * ONE,
         }
     })
+}
+
+fn common_divisor(one: u64, other: u64) -> u64 {
+    if other == 0 {
+        one
+    } else {
+        common_divisor(other, one % other)
+    }
 }
 
 impl Axis {
@@ -101,25 +142,34 @@ impl Axis {
         (cell as usize, scaled - cell * self.den)
     }
 
-    /// The nearest code of a weighed sum, the greater of two equally near.
+    /// The nearest code of a weighed sum, the greater of two equally near. Moved to 0 or the
+    /// ceiling first, the sum is small enough to be multiplied.
     #[inline]
-    fn code(&self, sum: i64) -> u16 {
+    fn code<const SCALED: bool>(&self, sum: i64) -> u16 {
         let sum = sum.clamp(0, self.ceiling) as u64;
-        ((sum + self.one_code / 2) / self.one_code) as u16
+        let scaled = if SCALED { self.times * sum } else { sum };
+        ((scaled + self.one_code / 2) / self.one_code) as u16
     }
 }
 
 #[inline]
-fn linear(axes: &[Axis; 3], table: &[i64], pixel: &[u16], out: &mut [u16]) {
+fn linear<const SCALED: bool>(axes: &[Axis; 3], table: &[i64], pixel: &[u16], out: &mut [u16]) {
     for (colour, axis) in axes.iter().enumerate() {
         let (row, fraction) = axis.place(pixel[colour]);
         let (low, high) = (table[3 * row + colour], table[3 * row + 3 + colour]);
-        out[colour] = axis.code((axis.den - fraction) as i64 * low + fraction as i64 * high);
+        let sum = (axis.den - fraction) as i64 * low + fraction as i64 * high;
+        out[colour] = axis.code::<SCALED>(sum);
     }
 }
 
 #[inline]
-fn tetrahedral(axes: &[Axis; 3], n: usize, table: &[i64], pixel: &[u16], out: &mut [u16]) {
+fn tetrahedral<const SCALED: bool>(
+    axes: &[Axis; 3],
+    n: usize,
+    table: &[i64],
+    pixel: &[u16],
+    out: &mut [u16],
+) {
     let (red, f_red) = axes[0].place(pixel[0]);
     let (green, f_green) = axes[1].place(pixel[1]);
     let (blue, f_blue) = axes[2].place(pixel[2]);
@@ -141,6 +191,6 @@ fn tetrahedral(axes: &[Axis; 3], n: usize, table: &[i64], pixel: &[u16], out: &m
     let samples = rows.map(|row| &table[3 * row..3 * row + 3]);
     for colour in 0..3 {
         let sum = (0..4).map(|corner| weights[corner] * samples[corner][colour]).sum();
-        out[colour] = axes[colour].code(sum);
+        out[colour] = axes[colour].code::<SCALED>(sum);
     }
 }

@@ -1,5 +1,7 @@
 //! The proved library's two calls that are measured.
 
+use baseline::picture::Bits;
+
 mod c {
     extern "C" {
         pub fn erythmoda_read(
@@ -14,7 +16,8 @@ mod c {
             description: *const i64,
             table: *const i64,
             table_len: usize,
-            bits: u32,
+            raw_bits: u32,
+            corrected_bits: u32,
             src: *const u16,
             src_len: usize,
             dst: *mut u16,
@@ -41,7 +44,7 @@ pub fn read(file: &[u8], table: &mut [i64]) -> u32 {
 pub fn picture(
     description: &[i64; 11],
     table: &[i64],
-    bits: u32,
+    bits: Bits,
     src: &[u16],
     dst: &mut [u16],
 ) -> u32 {
@@ -51,7 +54,8 @@ pub fn picture(
             description.as_ptr(),
             table.as_ptr(),
             table.len(),
-            bits,
+            bits.raw,
+            bits.corrected,
             src.as_ptr(),
             src.len(),
             dst.as_mut_ptr(),

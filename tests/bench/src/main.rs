@@ -3,6 +3,7 @@
 
 mod library;
 
+use baseline::picture::Bits;
 use baseline::{Description, Kind};
 use std::fmt::Write;
 use std::process::ExitCode;
@@ -13,20 +14,24 @@ const PICTURE_ROUNDS: usize = 201;
 const READING_ROUNDS: usize = 21;
 const READING_N: usize = 65;
 
+/// Depths of raw and of corrected codes.
+const EQUAL: &[Bits] = &[Bits { raw: 8, corrected: 8 }, Bits { raw: 16, corrected: 16 }];
+const WIDER: &[Bits] = &[EQUAL[0], EQUAL[1], Bits { raw: 12, corrected: 16 }];
+
 fn main() -> ExitCode {
     println!("pictures of {PIXELS} pixels, medians of {PICTURE_ROUNDS} rounds");
     println!("kind\tN\tbits\tours, ns a pixel\tbaseline, ns a pixel\tratio");
     let shapes = [
-        (Kind::ThreeD, 13),
-        (Kind::ThreeD, 33),
-        (Kind::OneD, 13),
-        (Kind::OneD, 33),
-        (Kind::OneD, 1024),
+        (Kind::ThreeD, 13, WIDER),
+        (Kind::ThreeD, 33, WIDER),
+        (Kind::OneD, 13, EQUAL),
+        (Kind::OneD, 33, WIDER),
+        (Kind::OneD, 1024, EQUAL),
     ];
     let mut alike = true;
-    for (kind, n) in shapes {
-        for bits in [8, 16] {
-            alike &= pictures(kind, n, bits);
+    for (kind, n, depths) in shapes {
+        for bits in depths {
+            alike &= pictures(kind, n, *bits);
         }
     }
     alike &= reading();
@@ -78,13 +83,13 @@ fn median(mut times: Vec<u128>) -> f64 {
 }
 
 /// One line of the table of pictures; whether the two gave the same codes.
-fn pictures(kind: Kind, n: usize, bits: u32) -> bool {
+fn pictures(kind: Kind, n: usize, bits: Bits) -> bool {
     let mut draws = Draws(1);
     let description = Description { kind, n, domains: [[0, 1000]; 3] };
     let mark = if kind == Kind::OneD { 1 } else { 3 };
     let eleven = [mark, n as i64, 0, 0, 0, 1000, 1000, 1000, 0, 0, 0];
     let table: Vec<i64> = (0..3 * description.rows()).map(|_| draws.sample()).collect();
-    let source: Vec<u16> = (0..3 * PIXELS).map(|_| draws.below(1 << bits) as u16).collect();
+    let source: Vec<u16> = (0..3 * PIXELS).map(|_| draws.below(1 << bits.raw) as u16).collect();
     let (mut ours, mut plain) = (vec![0; source.len()], vec![0; source.len()]);
     let (mut number, mut answer) = (0, Ok(()));
     let (our_time, plain_time) = medians(
@@ -94,8 +99,15 @@ fn pictures(kind: Kind, n: usize, bits: u32) -> bool {
     );
     let (our_time, plain_time) = (our_time / PIXELS as f64, plain_time / PIXELS as f64);
     let ratio = our_time / plain_time;
-    println!("{mark}D\t{n}\t{bits}\t{our_time:.1}\t{plain_time:.1}\t{ratio:.2}");
+    println!("{mark}D\t{n}\t{}\t{our_time:.1}\t{plain_time:.1}\t{ratio:.2}", shown(bits));
     number == 0 && answer.is_ok() && ours == plain
+}
+
+fn shown(bits: Bits) -> String {
+    match bits.raw == bits.corrected {
+        true => bits.raw.to_string(),
+        false => format!("{} to {}", bits.raw, bits.corrected),
+    }
 }
 
 /// The line of reading; whether the two gave the same table.

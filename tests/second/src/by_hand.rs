@@ -3,7 +3,7 @@
 
 use crate::cases::{CUBE, SAMPLE_A2, SAMPLE_A3, SAMPLE_A4, SMALL};
 use crate::look::{look, Look};
-use crate::paper::{Description, REFUSED_DESCRIPTION};
+use crate::paper::{Bits, Description, REFUSED_DESCRIPTION};
 use crate::picture::picture;
 use crate::reading::{check, read, read_into};
 use crate::report::report;
@@ -146,11 +146,11 @@ fn with_no_table() {
     assert_eq!(check(SAMPLE_A3.as_bytes()).description, [1, 3, 0, 0, 0, 1000, 2000, 3000, 1, 7, 4]);
 }
 
-/// 1D, N = 2, 8 bits, all colours alike.
-fn code_of_two_rows(first: i64, second: i64, code: u16) -> u16 {
+/// 1D, N = 2, all colours alike.
+fn code_of_two_rows(bits: Bits, rows: [i64; 2], code: u16) -> u16 {
     let description = [1, 2, 0, 0, 0, 1000, 1000, 1000, 0, 0, 0];
-    let table = [first, first, first, second, second, second];
-    let look = look(&description, &table, 8, [code; 3]);
+    let table = rows.map(|row| [row; 3]).concat();
+    let look = look(&description, &table, bits, [code; 3]);
     assert_eq!(look.number, 0);
     assert_eq!(look.codes, [look.codes[0]; 3]);
     look.codes[0]
@@ -158,17 +158,49 @@ fn code_of_two_rows(first: i64, second: i64, code: u16) -> u16 {
 
 #[test]
 fn one_dimensional_codes() {
-    assert_eq!(code_of_two_rows(0, 5_000_000, 1), 1);
-    assert_eq!(code_of_two_rows(0, 5_000_000, 3), 2);
-    assert_eq!(code_of_two_rows(-5_000_000, 5_000_000, 127), 0);
-    assert_eq!(code_of_two_rows(-5_000_000, 5_000_000, 128), 1);
-    assert_eq!(code_of_two_rows(0, 20_000_000, 200), 255);
+    let eight = Bits::same(8);
+    assert_eq!(code_of_two_rows(eight, [0, 5_000_000], 1), 1);
+    assert_eq!(code_of_two_rows(eight, [0, 5_000_000], 3), 2);
+    assert_eq!(code_of_two_rows(eight, [-5_000_000, 5_000_000], 127), 0);
+    assert_eq!(code_of_two_rows(eight, [-5_000_000, 5_000_000], 128), 1);
+    assert_eq!(code_of_two_rows(eight, [0, 20_000_000], 200), 255);
+}
+
+/// Document 02, Req 06: the position by the raw M, the code by the corrected one.
+#[test]
+fn codes_of_another_depth() {
+    let to = |raw, corrected| Bits { raw, corrected };
+    // 51/255 is a fifth, and so is 819/4095
+    assert_eq!(code_of_two_rows(to(8, 16), [0, 10_000_000], 51), 13_107);
+    assert_eq!(code_of_two_rows(to(12, 16), [0, 10_000_000], 819), 13_107);
+    assert_eq!(code_of_two_rows(to(16, 12), [0, 10_000_000], 13_107), 819);
+    // 273/8190 of 65535 is 2184 and a half, and a code less is not yet 2176 and a half
+    assert_eq!(code_of_two_rows(to(12, 16), [0, 5_000_000], 273), 2185);
+    assert_eq!(code_of_two_rows(to(12, 16), [0, 5_000_000], 272), 2176);
+    // 257/131070 of 255 is a half
+    assert_eq!(code_of_two_rows(to(16, 8), [0, 5_000_000], 257), 1);
+    assert_eq!(code_of_two_rows(to(16, 8), [0, 5_000_000], 256), 0);
+    // beyond 0 and 1
+    assert_eq!(code_of_two_rows(to(8, 16), [0, 20_000_000], 200), 65_535);
+    assert_eq!(code_of_two_rows(to(16, 8), [0, 10_000_000_000], 65_535), 255);
+    assert_eq!(code_of_two_rows(to(12, 10), [-10_000_000, 0], 4094), 0);
+}
+
+/// Rows and weights are those of the raw depth, whatever the corrected one.
+#[test]
+fn rows_and_weights_by_the_raw_depth() {
+    let (description, table) = cube();
+    for corrected in [8, 10, 12, 16] {
+        let seen = look(&description, &table, Bits { raw: 8, corrected }, [51, 102, 204]);
+        assert_eq!(seen.rows, [0, 4, 6, 7, 0, 0]);
+        assert_eq!(seen.weights, [51_000, 102_000, 51_000, 51_000, 0, 0]);
+    }
 }
 
 #[test]
 fn sixteen_bits() {
     let description = [1, 3, 0, 0, 0, 1000, 1000, 1000, 0, 0, 0];
-    let look = look(&description, &[0; 9], 16, [32768; 3]);
+    let look = look(&description, &[0; 9], Bits::same(16), [32768; 3]);
     assert_eq!(look.rows, [1, 2, 1, 2, 1, 2]);
     assert_eq!(look.weights, [65_534_000, 1_000, 65_534_000, 1_000, 65_534_000, 1_000]);
 }
@@ -176,7 +208,7 @@ fn sixteen_bits() {
 #[test]
 fn sample_a3_blue() {
     let reading = read(SAMPLE_A3.as_bytes(), 9);
-    let look = look(&reading.description, &reading.samples, 8, [0, 0, 255]);
+    let look = look(&reading.description, &reading.samples, Bits::same(8), [0, 0, 255]);
     assert_eq!(look.rows[4..], [0, 1]);
     assert_eq!(look.weights[4..], [255_000, 510_000]);
     assert_eq!(look.codes[2], 255);
@@ -185,7 +217,7 @@ fn sample_a3_blue() {
 #[test]
 fn narrow_domain() {
     let description = [1, 2, 250, 250, 250, 750, 750, 750, 0, 0, 0];
-    let look = look(&description, &[0; 6], 8, [255; 3]);
+    let look = look(&description, &[0; 6], Bits::same(8), [255; 3]);
     assert_eq!(look.weights[..2], [0, 127_500]);
 }
 
@@ -203,10 +235,10 @@ fn three_dimensional() {
         rows: [0, 4, 6, 7, 0, 0],
         weights: [51_000, 102_000, 51_000, 51_000, 0, 0],
     };
-    assert_eq!(look(&description, &table, 8, [51, 102, 204]), expected);
+    assert_eq!(look(&description, &table, Bits::same(8), [51, 102, 204]), expected);
     let mut output = [9; 7];
     let source = [51, 102, 204, 255, 255, 255];
-    assert_eq!(picture(&description, &table, 8, &source, &mut output), 0);
+    assert_eq!(picture(&description, &table, Bits::same(8), &source, &mut output), 0);
     assert_eq!(output, [51, 51, 51, 255, 255, 255, 9]);
 }
 
@@ -266,25 +298,55 @@ fn title_places() {
     assert_eq!(place_and_length("TITLE \" # \""), (1, 7, 3));
 }
 
-#[test]
-fn order_of_checks_in_look_and_picture() {
+/// The table of document 01's 3D file with its description, and a description that is 24.
+fn cube_and_none() -> (Description, Description, Vec<i64>) {
     let (good, table) = cube();
     let mut bad = good;
     bad[0] = 2;
+    (good, bad, table)
+}
+
+/// Document 01's order, and document 02's in it: "20 is tried for the raw depth, then the
+/// corrected; 23 goes by the raw M".
+#[test]
+fn order_of_checks_in_picture() {
+    let (good, bad, table) = cube_and_none();
     let mut output = [9; 1];
-    let mut number = |d: &Description, bits, source: &[u16]| {
-        let number = picture(d, &table, bits, source, &mut output);
+    let mut number = |d: &Description, raw, corrected, source: &[u16]| {
+        let number = picture(d, &table, Bits { raw, corrected }, source, &mut output);
         assert_eq!(output, [9]);
         number
     };
-    assert_eq!(number(&bad, 9, &[256, 0, 0, 0]), 24);
-    assert_eq!(number(&good, 9, &[256, 0, 0, 0]), 20);
-    assert_eq!(number(&good, 8, &[256, 0, 0, 0]), 21);
-    assert_eq!(number(&good, 8, &[256, 0, 0]), 22);
-    assert_eq!(number(&good, 9, &[]), 20);
-    assert_eq!(number(&good, 8, &[]), 0);
-    assert_eq!(picture(&good, &table, 8, &[0, 0, 256], &mut [0; 3]), 23);
-    assert_eq!(look(&bad, &table, 9, [256, 0, 0]).number, 24);
-    assert_eq!(look(&good, &table, 9, [256, 0, 0]).number, 20);
-    assert_eq!(look(&good, &table, 8, [256, 0, 0]).number, 23);
+    for (raw, corrected) in [(9, 9), (9, 8), (8, 9)] {
+        assert_eq!(number(&bad, raw, corrected, &[256, 0, 0, 0]), 24);
+        assert_eq!(number(&good, raw, corrected, &[256, 0, 0, 0]), 20);
+        assert_eq!(number(&good, raw, corrected, &[256, 0, 0]), 20);
+        assert_eq!(number(&good, raw, corrected, &[]), 20);
+    }
+    for corrected in [8, 16] {
+        assert_eq!(number(&good, 8, corrected, &[256, 0, 0, 0]), 21);
+        assert_eq!(number(&good, 8, corrected, &[256, 0, 0]), 22);
+        assert_eq!(number(&good, 8, corrected, &[]), 0);
+        let bits = Bits { raw: 8, corrected };
+        assert_eq!(picture(&good, &table, bits, &[0, 0, 256], &mut [0; 3]), 23);
+    }
+    assert_eq!(number(&good, 16, 8, &[]), 0);
+    let bits = Bits { raw: 16, corrected: 8 };
+    assert_eq!(picture(&good, &table, bits, &[0, 0, 256], &mut [0; 3]), 0);
+}
+
+#[test]
+fn order_of_checks_in_look() {
+    let (good, bad, table) = cube_and_none();
+    let number = |d: &Description, raw, corrected| {
+        look(d, &table, Bits { raw, corrected }, [256, 0, 0]).number
+    };
+    for (raw, corrected) in [(9, 9), (9, 8), (8, 9), (9, 16), (16, 9)] {
+        assert_eq!(number(&bad, raw, corrected), 24);
+        assert_eq!(number(&good, raw, corrected), 20);
+    }
+    assert_eq!(number(&bad, 8, 8), 24);
+    assert_eq!(number(&good, 8, 8), 23);
+    assert_eq!(number(&good, 8, 16), 23);
+    assert_eq!(number(&good, 16, 8), 0);
 }

@@ -54,23 +54,46 @@
 //! A 3D table of N = 256 is too long for a program with fixed arrays: that its size passes
 //! is shown by the answer 13, for want of places, where 257 gives 7.
 //!
-//! Looks: 1D, N = 2, no title, 8 bits.
+//! Looks: 1D, N = 2, no title. Bits are those of raw codes and of corrected codes.
 //!
-//! | name | domain, each colour | rows, each colour | pixel |
+//! | name | bits | domain, each colour | rows, each colour | pixel |
+//! |---|---|---|---|---|
+//! | look-half-3 | 8 to 8 | 0 to 1000 | 0, 5000000 | 3 3 3 |
+//! | look-quarter-255 | 8 to 8 | 250 to 750 | 0, 10000000 | 255 255 255 |
+//! | look-code-256 | 8 to 8 | 0 to 1000 | 0, 5000000 | 256 256 256 |
+//! | look-8-to-16-fifth | 8 to 16 | 0 to 1000 | 0, 10000000 | 51 51 51 |
+//! | look-8-to-16-above-1 | 8 to 16 | 0 to 1000 | 0, 20000000 | 200 200 200 |
+//! | look-12-to-16-tie | 12 to 16 | 0 to 1000 | 0, 5000000 | 273 273 273 |
+//! | look-12-to-16-below-tie | 12 to 16 | 0 to 1000 | 0, 5000000 | 272 272 272 |
+//! | look-16-to-8-tie | 16 to 8 | 0 to 1000 | 0, 5000000 | 257 257 257 |
+//! | look-16-to-8-below-tie | 16 to 8 | 0 to 1000 | 0, 5000000 | 256 256 256 |
+//! | look-8-to-16-code-256 | 8 to 16 | 0 to 1000 | 0, 5000000 | 256 256 256 |
+//! | look-8-to-9-code-256 | 8 to 9 | 0 to 1000 | 0, 5000000 | 256 256 256 |
+//! | look-9-to-8-code-3 | 9 to 8 | 0 to 1000 | 0, 5000000 | 3 3 3 |
+//!
+//! By hand: 51/255 is a fifth, and so is 13107/65535. From 12 bits to 16, 273/8190 of 65535 is
+//! 2184 and a half, and 272/8190 of it is 2176 and less than a half; from 16 to 8, 257/131070 of
+//! 255 is a half, and 256/131070 of it less. A code above the raw M is 23 where both depths are
+//! known, whatever the corrected M.
+//!
+//! Pictures: CUBE's description and its 24 numbers. PIXELS is 51 102 204 255 0 255, and a pixel's
+//! three codes are the least of its raw ones, as a part of the raw M.
+//!
+//! | name | bits | source | output places |
 //! |---|---|---|---|
-//! | look-half-3 | 0 to 1000 | 0, 5000000 | 3 3 3 |
-//! | look-quarter-255 | 250 to 750 | 0, 10000000 | 255 255 255 |
-//! | look-code-256 | 0 to 1000 | 0, 5000000 | 256 256 256 |
+//! | picture-two-pixels | 8 to 8 | PIXELS | 8 |
+//! | picture-of-none | 8 to 8 | nothing | 2 |
+//! | picture-of-five-codes | 8 to 8 | the first five of PIXELS | 6 |
+//! | picture-into-five-places | 8 to 8 | PIXELS | 5 |
+//! | picture-code-256 | 8 to 8 | 0 0 256 | 3 |
+//! | picture-12-to-16-two-pixels | 12 to 16 | 819 1638 3276 4095 1 4095 | 8 |
+//! | picture-16-to-8-code-256 | 16 to 8 | 65535 256 257 | 3 |
+//! | picture-8-to-16-code-256 | 8 to 16 | 0 0 256 | 3 |
+//! | picture-8-to-9-code-256 | 8 to 9 | 0 0 256 | 3 |
+//! | picture-9-to-8-of-five-codes | 9 to 8 | the first five of PIXELS | 6 |
 //!
-//! Pictures: CUBE's description and its 24 numbers, 8 bits. PIXELS is 51 102 204 255 0 255.
-//!
-//! | name | source | output places |
-//! |---|---|---|
-//! | picture-two-pixels | PIXELS | 8 |
-//! | picture-of-none | nothing | 2 |
-//! | picture-of-five-codes | the first five of PIXELS | 6 |
-//! | picture-into-five-places | PIXELS | 5 |
-//! | picture-code-256 | 0 0 256 | 3 |
+//! By hand: 819/4095 is a fifth, and 1/4095 of 65535 is 16 and little more; 256/65535 of 255 is
+//! nearly 1.
 //!
 //! Checks, with no table:
 //!
@@ -87,6 +110,7 @@
 //! A size that passes is answered 18 here, for want of rows.
 
 use crate::look::look;
+use crate::paper::Bits;
 use crate::picture::picture;
 use crate::reading::{check, read_into};
 use crate::show::list;
@@ -103,19 +127,6 @@ pub fn printed() -> String {
         "size-1d-65536" => longest_line(name, &file, places),
         _ => read_line(name, &file, places),
     });
-    let looks = [
-        look_line("look-half-3", [0, 1000], [0, 5_000_000], 3),
-        look_line("look-quarter-255", [250, 750], [0, 10_000_000], 255),
-        look_line("look-code-256", [0, 1000], [0, 5_000_000], 256),
-    ];
-    let pixels = [51, 102, 204, 255, 0, 255];
-    let pictures = [
-        picture_line("picture-two-pixels", &pixels, 8),
-        picture_line("picture-of-none", &[], 2),
-        picture_line("picture-of-five-codes", &pixels[..5], 6),
-        picture_line("picture-into-five-places", &pixels, 5),
-        picture_line("picture-code-256", &[0, 0, 256], 3),
-    ];
     let checks = [
         check_line("check-size-1d-65536", "LUT_1D_SIZE 65536\n"),
         check_line("check-size-1d-65537", "LUT_1D_SIZE 65537\n"),
@@ -125,7 +136,41 @@ pub fn printed() -> String {
         check_line("check-cube", CUBE),
         check_line("check-sample-a3", SAMPLE_A3),
     ];
-    reads.chain(looks).chain(pictures).chain(checks).map(|line| line + "\n").collect()
+    reads.chain(look_lines()).chain(picture_lines()).chain(checks).map(|line| line + "\n").collect()
+}
+
+fn look_lines() -> [String; 12] {
+    let [half, one, two] = [5_000_000, 10_000_000, 20_000_000];
+    [
+        look_line("look-half-3", [8, 8], [0, 1000], half, 3),
+        look_line("look-quarter-255", [8, 8], [250, 750], one, 255),
+        look_line("look-code-256", [8, 8], [0, 1000], half, 256),
+        look_line("look-8-to-16-fifth", [8, 16], [0, 1000], one, 51),
+        look_line("look-8-to-16-above-1", [8, 16], [0, 1000], two, 200),
+        look_line("look-12-to-16-tie", [12, 16], [0, 1000], half, 273),
+        look_line("look-12-to-16-below-tie", [12, 16], [0, 1000], half, 272),
+        look_line("look-16-to-8-tie", [16, 8], [0, 1000], half, 257),
+        look_line("look-16-to-8-below-tie", [16, 8], [0, 1000], half, 256),
+        look_line("look-8-to-16-code-256", [8, 16], [0, 1000], half, 256),
+        look_line("look-8-to-9-code-256", [8, 9], [0, 1000], half, 256),
+        look_line("look-9-to-8-code-3", [9, 8], [0, 1000], half, 3),
+    ]
+}
+
+fn picture_lines() -> [String; 10] {
+    let pixels = [51, 102, 204, 255, 0, 255];
+    [
+        picture_line("picture-two-pixels", [8, 8], &pixels, 8),
+        picture_line("picture-of-none", [8, 8], &[], 2),
+        picture_line("picture-of-five-codes", [8, 8], &pixels[..5], 6),
+        picture_line("picture-into-five-places", [8, 8], &pixels, 5),
+        picture_line("picture-code-256", [8, 8], &[0, 0, 256], 3),
+        picture_line("picture-12-to-16-two-pixels", [12, 16], &[819, 1638, 3276, 4095, 1, 4095], 8),
+        picture_line("picture-16-to-8-code-256", [16, 8], &[65535, 256, 257], 3),
+        picture_line("picture-8-to-16-code-256", [8, 16], &[0, 0, 256], 3),
+        picture_line("picture-8-to-9-code-256", [8, 9], &[0, 0, 256], 3),
+        picture_line("picture-9-to-8-of-five-codes", [9, 8], &pixels[..5], 6),
+    ]
 }
 
 fn word(word: &str) -> String {
@@ -200,11 +245,17 @@ fn longest_line(name: &str, file: &str, places: usize) -> String {
     format!("{name}\t{}", list(&fields, "\t"))
 }
 
-fn look_line(name: &str, domain: [i64; 2], rows: [i64; 2], code: u16) -> String {
-    let ([lo, up], [first, second]) = (domain, rows);
+/// A look through a table whose rows are 0 and another number.
+fn look_line(
+    name: &str,
+    [raw, corrected]: [u32; 2],
+    [lo, up]: [i64; 2],
+    last: i64,
+    code: u16,
+) -> String {
     let description = [1, 2, lo, lo, lo, up, up, up, 0, 0, 0];
-    let table = [first, first, first, second, second, second];
-    let look = look(&description, &table, 8, [code; 3]);
+    let table = [0, 0, 0, last, last, last];
+    let look = look(&description, &table, Bits { raw, corrected }, [code; 3]);
     let mut fields = vec![i64::from(look.number)];
     fields.extend(look.codes.map(i64::from));
     fields.extend(look.rows.map(i64::from));
@@ -212,12 +263,12 @@ fn look_line(name: &str, domain: [i64; 2], rows: [i64; 2], code: u16) -> String 
     format!("{name}\t{}", list(&fields, "\t"))
 }
 
-fn picture_line(name: &str, source: &[u16], places: usize) -> String {
+fn picture_line(name: &str, [raw, corrected]: [u32; 2], source: &[u16], places: usize) -> String {
     let description = [3, 2, 0, 0, 0, 1000, 1000, 1000, 0, 0, 0];
     let mut table = [0; 24];
     table[21..].fill(10_000_000);
     let mut output = vec![7; places];
-    let number = picture(&description, &table, 8, source, &mut output);
+    let number = picture(&description, &table, Bits { raw, corrected }, source, &mut output);
     let mut fields = vec![i64::from(number)];
     fields.extend(output.into_iter().map(i64::from));
     format!("{name}\t{}", list(&fields, "\t"))

@@ -9,7 +9,7 @@ pub mod files;
 pub mod lookups;
 pub mod words;
 
-use crate::paper::{Description, REPORT_BYTES, REPORT_PLACES};
+use crate::paper::{Bits, Description, REPORT_BYTES, REPORT_PLACES};
 use draws::Draws;
 
 /// A file and the length of the table lent for it.
@@ -26,7 +26,7 @@ pub struct FileCase {
 pub struct LookCase {
     pub description: Description,
     pub table: Vec<i64>,
-    pub bits: u32,
+    pub bits: Bits,
     pub pixel: [u16; 3],
     pub made: Vec<&'static str>,
 }
@@ -36,7 +36,7 @@ pub struct LookCase {
 pub struct PictureCase {
     pub description: Description,
     pub table: Vec<i64>,
-    pub bits: u32,
+    pub bits: Bits,
     pub source: Vec<u16>,
     pub output_len: usize,
     pub made: Vec<&'static str>,

@@ -16,7 +16,7 @@
 //! | `cases` | "Checked by hand", the cases not marked P |
 //!
 //! `gen` makes inputs from a seed, `side` puts them to one of the two programs,
-//! `run` goes through a whole stream and counts, `met` says what its files and looks came to,
+//! `run` goes through a whole stream and counts, `met` says what its cases came to,
 //! `small` makes a case that differs small, and `ffi` (feature `ours`) calls the proved
 //! program.
 

@@ -1,9 +1,10 @@
 //! Look: one pixel to three corrected codes, with the rows and weights used.
 //!
-//! Document 01, "Interpolation". All numbers are 128 bits wide, so that nothing
+//! Document 01, "Interpolation", with document 02's two depths: "The position [...] use[s] the raw
+//! M; nearest, and the range of corrected codes, use the corrected M." All numbers are 128 bits wide, so that nothing
 //! depends on how far the paper's "fits 64 signed bits" goes.
 
-use crate::paper::{colours, greatest_code, number, place, Description, Kind};
+use crate::paper::{colours, number, place, Bits, Description, Greatest, Kind};
 use crate::paper::{differ_in_3d, some_lower_not_below, some_too_wide};
 use crate::paper::{BOUND_UNITS, GREATEST_BOUND, GREATEST_SAMPLE, SAMPLE_UNITS};
 
@@ -17,15 +18,15 @@ pub struct Look {
 }
 
 /// Looks one pixel up. "Look and picture check 24, 20, 21, 22, 23 in that order (look has
-/// no 21, 22)."
-pub fn look(description: &Description, table: &[i64], bits: u32, pixel: [u16; 3]) -> Look {
+/// no 21, 22)." "23 goes by the raw M."
+pub fn look(description: &Description, table: &[i64], bits: Bits, pixel: [u16; 3]) -> Look {
     let Some(cube) = Cube::of(description, table) else {
         return refused(number::NOT_FROM_READING);
     };
-    let Some(m) = greatest_code(bits) else {
+    let Some(m) = bits.greatest() else {
         return refused(number::DEPTH_UNKNOWN);
     };
-    if pixel.iter().any(|code| *code > m) {
+    if pixel.iter().any(|code| *code > m.raw) {
         return refused(number::CODE_ABOVE_M);
     }
     cube.correct(m, pixel)
@@ -70,12 +71,12 @@ impl<'a> Cube<'a> {
         samples.iter().all(measured).then_some(Cube { kind, n, lower, upper, samples })
     }
 
-    /// The accepted look at a pixel whose codes are at most M.
-    pub fn correct(&self, m: u16, pixel: [u16; 3]) -> Look {
-        let positions = [0, 1, 2].map(|colour| self.position(m, colour, pixel[colour]));
+    /// The accepted look at a pixel whose codes are at most the raw M.
+    pub fn correct(&self, m: Greatest, pixel: [u16; 3]) -> Look {
+        let positions = [0, 1, 2].map(|colour| self.position(m.raw, colour, pixel[colour]));
         match self.kind {
-            Kind::OneD => self.correct_1d(m, &positions),
-            Kind::ThreeD => self.correct_3d(m, &positions),
+            Kind::OneD => self.correct_1d(m.corrected, &positions),
+            Kind::ThreeD => self.correct_3d(m.corrected, &positions),
         }
     }
 
@@ -237,7 +238,7 @@ mod tests {
     fn no_row_beyond_the_last_is_read() {
         let table: Vec<i64> = (0..27 * 3).collect();
         let cube = [3, 3, 0, 0, 0, 1000, 1000, 1000, 0, 0, 0];
-        let top = look(&cube, &table, 16, [65535; 3]);
+        let top = look(&cube, &table, Bits::same(16), [65535; 3]);
         assert_eq!(top.rows, [13, 14, 17, 26, 0, 0]);
         assert_eq!(top.weights, [0, 0, 0, 65_535_000, 0, 0]);
     }

@@ -64,6 +64,30 @@ pub fn greatest_code(bits: u32) -> Option<u16> {
     DEPTHS.iter().find(|(known, _)| *known == bits).map(|(_, m)| *m)
 }
 
+/// "two depths, one for raw and one for corrected codes" (document 02, Req 06).
+#[derive(Clone, Copy, PartialEq, Eq, Debug)]
+pub struct Depths<T> {
+    pub raw: T,
+    pub corrected: T,
+}
+
+/// Depths in bits, known or not.
+pub type Bits = Depths<u32>;
+
+/// M of each of two known depths.
+pub type Greatest = Depths<u16>;
+
+impl Bits {
+    pub fn same(bits: u32) -> Bits {
+        Bits { raw: bits, corrected: bits }
+    }
+
+    /// None for 20: "20 is tried for the raw depth, then the corrected".
+    pub fn greatest(self) -> Option<Greatest> {
+        Some(Greatest { raw: greatest_code(self.raw)?, corrected: greatest_code(self.corrected)? })
+    }
+}
+
 /// "1D or 3D".
 #[derive(Clone, Copy, PartialEq, Eq, Debug)]
 pub enum Kind {

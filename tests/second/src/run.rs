@@ -1,10 +1,12 @@
 //! A whole stream of cases: each is made, put to one side or two, and counted.
 
 use crate::gen::{file_case, look_case, picture_case, FileCase, LookCase, PictureCase};
-use crate::look::Look;
-use crate::met::{halves_met, met, order_met, points_met};
-use crate::met::{HALVES, JUDGED, NAMES, ORDERS, POINTS};
-use crate::paper::number;
+use crate::look::{look, Look};
+use crate::met::{depth_refusals_met, halves_met, met, order_met, pair_met, points_met};
+use crate::met::{DEPTH_REFUSALS, DEPTH_REFUSALS_OF_LOOK, DIVIDED};
+use crate::met::{HALVES, JUDGED, NAMES, ORDERS, PAIRS, POINTS};
+use crate::paper::{number, Bits};
+use crate::picture::picture;
 use crate::reading::Check;
 use crate::show::{list, quoted, shortened, where_not_zero};
 use crate::side::{pattern, PictureAnswer, ReadAnswer, Second, Side};
@@ -36,7 +38,7 @@ const PICTURE_NUMBERS: [u32; 6] = [
     number::NOT_FROM_READING,
 ];
 
-/// How often each call answered each number, and what the files and the accepted looks met.
+/// How often each call answered each number, and what the files, the looks and the pictures met.
 #[derive(Default)]
 pub struct Counts {
     read: BTreeMap<u32, u64>,
@@ -47,65 +49,128 @@ pub struct Counts {
     halves: [[u64; HALVES.len()]; JUDGED.len()],
     met: [u64; NAMES.len()],
     orders: [u64; ORDERS.len()],
+    divided: [[u64; PAIRS.len()]; DIVIDED],
+    looks: ByDepths,
+    pictures: ByDepths,
 }
 
+/// What a call's two depths came to.
+#[derive(Default)]
+struct ByDepths {
+    accepted: [u64; PAIRS.len()],
+    refused: [u64; DEPTH_REFUSALS.len()],
+}
+
+/// What was met: a title, names, and how often each of them.
+type Met<'a> = (String, &'static [&'static str], &'a [u64]);
+
 impl Counts {
-    /// One line for each call that was made: number and count, parted by colons.
+    /// One line for each call that was made, number and count parted by colons, with what it met
+    /// below it.
     pub fn shown(&self) -> String {
-        let line = |name: &str, counts: &BTreeMap<u32, u64>| {
+        let calls = [
+            ("read", &self.read, self.files_met()),
+            ("check", &self.check, Vec::new()),
+            ("look", &self.look, self.looks_met()),
+            ("picture", &self.picture, self.pictures_met()),
+        ];
+        let made = calls.into_iter().filter(|(_, counts, _)| !counts.is_empty());
+        made.map(|(name, counts, met)| {
             let shown: Vec<String> = counts.iter().map(|(n, many)| format!("{n}:{many}")).collect();
-            lines_of(name, &list(&shown, " "))
-        };
-        let halves = JUDGED.iter().zip(&self.halves).map(|(judged, counts)| {
-            met_line(&format!("files met {judged}"), &self.read, &HALVES, counts)
-        });
-        let files = line("read", &self.read)
-            + &met_line("files met", &self.read, &POINTS, &self.points)
-            + &halves.collect::<String>()
-            + &line("check", &self.check);
-        let looks = line("look", &self.look)
-            + &met_line("looks met", &self.look, &NAMES, &self.met)
-            + &met_line("looks met in 3D", &self.look, &ORDERS, &self.orders);
-        files + &looks + &line("picture", &self.picture)
+            let lines: String = met.iter().map(met_line).collect();
+            format!("{name}\t{}\n{lines}", list(&shown, " "))
+        })
+        .collect()
+    }
+
+    fn files_met(&self) -> Vec<Met<'_>> {
+        let mut met: Vec<Met> = vec![("files met".to_string(), &POINTS, &self.points)];
+        for (judged, counts) in JUDGED.iter().zip(&self.halves) {
+            met.push((format!("files met {judged}"), &HALVES, counts));
+        }
+        met
+    }
+
+    fn looks_met(&self) -> Vec<Met<'_>> {
+        let mut met: Vec<Met> = vec![
+            ("looks met".to_string(), &NAMES, &self.met),
+            ("looks met in 3D".to_string(), &ORDERS, &self.orders),
+        ];
+        for (name, counts) in NAMES.iter().zip(&self.divided) {
+            met.push((format!("looks met {name}"), &PAIRS, counts));
+        }
+        met.extend(self.looks.met("looks", &DEPTH_REFUSALS[..DEPTH_REFUSALS_OF_LOOK]));
+        met
+    }
+
+    fn pictures_met(&self) -> Vec<Met<'_>> {
+        self.pictures.met("pictures", &DEPTH_REFUSALS).to_vec()
     }
 
     fn note_file(&mut self, case: &FileCase, answer: &ReadAnswer) {
+        *self.read.entry(answer.number).or_default() += 1;
         add_met(&mut self.points, &points_met(case, answer));
         for (counts, met) in self.halves.iter_mut().zip(halves_met(case, answer)) {
             add_met(counts, &met);
         }
     }
 
-    fn note_met(&mut self, case: &LookCase, look: &Look) {
-        if look.number == number::ACCEPTED {
-            add_met(&mut self.met, &met(case, look));
-            add_met(&mut self.orders, &order_met(case, look));
+    fn note_look(&mut self, case: &LookCase, answer: &Look) {
+        *self.look.entry(answer.number).or_default() += 1;
+        self.looks.note(case.bits, &case.pixel, answer.number, |bits| {
+            look(&case.description, &case.table, bits, case.pixel).number
+        });
+        if answer.number == number::ACCEPTED {
+            let met = met(case, answer);
+            add_met(&mut self.met, &met);
+            add_met(&mut self.orders, &order_met(case, answer));
+            for (counts, _) in self.divided.iter_mut().zip(met).filter(|(_, on)| *on) {
+                add_met(counts, &pair_met(case.bits));
+            }
         }
     }
 
-    /// The numbers never seen on a call that was asked for, and what no file and no look met.
+    fn note_picture(&mut self, case: &PictureCase, number: u32) {
+        *self.picture.entry(number).or_default() += 1;
+        self.pictures.note(case.bits, &case.source, number, |bits| {
+            let output = &mut vec![0; case.output_len];
+            picture(&case.description, &case.table, bits, &case.source, output)
+        });
+    }
+
+    /// The numbers never seen on a call that was asked for, and what none of its cases met.
     pub fn missing(&self, wanted: &Wanted) -> Vec<String> {
-        let mut missing = Vec::new();
-        let mut note = |name: &str, asked: u64, counts: &BTreeMap<u32, u64>, numbers: &[u32]| {
-            let unseen = numbers.iter().filter(|n| asked > 0 && !counts.contains_key(n));
-            missing.extend(unseen.map(|n| format!("{name} {n}")));
-        };
-        note("read", wanted.tables, &self.read, &READ_NUMBERS.collect::<Vec<_>>());
         let of_check: Vec<u32> = READ_NUMBERS.filter(|n| *n != NEVER_BY_CHECK).collect();
-        note("check", wanted.tables, &self.check, &of_check);
-        note("look", wanted.looks, &self.look, &LOOK_NUMBERS);
-        note("picture", wanted.pictures, &self.picture, &PICTURE_NUMBERS);
-        let mut unmet = |call: &str, asked: u64, names: &[&str], counts: &[u64]| {
-            let unmet = names.iter().zip(counts).filter(|(_, many)| asked > 0 && **many == 0);
-            missing.extend(unmet.map(|(name, _)| format!("{call}: {name}")));
-        };
-        unmet("read", wanted.tables, &POINTS, &self.points);
-        for (judged, counts) in JUDGED.iter().zip(&self.halves) {
-            unmet(&format!("read {judged}"), wanted.tables, &HALVES, counts);
+        let of_read: Vec<u32> = READ_NUMBERS.collect();
+        let calls = [
+            ("read", wanted.tables, &self.read, &of_read[..], self.files_met()),
+            ("check", wanted.tables, &self.check, &of_check, Vec::new()),
+            ("look", wanted.looks, &self.look, &LOOK_NUMBERS, self.looks_met()),
+            ("picture", wanted.pictures, &self.picture, &PICTURE_NUMBERS, self.pictures_met()),
+        ];
+        let mut missing = Vec::new();
+        for (name, _, counts, numbers, met) in calls.iter().filter(|(_, asked, ..)| *asked > 0) {
+            let unseen = numbers.iter().filter(|n| !counts.contains_key(n));
+            missing.extend(unseen.map(|n| format!("{name} {n}")));
+            missing.extend(met.iter().flat_map(unmet));
         }
-        unmet("look", wanted.looks, &NAMES, &self.met);
-        unmet("look in 3D", wanted.looks, &ORDERS, &self.orders);
         missing
+    }
+}
+
+impl ByDepths {
+    /// Adds a call with these depths and codes that answered the number. An accepted picture
+    /// without a pixel shows nothing.
+    fn note(&mut self, bits: Bits, codes: &[u16], number: u32, answer: impl FnOnce(Bits) -> u32) {
+        if number == number::ACCEPTED && !codes.is_empty() {
+            add_met(&mut self.accepted, &pair_met(bits));
+        }
+        add_met(&mut self.refused, &depth_refusals_met(bits, codes, number, answer));
+    }
+
+    fn met(&self, calls: &str, refusals: &'static [&'static str]) -> [Met<'_>; 2] {
+        let accepted = (format!("{calls} accepted"), &PAIRS[..], &self.accepted[..]);
+        [accepted, (format!("{calls} refused"), refusals, &self.refused)]
     }
 }
 
@@ -115,23 +180,17 @@ fn add_met(counts: &mut [u64], met: &[bool]) {
     }
 }
 
-/// How often each of the names was met by a call that was made.
-fn met_line(title: &str, call: &BTreeMap<u32, u64>, names: &[&str], counts: &[u64]) -> String {
-    if call.is_empty() {
-        return String::new();
-    }
+/// How often each of the names was met.
+fn met_line((title, names, counts): &Met) -> String {
     let met: Vec<String> =
-        names.iter().zip(counts).map(|(name, many)| format!("{name} {many}")).collect();
-    lines_of(title, &list(&met, ", "))
+        names.iter().zip(*counts).map(|(name, many)| format!("{name} {many}")).collect();
+    format!("{title}\t{}\n", list(&met, ", "))
 }
 
-/// A name and what is said of it, or nothing if nothing is.
-fn lines_of(name: &str, text: &str) -> String {
-    if text.is_empty() {
-        String::new()
-    } else {
-        format!("{name}\t{text}\n")
-    }
+/// The names that were never met.
+fn unmet((title, names, counts): &Met) -> Vec<String> {
+    let never = names.iter().zip(*counts).filter(|(_, many)| **many == 0);
+    never.map(|(name, _)| format!("{title}: {name}")).collect()
 }
 
 /// Puts the stream to this program, and to another beside it if there is one. Stops at the
@@ -141,7 +200,6 @@ pub fn run(wanted: &Wanted, other: Option<&dyn Side>) -> Result<Counts, String> 
     for index in 0..wanted.tables {
         let case = file_case(wanted.seed, index);
         let answer = one_file(&case, other).map_err(|d| told(index, d))?;
-        *counts.read.entry(answer.number).or_default() += 1;
         counts.note_file(&case, &answer);
         let number = one_check(&case, other).map_err(|d| told(index, d))?;
         *counts.check.entry(number).or_default() += 1;
@@ -149,13 +207,12 @@ pub fn run(wanted: &Wanted, other: Option<&dyn Side>) -> Result<Counts, String> 
     for index in 0..wanted.looks {
         let case = look_case(wanted.seed, index);
         let look = one_look(&case, other).map_err(|d| told(index, d))?;
-        *counts.look.entry(look.number).or_default() += 1;
-        counts.note_met(&case, &look);
+        counts.note_look(&case, &look);
     }
     for index in 0..wanted.pictures {
         let case = picture_case(wanted.seed, index);
         let number = one_picture(&case, other).map_err(|d| told(index, d))?;
-        *counts.picture.entry(number).or_default() += 1;
+        counts.note_picture(&case, number);
     }
     Ok(counts)
 }
@@ -283,9 +340,10 @@ fn tell_picture(case: &PictureCase, side: &dyn Side) -> String {
     })
 }
 
-fn tell_lent(description: &[i64; 11], table: &[i64], bits: u32) -> String {
+fn tell_lent(description: &[i64; 11], table: &[i64], bits: Bits) -> String {
     let description = list(description, " ");
     let table = format!("{} numbers, {}", table.len(), where_not_zero(table));
+    let bits = format!("{} to {}", bits.raw, bits.corrected);
     format!("description: {description}\ntable: {table}\nbits: {bits}\n")
 }
 
@@ -311,13 +369,28 @@ mod tests {
 
     #[test]
     fn what_is_never_met_is_missing() {
-        let wanted = Wanted { seed: 1, tables: 1, looks: 0, pictures: 0 };
+        let wanted = Wanted { seed: 1, tables: 1, looks: 1, pictures: 1 };
         let missing = Counts::default().missing(&wanted);
-        for judged in JUDGED {
-            for half in HALVES {
-                assert!(missing.contains(&format!("read {judged}: {half}")), "{missing:?}");
+        let said = |title: &str, names: &[&str]| {
+            for name in names {
+                assert!(missing.contains(&format!("{title}: {name}")), "{title}: {name}");
             }
+        };
+        for judged in JUDGED {
+            said(&format!("files met {judged}"), &HALVES);
         }
+        for title in ["looks accepted", "pictures accepted", "looks met two codes equally near"] {
+            said(title, &PAIRS);
+        }
+        said("looks refused", &DEPTH_REFUSALS[..DEPTH_REFUSALS_OF_LOOK]);
+        said("pictures refused", &DEPTH_REFUSALS);
+    }
+
+    #[test]
+    fn what_is_not_asked_for_is_not_missing() {
+        let wanted = Wanted { seed: 1, tables: 0, looks: 0, pictures: 0 };
+        assert_eq!(Counts::default().missing(&wanted), Vec::<String>::new());
+        assert_eq!(Counts::default().shown(), "");
     }
 
     #[test]
@@ -400,5 +473,44 @@ mod tests {
         assert!(told.contains("check, made by") && told.contains("answers otherwise"), "{told}");
         let file = told.lines().find(|line| line.starts_with("file:")).unwrap_or("");
         assert!(file.len() < 100, "{file}");
+    }
+
+    /// A side that goes by other depths than it is given.
+    struct OtherDepths(fn(Bits) -> Bits);
+
+    impl Side for OtherDepths {
+        fn read(&self, case: &FileCase) -> Result<ReadAnswer, String> {
+            Second.read(case)
+        }
+
+        fn check(&self, case: &FileCase) -> Result<Check, String> {
+            Second.check(case)
+        }
+
+        fn look(&self, case: &LookCase) -> Result<Look, String> {
+            Second.look(&LookCase { bits: self.0(case.bits), ..case.clone() })
+        }
+
+        fn picture(&self, case: &PictureCase) -> Result<PictureAnswer, String> {
+            Second.picture(&PictureCase { bits: self.0(case.bits), ..case.clone() })
+        }
+    }
+
+    #[test]
+    fn other_depths_are_found() {
+        let mistakes: [fn(Bits) -> Bits; 4] = [
+            |bits| Bits { raw: bits.corrected, corrected: bits.raw },
+            |bits| Bits::same(bits.raw),
+            |bits| Bits::same(bits.corrected),
+            // the corrected depth is looked at only where the raw one and the codes pass
+            |bits| if bits.greatest().is_some() { bits } else { Bits::same(bits.raw) },
+        ];
+        for mistake in mistakes {
+            for (looks, pictures) in [(1_000, 0), (0, 1_000)] {
+                let wanted = Wanted { seed: 1, tables: 0, looks, pictures };
+                let told = run(&wanted, Some(&OtherDepths(mistake))).err().unwrap_or_default();
+                assert!(told.contains(" to "), "{told}");
+            }
+        }
     }
 }

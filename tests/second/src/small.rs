@@ -2,6 +2,7 @@
 
 use crate::gen::{FileCase, LookCase, PictureCase};
 use crate::met::has_bounds;
+use crate::paper::Bits;
 use crate::side::{Second, Side};
 
 /// Bytes without the lines, and then without the bytes, that the difference does not need.
@@ -28,19 +29,22 @@ pub fn smaller_file(case: &FileCase, differs: impl Fn(&FileCase) -> bool) -> Fil
     with_places(places.unwrap_or(case.table_len))
 }
 
-/// A look with a table of as many zeros as the difference allows.
+/// A look at one depth, if the difference allows, with a table of as many zeros as it allows.
 pub fn smaller_look(case: &LookCase, side: &dyn Side) -> LookCase {
+    let differs = |case: &LookCase| side.look(case) != Second.look(case);
+    let with_bits = |bits: Bits| LookCase { bits, ..case.clone() };
+    let case = with_bits(fewer_depths(case.bits, |bits| differs(&with_bits(bits))));
     let with_table = |table: Vec<i64>| LookCase { table, ..case.clone() };
-    with_table(with_zeros(&case.table, |table| {
-        let case = with_table(table.to_vec());
-        side.look(&case) != Second.look(&case)
-    }))
+    with_table(with_zeros(&case.table, |table| differs(&with_table(table.to_vec()))))
 }
 
-/// A picture without the pixels that the difference does not need, and with zeros in its
-/// table. The output keeps as many places more or fewer than the source as it had.
+/// A picture at one depth, if the difference allows, without the pixels that it does not need,
+/// and with zeros in its table. The output keeps as many places more or fewer than the source as
+/// it had.
 pub fn smaller_picture(case: &PictureCase, side: &dyn Side) -> PictureCase {
     let differs = |case: &PictureCase| side.picture(case) != Second.picture(case);
+    let with_bits = |bits: Bits| PictureCase { bits, ..case.clone() };
+    let case = with_bits(fewer_depths(case.bits, |bits| differs(&with_bits(bits))));
     let with_pixels = |pixels: &[Vec<u16>]| {
         let source = pixels.concat();
         let output_len = (case.output_len + source.len()).saturating_sub(case.source.len());
@@ -50,6 +54,12 @@ pub fn smaller_picture(case: &PictureCase, side: &dyn Side) -> PictureCase {
     let case = with_pixels(&fewer(pixels, 1_000, |pixels| differs(&with_pixels(pixels))));
     let with_table = |table: Vec<i64>| PictureCase { table, ..case.clone() };
     with_table(with_zeros(&case.table, |table| differs(&with_table(table.to_vec()))))
+}
+
+/// One depth for both, if what is left still differs.
+fn fewer_depths(bits: Bits, differs: impl Fn(Bits) -> bool) -> Bits {
+    let one = [bits.raw, bits.corrected].map(Bits::same).into_iter().find(|one| differs(*one));
+    one.unwrap_or(bits)
 }
 
 /// Leaves out runs of a list, long ones first, as long as what is left still differs and

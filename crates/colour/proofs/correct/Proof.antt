@@ -1,7 +1,7 @@
 -- What is shown may be weighed, and the codes made of it are the corrected ones, for either kind.
 use borrow.Author.Needs.{needs}
 use denote.Ref.{now}
-use mathlib.Core.Path.{_≡_, _∙_}
+use mathlib.Core.Path.{_≡_, refl, _∙_}
 use mathlib.Core.List.{List}
 use lib.IntN.{ℤ}
 use Rattle.rules.specs.Units.{correctedM, codeIn}
@@ -10,6 +10,7 @@ use Rattle.rules.specs.Looking.{correct}
 use Rattle.rules.specs.Demands.{used}
 use Rattle.rules.specs.declared.Codes.{Codes}
 use Rattle.rules.specs.declared.Colour.{Colour}
+use Rattle.rules.specs.declared.Colour.the-variants.{Red}
 use Rattle.rules.specs.declared.Kind.{Kind}
 use Rattle.rules.specs.declared.Kind.the-variants.{ThreeD}
 use Rattle.rules.specs.declared.Shares.{Shares}
@@ -17,7 +18,7 @@ use Rattle.colour.specs.Plans.{axisIn, Planned}
 use Rattle.colour.specs.Places.{shownBy}
 use Rattle.colour.specs.Adding.{SharesFit}
 use Rattle.colour.proofs.Plans.{codable, shown-is, path-shown, steps-fit}
-use Rattle.colour.proofs.Weighing.{kind-fit, kind-codes, sum-most, sum-code, shown-weighable, shown-corrects}
+use Rattle.colour.proofs.Weighing.{kind-fit, kind-codes, cube-codes, shown-weighable, shown-corrects}
 use Rattle.colour.proofs.correct.Statement.{statement}
 use Rattle.colour.proofs.correct.Tie as tie
 
@@ -30,9 +31,9 @@ module _ (s : tie.Start) {k : Kind} (e : s .args .plan .kind ≡ k) {shares : Sh
   fit : (c : Colour) → SharesFit table (used k c shares)
   fit = kind-fit (s .pre) shares e (shown-weighable (s .pre) (s .args .pixel) (h ∙ shown-is (s .pre) (s .args .pixel) e))
 
-  made : {r : Codes} → ((c : Colour) → codeIn r c ≡ codeBy (correctedM (s .args .plan .depths)) (axisIn (s .args .plan) c .den) table c (used k c shares))
-      → (p : Planned (s .args .plan) table) → r ≡ correct (p .d) table (p .depths) (s .args .pixel)
-  made codes p = shown-corrects p (s .args .pixel) (h ∙ shown-is p (s .args .pixel) e) (kind-codes p shares e codes)
+  made : (p : Planned (s .args .plan) table) {r : Codes} → ((c : Colour) → codeIn r c ≡ codeBy (correctedM (p .depths)) (axisIn (s .args .plan) c .den) table c (used k c shares))
+      → r ≡ correct (p .d) table (p .depths) (s .args .pixel)
+  made p codes = shown-corrects p (s .args .pixel) (h ∙ shown-is p (s .args .pixel) e) (kind-codes p shares e codes)
 
 -- 3D: the path of the steps
 
@@ -57,7 +58,7 @@ line-codes-requires : tie.Need-line-codes-requires
 line-codes-requires c κs =
     let told = c .before in
     let s = told .before .before in
-    (codable (s .pre), fit s (told .enum-told .given .1) (c .line .ensures))
+    ((_, codable (s .pre)), fit s (told .enum-told .given .1) (c .line .ensures))
 
 enum-told-2 : tie.Need-enum-told-2
 enum-told-2 c = search needs
@@ -75,20 +76,21 @@ cube-sums-requires : tie.Need-cube-sums-requires
 cube-sums-requires c κs = path-fit c
 
 codes-by-requires : tie.Need-codes-by-requires
-codes-by-requires c κs = (codable (entry (c .before) .pre), λ k. sum-most (c .cube-sums .ensures k) (path-fit (c .before) k))
+codes-by-requires c κs = (_, codable (entry (c .before) .pre) Red)
 
 returns : tie.Need-returns
 returns c =
     let first = c .before in
     let told = first .before in
-    made (told .before .before) (told .enum-told .given .1) (first .line .ensures) (c .line-codes .ensures)
+    λ p. made (told .before .before) (told .enum-told .given .1) (first .line .ensures) p (c .line-codes .ensures _ (codable p))
 
 returns-2 : tie.Need-returns-2
 returns-2 c =
     let summed = c .before in
     let first = summed .before in
     let s = entry first in
-    made s (first .before .before .enum-told2 .given .1) (path-there first) (λ k. sum-code (summed .cube-sums .ensures k) (codable (s .pre) k) (c .codes-by .ensures k))
+    let e = first .before .before .enum-told2 .given .1 in
+    λ p. made s e (path-there first) p (cube-codes p (first .path-by .result) e refl (summed .cube-sums .ensures) (c .codes-by .ensures _ (codable p Red)))
 
 pub correct-spec : {M : Type 1} → statement M
 correct-spec =

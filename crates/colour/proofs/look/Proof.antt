@@ -4,7 +4,7 @@ use denote.Ref.{now}
 use mathlib.Core.Path.{_≡_, sym, ap, ap₂, _∙_}
 use mathlib.Core.Bool.{true}
 use borrow.Author.Tests.{not-true, not-false}
-use Rattle.rules.specs.Units.{depthsOf, sameBits, rawM}
+use Rattle.rules.specs.Units.{depthsOf, rawM}
 use Rattle.rules.specs.Descriptions.{couldBeRead}
 use Rattle.rules.specs.Looking.{within}
 use Rattle.rules.specs.declared.Depths.{Depths}
@@ -14,6 +14,7 @@ use Rattle.rules.proofs.Answers.{is-looks}
 use Rattle.rules.proofs.Looking.Checks.{look-24, look-20, look-23, look-0}
 use Rattle.colour.specs.Plans.{Planned}
 use Rattle.colour.proofs.Plans.{planned}
+use Rattle.colour.proofs.Ratios.{ratio-known}
 use Rattle.colour.proofs.Weighing.{shown-weighable, shown-corrects}
 use Rattle.colour.proofs.look.Statement.{statement}
 use Rattle.colour.proofs.look.Tie as tie
@@ -24,7 +25,7 @@ abbrev entry : tie.Else1 → tie.Start
 entry c = c .before .before
 
 abbrev asked : tie.After-depths → tie.Else1
-asked c = c .before .before .before .before
+asked c = c .before .before .before
 
 abbrev depths : tie.After-depths → Depths
 depths c = c .depths .given .0 .0
@@ -39,10 +40,10 @@ could : (c : tie.Else1) → couldBeRead (entry c .args .d) (now (entry c .args .
 could c = sym (c .before .could-be-read .ensures) ∙ not-false _ (c .if1 .left)
 
 -- not 20
-found : (c : tie.After-of) → depthsOf (sameBits (entry (c .before .before) .args .bits)) ≡ c .of .result
-found c = sym (c .of .ensures ∙ ap depthsOf (c .before .same .ensures))
+found : (c : tie.After-of) → depthsOf (entry (c .before) .args .bits) ≡ c .of .result
+found c = sym (c .of .ensures)
 
-known : (c : tie.After-depths) → depthsOf (sameBits (entry (asked c) .args .bits)) ≡ Both (depths c)
+known : (c : tie.After-depths) → depthsOf (entry (asked c) .args .bits) ≡ Both (depths c)
 known c = found (c .before .before) ∙ c .depths .given .1
 
 -- 23 was asked of the M of raw codes
@@ -66,9 +67,6 @@ could-be-read-requires c κs = search needs
 returns : tie.Need-returns
 returns c = is-looks (sym (look-24 _ _ _ _ (sym (c .before .could-be-read .ensures) ∙ not-true _ (c .if1 .taken))))
 
-same-requires : tie.Need-same-requires
-same-requires c κs = search needs
-
 of-requires : tie.Need-of-requires
 of-requires c κs = search needs
 
@@ -81,7 +79,7 @@ enum-told c = search needs
 returns-2 : tie.Need-returns-2
 returns-2 c =
     let of = c .before .before in
-    is-looks (sym (look-20 _ _ _ _ (could (of .before .before)) (found of ∙ c .enum-told .given .1)))
+    is-looks (sym (look-20 _ _ _ _ (could (of .before)) (found of ∙ c .enum-told .given .1)))
 
 greatest-requires : tie.Need-greatest-requires
 greatest-requires c κs = search needs
@@ -95,7 +93,7 @@ returns-3 c =
     is-looks (sym (look-23 _ _ _ _ (depths k) (could (asked k)) (known k) (sym (asked-within (c .before)) ∙ not-true _ (c .if2 .taken))))
 
 plan-of-requires : tie.Need-plan-of-requires
-plan-of-requires c κs = (_, could (asked (told c)))
+plan-of-requires c κs = let k = told c in ((_, could (asked k)), ratio-known (entry (asked k) .args .bits) (depths k) (known k))
 
 shares-of-requires : tie.Need-shares-of-requires
 shares-of-requires c κs = (_, plan-there c)
@@ -112,8 +110,8 @@ returns-4 c =
     let p = plan-there made in
     let shows = shared .shares-of .ensures _ p in
     is-looks
-    (ap₂ Accepted (shown-corrects p (a .pixel) shows (c .codes-of .ensures)) shows
-    ∙ sym (look-0 (a .d) (now (a .table)) (sameBits (a .bits)) (a .pixel) (depths k) (could (asked k)) (known k) (inside (made .before))))
+    (ap₂ Accepted (shown-corrects p (a .pixel) shows (c .codes-of .ensures p)) shows
+    ∙ sym (look-0 (a .d) (now (a .table)) (a .bits) (a .pixel) (depths k) (could (asked k)) (known k) (inside (made .before))))
 
 pub look-spec : {M : Type 1} → statement M
 look-spec =
@@ -121,7 +119,6 @@ look-spec =
     (tie.spec
     could-be-read-requires
     returns
-    same-requires
     of-requires
     enum-known-depths
     enum-told

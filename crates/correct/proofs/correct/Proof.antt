@@ -6,8 +6,17 @@ use borrow.Author.Needs.{needs}
 use Rattle.correct.proofs.correct.Statement.{statement}
 use Rattle.correct.proofs.correct.Tie as tie
 
-arg-count-requires : tie.Need-arg-count-requires
-arg-count-requires c κs = search needs
+slice-aggregate-option-at : tie.Need-slice-aggregate-option-at
+slice-aggregate-option-at c = search needs
+
+cast-option-at : tie.Need-cast-option-at
+cast-option-at c = search needs
+
+option-at-requires : tie.Need-option-at-requires
+option-at-requires c κs = search needs
+
+enum-told : tie.Need-enum-told
+enum-told c = search needs
 
 help-requires : tie.Need-help-requires
 help-requires c κs = search needs
@@ -30,7 +39,7 @@ returns-2 c = search needs
 correct-by-requires : tie.Need-correct-by-requires
 correct-by-requires c κs =
     let tried = c .before .before .before .before .before in
-    room-for _ _ _ (sym (tried .before .has-room .ensures) ∙ not-false _ (tried .if2 .left))
+    room-for _ _ _ (sym (tried .before .has-room .ensures) ∙ not-false _ (tried .if1 .left))
 
 same-length : tie.Need-same-length
 same-length c = search needs
@@ -54,7 +63,10 @@ pub correct-spec : {M : Type 1} → statement M
 correct-spec =
     tie.close
     (tie.spec
-    arg-count-requires
+    slice-aggregate-option-at
+    cast-option-at
+    option-at-requires
+    enum-told
     help-requires
     returns
     has-room-requires

@@ -9,7 +9,7 @@ use borrow.Author.Tests.{not-true, not-false, le-leb, lt-leb}
 use lib.Dec.{leb}
 use lib.IntN.{ℤ}
 use lib.ListN.{length, drop}
-use Rattle.rules.specs.Units.{depthsOf, sameBits, rawM}
+use Rattle.rules.specs.Units.{depthsOf, rawM}
 use Rattle.rules.specs.Descriptions.{couldBeRead}
 use Rattle.rules.specs.Looking.{correct}
 use Rattle.rules.specs.Picturing.{eachPixel, picture, outputAfter}
@@ -24,6 +24,7 @@ use Rattle.rules.proofs.Picturing.Checks.{within-all, picture-24, picture-20, p
 use Rattle.rules.proofs.Answers.{is-pictures}
 use Rattle.colour.specs.Plans.{Planned}
 use Rattle.colour.proofs.Plans.{planned}
+use Rattle.colour.proofs.Ratios.{ratio-known}
 use Rattle.picture.specs.Filling.{Fillable}
 use Rattle.picture.proofs.picture.Statement.{statement}
 use Rattle.picture.proofs.picture.Tie as tie
@@ -53,7 +54,7 @@ abbrev entry : tie.Else1 → tie.Start
 entry c = c .before .before .before .before
 
 abbrev asked : tie.After-depths → tie.Else1
-asked c = c .before .before .before .before
+asked c = c .before .before .before
 
 abbrev depths : tie.After-depths → Depths
 depths c = c .depths .given .0 .0
@@ -68,10 +69,10 @@ could : (c : tie.Else1) → couldBeRead (entry c .args .d) (now (entry c .args .
 could c = sym (c .before .could-be-read .ensures) ∙ not-false _ (c .if1 .left)
 
 -- not 20
-found : (c : tie.After-of) → depthsOf (sameBits (entry (c .before .before) .args .bits)) ≡ c .of .result
-found c = sym (c .of .ensures ∙ ap depthsOf (c .before .same .ensures))
+found : (c : tie.After-of) → depthsOf (entry (c .before) .args .bits) ≡ c .of .result
+found c = sym (c .of .ensures)
 
-known : (c : tie.After-depths) → depthsOf (sameBits (entry (asked c) .args .bits)) ≡ Both (depths c)
+known : (c : tie.After-depths) → depthsOf (entry (asked c) .args .bits) ≡ Both (depths c)
 known c = found (c .before .before) ∙ c .depths .given .1
 
 -- neither 21 nor 22
@@ -104,9 +105,6 @@ could-be-read-requires c κs = search needs
 returns : tie.Need-returns
 returns c = refuses (picture-24 _ _ _ _ _ (sym (c .before .could-be-read .ensures) ∙ not-true _ (c .if1 .taken)))
 
-same-requires : tie.Need-same-requires
-same-requires c κs = search needs
-
 of-requires : tie.Need-of-requires
 of-requires c κs = search needs
 
@@ -119,7 +117,7 @@ enum-told c = search needs
 returns-2 : tie.Need-returns-2
 returns-2 c =
     let of = c .before .before in
-    refuses (picture-20 _ _ _ _ _ (could (of .before .before)) (found of ∙ c .enum-told .given .1))
+    refuses (picture-20 _ _ _ _ _ (could (of .before)) (found of ∙ c .enum-told .given .1))
 
 returns-3 : tie.Need-returns-3
 returns-3 c = let k = c .before .before .before in refuses (picture-21 _ _ _ _ _ (depths k) (could (asked k)) (known k) (c .if2 .taken))
@@ -145,7 +143,7 @@ returns-5 c =
     (sym (asked-within (c .before)) ∙ lt-leb _ _ (c .if4 .taken)))
 
 plan-of-requires : tie.Need-plan-of-requires
-plan-of-requires c κs = (_, could (asked (told c)))
+plan-of-requires c κs = let k = told c in ((_, could (asked k)), ratio-known (entry (asked k) .args .bits) (depths k) (known k))
 
 correct-all-requires : tie.Need-correct-all-requires
 correct-all-requires c κs = (plan-there (c .before), passed (c .before .before))
@@ -166,7 +164,6 @@ picture-spec =
     (tie.spec
     could-be-read-requires
     returns
-    same-requires
     of-requires
     enum-known-depths
     enum-told

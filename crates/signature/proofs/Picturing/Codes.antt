@@ -1,9 +1,8 @@
 -- What an accepted picture has passed: each of its pixels is one that look accepts, with these codes.
 use Prim.Native.Nat.{ℕ, _+_, _*_, _%_, _≤_, _<_}
-use mathlib.Core.Path.{_≡_, refl, sym, ap, _∙_}
-use mathlib.Core.Bool.{Bool, true, false}
+use mathlib.Core.Path.{_≡_, refl, ap, subst, _∙_}
+use mathlib.Core.Bool.{true}
 use mathlib.Core.List.{List}
-use native.Mathlib.Decide.{decLe, ℕ-discrete}
 use native.Mathlib.Omega.{arith}
 use lib.IntN.{ℤ}
 use lib.ListN.{length, drop, getD, length-append, length-drop}
@@ -18,15 +17,13 @@ use Rattle.rules.specs.declared.Description.{Description}
 use Rattle.rules.specs.declared.Look.the-variants as L
 use Rattle.rules.specs.declared.Picture.{Picture}
 use Rattle.rules.specs.declared.Picture.the-variants as P
-use Rattle.rules.specs.declared.Refusal.{Refusal}
 use Rattle.rules.proofs.Colours.{place-below, code-at-place}
-use Rattle.rules.proofs.Answers.{refused-not-0}
 use Rattle.rules.proofs.Looking.Checks.{look-0}
-use Rattle.rules.proofs.Picturing.Checks.{within-all, picture-24, picture-20, picture-21, picture-22, picture-23, pixel-within, each-length, each-at}
+use Rattle.rules.proofs.Picturing.Checks.{within-all, pixel-within, each-length, each-at}
 use Rattle.rules.specs.declared.Bits.{Bits}
 use Rattle.rules.specs.declared.Depths.{Depths}
-use Rattle.rules.specs.declared.DepthsFound.{DepthsFound}
-use Rattle.rules.specs.declared.DepthsFound.the-variants.{Both, NotBoth}
+use Rattle.rules.specs.declared.DepthsFound.the-variants.{Both}
+use Rattle.signature.proofs.Picturing.Numbers.{PictureGiven, given-0, picture-given}
 
 -- what an accepted picture has passed
 pub record PicturePassed (d : Description) (table : List ℤ) (bits : Bits) (src : List ℕ) (places : ℕ) : Type 0 where
@@ -39,25 +36,10 @@ pub record PicturePassed (d : Description) (table : List ℤ) (bits : Bits) (src
 
 module _ (d : Description) (table : List ℤ) (bits : Bits) (src : List ℕ) (places : ℕ) where
   pub picture-passed : picture d table bits src places ≡ P.Accepted → PicturePassed d table bits src places
-  picture-passed z = by-24 (couldBeRead d table) refl
+  picture-passed z = by (subst (PictureGiven d table bits src places) (ap pictureNumber z) (picture-given d table bits src places))
     where
-      not-refused : {r : Refusal} → picture d table bits src places ≡ P.Refused r → ⊥
-      not-refused {r} e = refused-not-0 r (sym (ap pictureNumber e) ∙ ap pictureNumber z)
-
-      by-23 : (depths : Depths) → couldBeRead d table ≡ true → depthsOf bits ≡ Both depths
-          → Dec (length src % 3 ≡ 0) → Dec (length src ≤ places) → (b : Bool) → within-all (rawM depths) src ≡ b → PicturePassed d table bits src places
-      by-23 depths e k (no over) room b w = absurd (not-refused (picture-21 d table bits src places depths e k over))
-      by-23 depths e k (yes whole) (no short) b w = absurd (not-refused (picture-22 d table bits src places depths e k whole (omega arith)))
-      by-23 depths e k (yes whole) (yes room) false w = absurd (not-refused (picture-23 d table bits src places depths e k whole room w))
-      by-23 depths e k (yes whole) (yes room) true w = record { depths = depths; could = e; known = k; whole = whole; room = room; inside = w }
-
-      by-20 : (x : DepthsFound) → couldBeRead d table ≡ true → depthsOf bits ≡ x → PicturePassed d table bits src places
-      by-20 NotBoth e u = absurd (not-refused (picture-20 d table bits src places e u))
-      by-20 (Both depths) e k = by-23 depths e k (ℕ-discrete (length src % 3) 0) (decLe (length src) places) (within-all (rawM depths) src) refl
-
-      by-24 : (b : Bool) → couldBeRead d table ≡ b → PicturePassed d table bits src places
-      by-24 true e = by-20 (depthsOf bits) e refl
-      by-24 false e = absurd (not-refused (picture-24 d table bits src places e))
+      by : PictureGiven d table bits src places 0 → PicturePassed d table bits src places
+      by (given-0 e depths k whole room inside) = record { depths = depths; could = e; known = k; whole = whole; room = room; inside = inside }
 
 module _ (d : Description) (table : List ℤ) (bits : Bits) where
   -- the output keeps its length

@@ -1,72 +1,143 @@
--- Picture answers 0 or 20 to 24, and of what could be read never 24.
-use Prim.Native.Nat.{ℕ, _%_, _≤_}
+-- Picture answers 0 or 20 to 24: when each is given, and so of what could be read never 24.
+use Prim.Native.Nat.{ℕ, zero, suc, _%_, _≤_, _<_}
 use mathlib.Core.Path.{_≡_, refl, sym, subst, ap, _∙_}
 use mathlib.Core.Logic.{inl, inr}
-use mathlib.Core.Bool.{Bool, true, false}
+use mathlib.Core.Bool.{Bool, true, false, _&&_, true≢false}
 use mathlib.Core.List.{List, [], _∷_}
+use native.Mathlib.Decide.{decLe, ℕ-discrete}
 use native.Mathlib.Omega.{arith}
-use lib.Dec.{eqb, leb}
+use borrow.Author.Tests.{leb-false, lt-leb}
+use lib.Dec.{leb}
 use lib.IntN.{ℤ}
-use lib.ListN.{length}
+use lib.ListN.{length, getD}
 use Rattle.rules.specs.Units.{depthsOf, rawM}
 use Rattle.rules.specs.Descriptions.{couldBeRead}
 use Rattle.rules.specs.Reading.Lines.{every}
-use Rattle.rules.specs.Picturing.{picture, pictureAt, pictureWith}
+use Rattle.rules.specs.Picturing.{picture}
 use Rattle.rules.specs.Answers.{pictureNumber, refusalNumber}
 use Rattle.rules.specs.Promises.{Pictures}
-use Rattle.rules.specs.declared.Description.{Description}
-use Rattle.rules.specs.declared.Picture.{Picture}
-use native.Mathlib.Decide.{decLe, ℕ-discrete}
-use Rattle.rules.proofs.Picturing.Checks.{within-all, picture-20, picture-21, picture-22, picture-23, picture-0}
 use Rattle.rules.specs.declared.Bits.{Bits}
 use Rattle.rules.specs.declared.Depths.{Depths}
 use Rattle.rules.specs.declared.DepthsFound.{DepthsFound}
 use Rattle.rules.specs.declared.DepthsFound.the-variants.{Both, NotBoth}
-use Rattle.signature.proofs.Either.{either}
+use Rattle.rules.specs.declared.Description.{Description}
+use Rattle.rules.specs.declared.Picture.{Picture}
+use Rattle.rules.proofs.Tests.{and-fails}
+use Rattle.rules.proofs.KnownDepths.{OneUnknown, not-both, unknown-not-both}
+use Rattle.rules.proofs.Picturing.Checks.{within-all, picture-24, picture-20, picture-21, picture-22, picture-23, picture-0}
 use Rattle.signature.specs.Numbers.{OneOf}
+
+-- ---- a code above M
+
+abbrev Above : ℕ → List ℕ → Type 0
+Above m src = (k : ℕ) × (k < length src) × (m < getD src k 0)
+
+above-of : (m : ℕ) (src : List ℕ) → within-all m src ≡ false → Above m src
+unfolding every
+above-of m [] e = absurd (true≢false e)
+above-of m (b ∷ src) e = by (leb b m) refl e (above-of m src)
+  where
+    by : (t : Bool) → leb b m ≡ t → t && within-all m src ≡ false → (within-all m src ≡ false → Above m src) → Above m (b ∷ src)
+    by false p e later = (0, omega arith, leb-false _ _ p)
+    by true p e later = let (k, inside, above) = later e in (suc k, omega arith, above)
+
+of-above : (m : ℕ) (src : List ℕ) (k : ℕ) → k < length src → m < getD src k 0 → within-all m src ≡ false
+unfolding every
+of-above m [] k h above = absurd (omega arith)
+of-above m (b ∷ src) zero h above = and-fails (leb b m) _ (inr (lt-leb b m above))
+of-above m (b ∷ src) (suc k) h above = and-fails (leb b m) _ (inl (of-above m src k (omega arith) above))
+
+-- ---- when each number is given
+
+pub data PictureGiven (d : Description) (table : List ℤ) (bits : Bits) (src : List ℕ) (places : ℕ) : ℕ → Type 0 where
+  -- what could not be read
+  given-24 : couldBeRead d table ≡ false → PictureGiven d table bits src places 24
+  -- a depth that is unknown, whatever the picture and the output
+  given-20 : couldBeRead d table ≡ true → OneUnknown bits → PictureGiven d table bits src places 20
+  -- no whole pixels
+  given-21 : couldBeRead d table ≡ true → (depths : Depths) → depthsOf bits ≡ Both depths → (length src % 3 ≡ 0 → ⊥) → PictureGiven d table bits src places 21
+  -- an output without room for them
+  given-22 : couldBeRead d table ≡ true → (depths : Depths) → depthsOf bits ≡ Both depths → length src % 3 ≡ 0 → places < length src
+      → PictureGiven d table bits src places 22
+  -- a code above the raw M
+  given-23 : couldBeRead d table ≡ true → (depths : Depths) → depthsOf bits ≡ Both depths → length src % 3 ≡ 0 → length src ≤ places
+      → (k : ℕ) → k < length src → rawM depths < getD src k 0 → PictureGiven d table bits src places 23
+  -- none above it
+  given-0 : couldBeRead d table ≡ true → (depths : Depths) → depthsOf bits ≡ Both depths → length src % 3 ≡ 0 → length src ≤ places
+      → within-all (rawM depths) src ≡ true → PictureGiven d table bits src places 0
+
+module _ (d : Description) (table : List ℤ) (bits : Bits) (src : List ℕ) (places : ℕ) where
+  -- the number of a picture is one that is given there
+  pub picture-given : PictureGiven d table bits src places (pictureNumber (picture d table bits src places))
+  unfolding refusalNumber
+  picture-given = by-24 (couldBeRead d table) refl
+    where
+      Answer : Picture → Type 0
+      Answer r = PictureGiven d table bits src places (pictureNumber r)
+
+      by-23 : (depths : Depths) → couldBeRead d table ≡ true → depthsOf bits ≡ Both depths
+          → Dec (length src % 3 ≡ 0) → Dec (length src ≤ places) → (b : Bool) → within-all (rawM depths) src ≡ b → Answer (picture d table bits src places)
+      by-23 depths e k (no over) room b w = subst Answer (sym (picture-21 d table bits src places depths e k over)) (given-21 e depths k over)
+      by-23 depths e k (yes whole) (no short) b w =
+          let less : places < length src = omega arith in
+          subst Answer (sym (picture-22 d table bits src places depths e k whole less)) (given-22 e depths k whole less)
+      by-23 depths e k (yes whole) (yes room) false w =
+          let (at, inside, above) = above-of (rawM depths) src w in
+          subst Answer (sym (picture-23 d table bits src places depths e k whole room w)) (given-23 e depths k whole room at inside above)
+      by-23 depths e k (yes whole) (yes room) true w = subst Answer (sym (picture-0 d table bits src places depths e k whole room w)) (given-0 e depths k whole room w)
+
+      by-20 : (x : DepthsFound) → couldBeRead d table ≡ true → depthsOf bits ≡ x → Answer (picture d table bits src places)
+      by-20 NotBoth e u = subst Answer (sym (picture-20 d table bits src places e u)) (given-20 e (not-both bits u))
+      by-20 (Both depths) e k = by-23 depths e k (ℕ-discrete (length src % 3) 0) (decLe (length src) places) (within-all (rawM depths) src) refl
+
+      by-24 : (b : Bool) → couldBeRead d table ≡ b → Answer (picture d table bits src places)
+      by-24 true e = by-20 (depthsOf bits) e refl
+      by-24 false e = subst Answer (sym (picture-24 d table bits src places e)) (given-24 e)
+
+  -- and no other is given there
+  pub given-picture : (n : ℕ) → PictureGiven d table bits src places n → pictureNumber (picture d table bits src places) ≡ n
+  unfolding refusalNumber
+  given-picture n (given-24 e) = ap pictureNumber (picture-24 d table bits src places e)
+  given-picture n (given-20 e u) = ap pictureNumber (picture-20 d table bits src places e (unknown-not-both bits u))
+  given-picture n (given-21 e depths k over) = ap pictureNumber (picture-21 d table bits src places depths e k over)
+  given-picture n (given-22 e depths k whole less) = ap pictureNumber (picture-22 d table bits src places depths e k whole less)
+  given-picture n (given-23 e depths k whole room at inside above) =
+      ap pictureNumber (picture-23 d table bits src places depths e k whole room (of-above (rawM depths) src at inside above))
+  given-picture n (given-0 e depths k whole room inside) = ap pictureNumber (picture-0 d table bits src places depths e k whole room inside)
+
+-- so it is for every call that keeps picture's promise
+pub pictures-given : {d : Description} {table : List ℤ} {bits : Bits} {src dst dst′ : List ℕ} {r : Picture} → Pictures d table bits src dst r dst′
+    → PictureGiven d table bits src (length dst) (pictureNumber r)
+pictures-given {d} {table} {bits} {src} {dst} h = subst (PictureGiven d table bits src (length dst)) (sym (h .number)) (picture-given d table bits src (length dst))
+
+-- ---- the numbers
 
 abbrev pub OfPicture : Picture → Type 0
 OfPicture r = OneOf (pictureNumber r) (0 ∷ 20 ∷ 21 ∷ 22 ∷ 23 ∷ 24 ∷ [])
 
-pictured : (x : DepthsFound) (src : List ℕ) (places : ℕ) → OfPicture (pictureAt x src places)
-unfolding pictureWith refusalNumber
-pictured NotBoth src places = inr (inl refl)
-pictured (Both depths) src places =
-    either OfPicture (eqb (length src % 3) 0) _ _
-    (either OfPicture (leb (length src) places) _ _
-    (either OfPicture (every (λ c. leb c (rawM depths)) src) _ _ (inl refl)
-    (inr (inr (inr (inr (inl refl))))))
-    (inr (inr (inr (inl refl)))))
-    (inr (inr (inl refl)))
+given-number : {d : Description} {table : List ℤ} {bits : Bits} {src : List ℕ} {places : ℕ} (n : ℕ) → PictureGiven d table bits src places n
+    → OneOf n (0 ∷ 20 ∷ 21 ∷ 22 ∷ 23 ∷ 24 ∷ [])
+given-number n (given-24 e) = inr (inr (inr (inr (inr (inl refl)))))
+given-number n (given-20 e u) = inr (inl refl)
+given-number n (given-21 e depths k over) = inr (inr (inl refl))
+given-number n (given-22 e depths k whole less) = inr (inr (inr (inl refl)))
+given-number n (given-23 e depths k whole room at inside above) = inr (inr (inr (inr (inl refl))))
+given-number n (given-0 e depths k whole room inside) = inl refl
 
 -- picture answers 0, 20, 21, 22, 23 or 24
 pub picture-number : (d : Description) (table : List ℤ) (bits : Bits) (src : List ℕ) (places : ℕ)
     → OneOf (pictureNumber (picture d table bits src places)) (0 ∷ 20 ∷ 21 ∷ 22 ∷ 23 ∷ 24 ∷ [])
-unfolding picture refusalNumber
-picture-number d table bits src places =
-    either OfPicture (couldBeRead d table) _ _ (pictured (depthsOf bits) src places) (inr (inr (inr (inr (inr (inl refl))))))
+picture-number d table bits src places = given-number _ (picture-given d table bits src places)
 
 -- and so does every call that keeps picture's promise
 pub pictures-number : {d : Description} {table : List ℤ} {bits : Bits} {src dst dst′ : List ℕ} {r : Picture} → Pictures d table bits src dst r dst′
     → OneOf (pictureNumber r) (0 ∷ 20 ∷ 21 ∷ 22 ∷ 23 ∷ 24 ∷ [])
-pictures-number {d} {table} {bits} {src} {dst} h =
-    subst (λ n. OneOf n (0 ∷ 20 ∷ 21 ∷ 22 ∷ 23 ∷ 24 ∷ [])) (sym (h .number)) (picture-number d table bits src (length dst))
+pictures-number h = given-number _ (pictures-given h)
 
-module _ (d : Description) (table : List ℤ) (bits : Bits) (src : List ℕ) (places : ℕ) where
-  -- what could be read is not 24
-  pub picture-not-24 : couldBeRead d table ≡ true → pictureNumber (picture d table bits src places) ≡ 24 → ⊥
-  unfolding refusalNumber
-  picture-not-24 could z = by-20 (depthsOf bits) refl
-    where
-      other : {r : Picture} → picture d table bits src places ≡ r → pictureNumber r ≡ 24
-      other e = sym (ap pictureNumber e) ∙ z
-
-      by-23 : (depths : Depths) → depthsOf bits ≡ Both depths → Dec (length src % 3 ≡ 0) → Dec (length src ≤ places) → (b : Bool) → within-all (rawM depths) src ≡ b → ⊥
-      by-23 depths k (no over) room b w = let e : _≡_ {A = ℕ} 21 24 = other (picture-21 d table bits src places depths could k over) in omega arith
-      by-23 depths k (yes whole) (no short) b w = let e : _≡_ {A = ℕ} 22 24 = other (picture-22 d table bits src places depths could k whole (omega arith)) in omega arith
-      by-23 depths k (yes whole) (yes room) false w = let e : _≡_ {A = ℕ} 23 24 = other (picture-23 d table bits src places depths could k whole room w) in omega arith
-      by-23 depths k (yes whole) (yes room) true w = let e : _≡_ {A = ℕ} 0 24 = other (picture-0 d table bits src places depths could k whole room w) in omega arith
-
-      by-20 : (x : DepthsFound) → depthsOf bits ≡ x → ⊥
-      by-20 NotBoth u = let e : _≡_ {A = ℕ} 20 24 = other (picture-20 d table bits src places could u) in omega arith
-      by-20 (Both depths) k = by-23 depths k (ℕ-discrete (length src % 3) 0) (decLe (length src) places) (within-all (rawM depths) src) refl
+-- what could be read is not 24
+pub picture-not-24 : (d : Description) (table : List ℤ) (bits : Bits) (src : List ℕ) (places : ℕ) → couldBeRead d table ≡ true
+    → pictureNumber (picture d table bits src places) ≡ 24 → ⊥
+picture-not-24 d table bits src places could z = by (subst (PictureGiven d table bits src places) z (picture-given d table bits src places))
+  where
+    by : PictureGiven d table bits src places 24 → ⊥
+    by (given-24 e) = true≢false (sym could ∙ e)

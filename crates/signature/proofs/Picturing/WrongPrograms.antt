@@ -1,24 +1,28 @@
--- The promise of picture refutes wrong programs, those that document 01 names under "What the signature covers" and some of our own. What such a program does is
--- said of any program at all; that it keeps the promise is then absurd, at an input that the theorem holds.
+-- The promise of picture refutes wrong programs, those that document 01 names under "What the signature covers", those that two depths invite
+-- (document 02, Req 06), and some of our own. What such a program does is said of any program at all; that it keeps the promise is then absurd, at an input that
+-- the theorem holds.
 use Prim.Native.Nat.{ℕ}
 use mathlib.Core.Path.{_≡_, sym, ap, _∙_}
 use mathlib.Core.List.{List, [], _∷_}
 use native.Mathlib.Omega.{arith}
 use lib.IntN.{ℤ}
 use lib.ListN.{getD, replicate}
-use Rattle.rules.specs.Units.{sameBits}
+use Rattle.rules.specs.Units.{bitsOf, sameBits}
+use Rattle.rules.specs.Picturing.{corrected}
 use Rattle.rules.specs.Answers.{pictureNumber}
 use Rattle.rules.specs.Promises.{Pictures}
+use Rattle.rules.specs.declared.Bits.{Bits}
 use Rattle.rules.specs.declared.Description.{Description}
 use Rattle.rules.specs.declared.Picture.{Picture}
 use Rattle.signature.specs.Cases.{describedBy, tableFrom, zeroAndHalf}
 use Rattle.signature.proofs.Cases.{opened}
+use Rattle.signature.proofs.Looking.WrongPrograms.{rescaled}
 
 abbrev pub Painter : Type 0
-Painter = Description → List ℤ → ℕ → List ℕ → List ℕ → Picture × List ℕ
+Painter = Description → List ℤ → Bits → List ℕ → List ℕ → Picture × List ℕ
 
 abbrev pub PicturesAll : Painter → Type 0
-PicturesAll f = (d : Description) (table : List ℤ) (bits : ℕ) (src dst : List ℕ) → Pictures d table (sameBits bits) src dst (f d table bits src dst .0) (f d table bits src dst .1)
+PicturesAll f = (d : Description) (table : List ℤ) (bits : Bits) (src dst : List ℕ) → Pictures d table bits src dst (f d table bits src dst .0) (f d table bits src dst .1)
 
 -- two pixels, and an output with one place more
 abbrev twoPixels : List ℕ
@@ -32,16 +36,16 @@ at k xs = getD xs k 0
 
 module _ (f : Painter) (keeps : PicturesAll f) where
   abbrev painted : Picture × List ℕ
-  painted = f (describedBy zeroAndHalf) (tableFrom zeroAndHalf) 8 twoPixels output
+  painted = f (describedBy zeroAndHalf) (tableFrom zeroAndHalf) (sameBits 8) twoPixels output
 
   -- the corrected codes, and 77 where the picture has no code
   whole-output : painted .1 ≡ 1 ∷ 2 ∷ 1 ∷ 2 ∷ 1 ∷ 2 ∷ 77 ∷ []
   unfolding opened
-  whole-output = keeps (describedBy zeroAndHalf) (tableFrom zeroAndHalf) 8 twoPixels output .memory
+  whole-output = keeps (describedBy zeroAndHalf) (tableFrom zeroAndHalf) (sameBits 8) twoPixels output .memory
 
-  pub refuses-all-pictures : ((d : Description) (table : List ℤ) (bits : ℕ) (src dst : List ℕ) → pictureNumber (f d table bits src dst .0) ≡ 0 → ⊥) → ⊥
+  pub refuses-all-pictures : ((d : Description) (table : List ℤ) (bits : Bits) (src dst : List ℕ) → pictureNumber (f d table bits src dst .0) ≡ 0 → ⊥) → ⊥
   unfolding opened
-  refuses-all-pictures never = never _ _ 8 twoPixels output (keeps (describedBy zeroAndHalf) (tableFrom zeroAndHalf) 8 twoPixels output .number)
+  refuses-all-pictures never = never _ _ (sameBits 8) twoPixels output (keeps (describedBy zeroAndHalf) (tableFrom zeroAndHalf) (sameBits 8) twoPixels output .number)
 
   -- one code for every pixel: here the red codes of the two pixels are 1 and 2
   pub one-code-for-every-pixel : at 0 (painted .1) ≡ at 3 (painted .1) → ⊥
@@ -53,3 +57,45 @@ module _ (f : Painter) (keeps : PicturesAll f) where
 
   pub writes-past-the-picture : (at 6 (painted .1) ≡ at 6 output → ⊥) → ⊥
   writes-past-the-picture other = other (ap (at 6) whole-output)
+
+  -- ---- two depths, raw codes of one and corrected codes of another
+
+  abbrev between : ℕ → ℕ → List ℕ → Picture × List ℕ
+  between from to src = f (describedBy zeroAndHalf) (tableFrom zeroAndHalf) (bitsOf from to) src output
+
+  abbrev kept-between : (from to : ℕ) (src : List ℕ)
+      → Pictures (describedBy zeroAndHalf) (tableFrom zeroAndHalf) (bitsOf from to) src output (between from to src .0) (between from to src .1)
+  kept-between from to src = keeps (describedBy zeroAndHalf) (tableFrom zeroAndHalf) (bitsOf from to) src output
+
+  -- the codes that are right there
+  abbrev right : ℕ → ℕ → List ℕ
+  right from to = corrected (describedBy zeroAndHalf) (tableFrom zeroAndHalf) (bitsOf from to) twoPixels
+
+  wide-output : between 8 16 twoPixels .1 ≡ 129 ∷ 386 ∷ 129 ∷ 386 ∷ 129 ∷ 386 ∷ 77 ∷ []
+  unfolding opened
+  wide-output = kept-between 8 16 twoPixels .memory
+
+  -- the raw and the corrected depth exchanged: code 1 of 16 bits has code 0 of 8 bits
+  pub exchanges-the-depths : at 0 (between 8 16 twoPixels .1) ≡ at 0 (right 16 8) → ⊥
+  unfolding opened
+  exchanges-the-depths e = let z : _≡_ {A = ℕ} 129 0 = sym (ap (at 0) wide-output) ∙ e in omega arith
+
+  -- codes of the raw depth: the second pixel's red code is 2
+  pub gives-raw-codes : at 3 (between 8 16 twoPixels .1) ≡ at 3 (right 8 8) → ⊥
+  unfolding opened
+  gives-raw-codes e = let z : _≡_ {A = ℕ} 386 2 = sym (ap (at 3) wide-output) ∙ e in omega arith
+
+  -- the nearest code of the raw depth, and of that the nearest of the corrected depth: 2 times 257
+  pub rounds-twice : at 3 (between 8 16 twoPixels .1) ≡ rescaled 255 65_535 (at 3 (right 8 8)) → ⊥
+  unfolding opened
+  rounds-twice e = let z : _≡_ {A = ℕ} 386 514 = sym (ap (at 3) wide-output) ∙ e in omega arith
+
+  -- a code above the raw M is 23 only where both depths are known
+  pub tries-codes-before-depths : pictureNumber (between 8 9 (1 ∷ 3 ∷ 256 ∷ []) .0) ≡ 23 → ⊥
+  unfolding opened
+  tries-codes-before-depths e = let z : _≡_ {A = ℕ} 20 23 = sym (kept-between 8 9 (1 ∷ 3 ∷ 256 ∷ []) .number) ∙ e in omega arith
+
+  -- a code above the raw M is 23, whatever the corrected M
+  pub judges-by-the-corrected-m : pictureNumber (between 8 16 (1 ∷ 3 ∷ 256 ∷ []) .0) ≡ 0 → ⊥
+  unfolding opened
+  judges-by-the-corrected-m e = let z : _≡_ {A = ℕ} 23 0 = sym (kept-between 8 16 (1 ∷ 3 ∷ 256 ∷ []) .number) ∙ e in omega arith

@@ -4,7 +4,8 @@
 //! second report < FILE            what the report program prints
 //! second read FILE                the answer of reading, with room for any table
 //! second check FILE               the answer where there is no table
-//! second look FILE BITS R G B     one pixel through a file's table
+//! second look FILE RAW CORRECTED R G B
+//!                                 one pixel through a file's table, from so many bits to so many
 //! second cases                    document 01's cases (src/cases.rs gives the format)
 //! second stream SEED TABLES LOOKS PICTURES
 //!                                 this side of `compare` alone: counts, and cases a second
@@ -14,7 +15,7 @@
 
 use second::gen::report_input;
 use second::look::look;
-use second::paper::{number, place, Kind};
+use second::paper::{number, place, Bits, Kind};
 use second::reading::{check, read, Reading};
 use second::report::report;
 use second::run::{run, Wanted, READ_NUMBERS};
@@ -24,6 +25,7 @@ use second::{cases, paper};
 use std::collections::BTreeMap;
 use std::io::{self, Read, Write};
 use std::process::{Command, ExitCode, Stdio};
+use std::str::FromStr;
 use std::time::Instant;
 
 fn main() -> ExitCode {
@@ -33,14 +35,14 @@ fn main() -> ExitCode {
         ["report"] => print_report(),
         ["read", file] => print_read(file),
         ["check", file] => print_check(file),
-        ["look", file, bits, r, g, b] => print_look(file, bits, [r, g, b]),
+        ["look", file, raw, corrected, r, g, b] => print_look(file, [raw, corrected], [r, g, b]),
         ["cases"] => put(cases::printed().as_bytes()),
         ["stream", numbers @ ..] => stream(numbers),
         ["reports", seed, count, program @ ..] if !program.is_empty() => {
             reports(seed, count, program)
         }
-        _ => Err("usage: second report | read FILE | check FILE | look FILE BITS R G B | cases | \
-                  stream SEED TABLES LOOKS PICTURES | reports SEED COUNT PROGRAM [ARGUMENT...]"
+        _ => Err("usage: second report | read FILE | check FILE | look FILE RAW CORRECTED R G B | \
+                  cases | stream SEED TABLES LOOKS PICTURES | reports SEED COUNT PROGRAM [ARGUMENT...]"
             .to_string()),
     };
     match done {
@@ -91,23 +93,32 @@ fn print_read(file: &str) -> Result<(), String> {
     Ok(())
 }
 
-fn print_look(file: &str, bits: &str, pixel: [&str; 3]) -> Result<(), String> {
+fn print_look(file: &str, bits: [&str; 2], pixel: [&str; 3]) -> Result<(), String> {
     let reading = open(file)?;
     if reading.number != 0 {
         return Err(format!("refused: number {} line {}", reading.number, reading.line));
     }
-    let bits = bits.parse().map_err(|_| format!("not a depth: {bits}"))?;
-    let mut codes = [0; 3];
-    for (code, word) in codes.iter_mut().zip(pixel) {
-        *code = word.parse().map_err(|_| format!("not a code: {word}"))?;
-    }
-    let look = look(&reading.description, &reading.samples, bits, codes);
+    let [raw, corrected] = parsed(bits, "depth")?;
+    let bits = Bits { raw, corrected };
+    let look = look(&reading.description, &reading.samples, bits, parsed(pixel, "code")?);
     let used = if reading.description[place::KIND] == 3 { 4 } else { 6 };
     println!("number {}", look.number);
     println!("codes {}", list(&look.codes, " "));
     println!("rows {}", list(&look.rows[..used], " "));
     println!("weights {}", list(&look.weights[..used], " "));
     Ok(())
+}
+
+/// Words as numbers of a kind.
+fn parsed<T: FromStr + Copy + Default, const COUNT: usize>(
+    words: [&str; COUNT],
+    kind: &str,
+) -> Result<[T; COUNT], String> {
+    let mut numbers = [T::default(); COUNT];
+    for (number, word) in numbers.iter_mut().zip(words) {
+        *number = word.parse().map_err(|_| format!("not a {kind}: {word}"))?;
+    }
+    Ok(numbers)
 }
 
 fn numbers(words: &[&str]) -> Result<Vec<u64>, String> {

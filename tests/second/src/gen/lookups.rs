@@ -1,12 +1,13 @@
 //! Looks and pictures: descriptions and tables that reading could and could not have
-//! given, pixels on the borders of cells, and every depth.
+//! given, pixels on the borders of cells, values on and beside the ties of two codes, and every
+//! pair of depths.
 
 use super::draws::Draws;
 use super::files::{some_bounds, some_sample};
 use super::{LookCase, PictureCase};
-use crate::paper::{
-    greatest_code, place, Description, Kind, DEPTHS, GREATEST_BOUND, GREATEST_SAMPLE,
-};
+use crate::look::look as looked;
+use crate::paper::{greatest_code, number, place, Bits, Description, Greatest, Kind};
+use crate::paper::{DEPTHS, GREATEST_BOUND, GREATEST_SAMPLE, SAMPLE_UNITS};
 
 /// A description and a table.
 struct Lent {
@@ -41,28 +42,30 @@ const BREAKS: &[(&str, Break)] = &[
 ];
 
 pub fn look(draws: &mut Draws) -> LookCase {
-    let (lent, bits, made) = lent_and_bits(draws);
-    let m = greatest_code(bits).unwrap_or(255);
-    let mut pixel = some_pixel(draws, &lent.description, m);
-    if draws.one_in(12) {
-        pixel[draws.below(3)] = above(draws, m);
+    let (mut lent, bits, made) = lent_and_bits(draws);
+    let mut pixel = some_pixel(draws, &lent.description, some_m(bits));
+    aim(draws, &mut lent, bits, pixel);
+    if draws.one_in(too_great(bits, 12)) {
+        pixel[draws.below(3)] = above(draws, some_m(bits));
     }
     LookCase { description: lent.description, table: lent.table, bits, pixel, made }
 }
 
 pub fn picture(draws: &mut Draws) -> PictureCase {
-    let (lent, bits, made) = lent_and_bits(draws);
-    let m = greatest_code(bits).unwrap_or(255);
+    let (mut lent, bits, made) = lent_and_bits(draws);
     let pixels = draws.pick(&[0, 1, 1, 2, 3, 5, 8, 13, 40]);
     let mut source: Vec<u16> =
-        (0..pixels).flat_map(|_| some_pixel(draws, &lent.description, m)).collect();
+        (0..pixels).flat_map(|_| some_pixel(draws, &lent.description, some_m(bits))).collect();
+    if let Some(first) = source.first_chunk() {
+        aim(draws, &mut lent, bits, *first);
+    }
     if draws.one_in(8) {
         wrong_length(draws, &mut source);
     }
-    if draws.one_in(8) && !source.is_empty() {
+    if draws.one_in(too_great(bits, 8)) && !source.is_empty() {
         let anywhere = draws.below(source.len());
         let at = draws.pick(&[0, source.len() - 1, anywhere]);
-        source[at] = above(draws, m);
+        source[at] = above(draws, some_m(bits));
     }
     let output_len = some_output_len(draws, source.len());
     PictureCase { description: lent.description, table: lent.table, bits, source, output_len, made }
@@ -87,7 +90,7 @@ fn some_output_len(draws: &mut Draws, length: usize) -> usize {
     }
 }
 
-fn lent_and_bits(draws: &mut Draws) -> (Lent, u32, Vec<&'static str>) {
+fn lent_and_bits(draws: &mut Draws) -> (Lent, Bits, Vec<&'static str>) {
     let mut lent = kept(draws);
     let mut made = Vec::new();
     let breaks = draws.pick(&[0, 0, 0, 0, 1, 1, 2]);
@@ -99,12 +102,33 @@ fn lent_and_bits(draws: &mut Draws) -> (Lent, u32, Vec<&'static str>) {
     (lent, some_bits(draws), made)
 }
 
-fn some_bits(draws: &mut Draws) -> u32 {
+/// Two depths, often the same.
+fn some_bits(draws: &mut Draws) -> Bits {
+    let raw = some_depth(draws);
+    let corrected = if draws.one_in(4) { raw } else { some_depth(draws) };
+    Bits { raw, corrected }
+}
+
+fn some_depth(draws: &mut Draws) -> u32 {
     const UNKNOWN: &[u32] = &[0, 1, 7, 9, 11, 13, 14, 15, 17, 24, 32, 64, 264, u32::MAX, 1 << 31];
     if draws.one_in(16) {
         draws.pick(UNKNOWN)
     } else {
         draws.pick(&DEPTHS).0
+    }
+}
+
+/// The raw M, or one to draw codes by if there is none.
+fn some_m(bits: Bits) -> u16 {
+    greatest_code(bits.raw).unwrap_or(255)
+}
+
+/// Of how many cases one has a code above M: of few where an unknown depth has to go first.
+fn too_great(bits: Bits, many: usize) -> usize {
+    if bits.greatest().is_some() {
+        many
+    } else {
+        2
     }
 }
 
@@ -115,6 +139,59 @@ fn above(draws: &mut Draws, m: u16) -> u16 {
         1 => u16::MAX,
         _ => draws.between(i64::from(m), 65_535) as u16,
     }
+}
+
+/// Now and then the two samples that a 1D look weighs for a colour are set so that its value is
+/// that of a tie of two corrected codes, or as near to one as the weights allow, from below or
+/// from above.
+fn aim(draws: &mut Draws, lent: &mut Lent, bits: Bits, pixel: [u16; 3]) {
+    let seen = looked(&lent.description, &lent.table, bits, pixel);
+    let (Some(m), number::ACCEPTED) = (bits.greatest(), seen.number) else {
+        return;
+    };
+    if lent.description[place::KIND] != Kind::OneD.mark() || !draws.one_in(4) {
+        return;
+    }
+    let colour = draws.below(3);
+    let shares = [2 * colour, 2 * colour + 1];
+    let weights = shares.map(|share| i128::from(seen.weights[share]));
+    let samples = weighing(weights, sum_near_tie(draws, m, weights));
+    for (share, sample) in shares.into_iter().zip(samples) {
+        lent.table[3 * seen.rows[share] as usize + colour] = sample as i64;
+    }
+}
+
+/// Of the sums that can be made with the weights, the one at the half between two corrected codes,
+/// or the next below or above it. Half of the ties are those that a whole sum can meet.
+fn sum_near_tie(draws: &mut Draws, m: Greatest, weights: [i128; 2]) -> i128 {
+    let (common, _) = common_divisor(m.corrected.into(), m.raw.into());
+    let (step, _) = common_divisor(weights[0], weights[1]);
+    let m = i64::from(m.corrected);
+    let unit = if draws.one_in(2) { m / common as i64 } else { 1 };
+    let halves = unit * (2 * draws.between(0, m / unit - 1) + 1);
+    let one = (weights[0] + weights[1]) * i128::from(SAMPLE_UNITS);
+    let steps = i128::from(halves) * one / (i128::from(2 * m) * step);
+    step * (steps + i128::from(draws.between(0, 1)))
+}
+
+/// Two samples that make the sum with their weights; what divides both weights divides it.
+fn weighing([here, next]: [i128; 2], sum: i128) -> [i128; 2] {
+    let (step, inverse) = common_divisor(next, here + next);
+    let (sum, next, den) = (sum / step, next / step, (here + next) / step);
+    let rise = (sum % den * inverse).rem_euclid(den);
+    let first = (sum - next * rise) / den;
+    [first, first + rise]
+}
+
+/// The greatest common divisor of two numbers, and what the first is multiplied by to make it,
+/// but for a multiple of the second.
+pub fn common_divisor(one: i128, other: i128) -> (i128, i128) {
+    let (mut now, mut after) = ((one, 1), (other, 0));
+    while after.0 != 0 {
+        let times = now.0 / after.0;
+        (now, after) = (after, (now.0 - times * after.0, now.1 - times * after.1));
+    }
+    now
 }
 
 /// A description and table that reading could have given.
@@ -340,5 +417,25 @@ fn at_random(lent: &mut Lent, draws: &mut Draws) {
             1 => draws.between(-20_000, 20_000),
             _ => draws.between(0, 4),
         };
+    }
+}
+
+#[cfg(test)]
+mod tests {
+    use super::*;
+
+    #[test]
+    fn samples_that_make_a_sum() {
+        for (weights, sum) in [([3, 4], 100), ([4, 6], 32), ([0, 5], 15), ([5, 0], 15)] {
+            let [first, second] = weighing(weights, sum);
+            assert_eq!(weights[0] * first + weights[1] * second, sum, "{weights:?}");
+        }
+    }
+
+    #[test]
+    fn divisors() {
+        assert_eq!(common_divisor(65_535, 4095).0, 15);
+        assert_eq!(common_divisor(1023, 255).0, 3);
+        assert_eq!(common_divisor(0, 9), (9, 0));
     }
 }

@@ -1,46 +1,78 @@
 -- What a description that could have been read has of each colour; N·N is no more than 65,536 · 65,536.
-use Prim.Native.Nat.{_*_, _≤_}
-use mathlib.Core.Path.{ap, _∙_}
+use Prim.Native.Nat.{ℕ, _*_, _≤_, _<_}
+use mathlib.Core.Path.{_≡_, ap, ap₂, sym, subst, _∙_}
 use native.Mathlib.Nat.{mul-le-mul}
 use native.Mathlib.Omega.{arith}
 use borrow.Author.Needs.{needs}
 use Rattle.rules.specs.declared.Colour.the-variants.{Red, Green, Blue}
+use Rattle.rules.specs.declared.Kind.{Kind}
+use Rattle.colour.specs.Limits.{bottomLimit}
 use Rattle.colour.specs.Plans.{axisOf}
+use Rattle.colour.specs.declared.plan.Axis.{Axis}
+use Rattle.colour.specs.declared.plan.Plan.{Plan}
+use Rattle.colour.specs.declared.ratio.Ratio.{Ratio}
 use Rattle.colour.proofs.Plans.{sound, n-most}
 use Rattle.colour.proofs.plan.plan_of.Statement.{statement}
 use Rattle.colour.proofs.plan.plan_of.Tie as tie
 
 square-most : (s : tie.Start) → s .args .d .n * s .args .d .n ≤ 65536 * 65536
-square-most s = let n = n-most (sound (s .args .d) (s .pre)) in mul-le-mul n n
+square-most s = let n = n-most (sound (s .args .d) (s .pre .0)) in mul-le-mul n n
+
+abbrev entry : tie.After-ratio-of → tie.Start
+entry c = c .before .before .before
+
+bottom-fits : (c : tie.After-ratio-of) → let q = c .ratio-of .result .bottom in (0 < q) × (q ≤ bottomLimit)
+bottom-fits c =
+    let t = entry c .pre .1 in
+    subst (λ (r : Ratio). (0 < r .bottom) × (r .bottom ≤ bottomLimit)) (sym (c .ratio-of .ensures)) (t .some, t .bottom-most)
+
+-- what is asked of the ratio and of the three axes decides the plan
+same-plan : {k : Kind} {n t u : ℕ} {r g b x y z : Axis} → r ≡ x → g ≡ y → b ≡ z → t ≡ u
+    → _≡_ {A = Plan} (record { kind = k; cells = n; red = r; green = g; blue = b; times = t }) (record { kind = k; cells = n; red = x; green = y; blue = z; times = u })
+same-plan {k} {n} red green blue times i = record { kind = k; cells = n; red = red i; green = green i; blue = blue i; times = times i }
 
 mul-square : tie.Need-mul-square
-mul-square c = omega (arith, square-most c)
+mul-square c = record { fits = omega (arith, square-most c) }
 
 greatest-requires : tie.Need-greatest-requires
 greatest-requires c κs = search needs
 
-sub-t8 : tie.Need-sub-t8
-sub-t8 c = omega (arith, sound _ (c .before .before .pre) .least)
+ratio-of-requires : tie.Need-ratio-of-requires
+ratio-of-requires c κs = c .before .before .pre .1
+
+sub-t10 : tie.Need-sub-t10
+sub-t10 c = omega (arith, sound _ (entry c .pre .0) .least)
 
 axis-of-requires : tie.Need-axis-of-requires
-axis-of-requires c κs = sound _ (c .before .before .pre) .domains Red
+axis-of-requires c κs = (sound _ (entry c .pre .0) .domains Red, bottom-fits c)
 
 axis-of-requires-2 : tie.Need-axis-of-requires-2
-axis-of-requires-2 c κs = sound _ (c .before .before .before .pre) .domains Green
+axis-of-requires-2 c κs = let r = c .before in (sound _ (entry r .pre .0) .domains Green, bottom-fits r)
 
 axis-of-requires-3 : tie.Need-axis-of-requires-3
-axis-of-requires-3 c κs = sound _ (c .before .before .before .before .pre) .domains Blue
+axis-of-requires-3 c κs = let r = c .before .before in (sound _ (entry r .pre .0) .domains Blue, bottom-fits r)
 
 returns : tie.Need-returns
 returns c =
-    let m = c .before .before .before .greatest .ensures in
-    let a = c .before .before .before .before .before .args in
-    let red = c .before .before .axis-of .ensures ∙ ap (λ m. axisOf (a .d .red) m 1) m in
-    let green = c .before .axis-of2 .ensures ∙ ap (λ m. axisOf (a .d .green) m (a .d .n)) m in
-    let blue = c .axis-of3 .ensures ∙ ap (λ m. axisOf (a .d .blue) m (a .d .n * a .d .n)) m in
-    rw (red, green, blue)
+    let r = c .before .before .before in
+    let a = entry r .args in
+    let m = r .before .greatest .ensures in
+    let ratio = r .ratio-of .ensures in
+    let q = ap (λ (x : Ratio). x .bottom) ratio in
+    let red = c .before .before .axis-of .ensures ∙ ap₂ (λ m q. axisOf (a .d .red) m q 1) m q in
+    let green = c .before .axis-of2 .ensures ∙ ap₂ (λ m q. axisOf (a .d .green) m q (a .d .n)) m q in
+    let blue = c .axis-of3 .ensures ∙ ap₂ (λ m q. axisOf (a .d .blue) m q (a .d .n * a .d .n)) m q in
+    same-plan red green blue (ap (λ (x : Ratio). x .top) ratio)
 
 pub plan-of-spec : {M : Type 1} → statement M
 plan-of-spec =
     tie.close
-    (tie.spec mul-square greatest-requires sub-t8 axis-of-requires axis-of-requires-2 axis-of-requires-3 returns)
+    (tie.spec
+    mul-square
+    greatest-requires
+    ratio-of-requires
+    sub-t10
+    axis-of-requires
+    axis-of-requires-2
+    axis-of-requires-3
+    returns)

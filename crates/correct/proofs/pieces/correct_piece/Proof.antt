@@ -4,7 +4,7 @@ use Prim.Native.Nat.{_*_, _/_, _≤_}
 use mathlib.Core.Path.{sym, subst}
 use lib.ListN.{length, length-take}
 use lib.Seq.{length-take-le}
-use Rattle.ppm.specs.Raster.{codeCount}
+use Rattle.correct.specs.Pieces.{Room}
 use Rattle.correct.proofs.Corrected.{piece-corrects}
 use native.Mathlib.Omega.{arith}
 use borrow.Author.Needs.{needs}
@@ -19,13 +19,13 @@ fewer : (c : tie.After-slice-known5) → c .before .before .before .before .befo
 fewer c =
     let counted = c .before .before .before .before .before in
     let codes = counted .before .before .before .before in
-    omega (arith, few counted, c .before .before .picture .kept, codes .codes-from .kept, codes .before .before .before .before .before .before .pre .1 .for-corrected)
+    omega (arith, few counted, c .before .before .picture .kept, codes .codes-from .kept, codes .before .before .before .before .before .before .before .before .pre .1 .for-corrected)
 
 slice-reshare-prefix-codes-from : tie.Need-slice-reshare-prefix-codes-from
 slice-reshare-prefix-codes-from c = search needs
 
 slice-aggregate-codes-from : tie.Need-slice-aggregate-codes-from
-slice-aggregate-codes-from c = sym (length-take-le _ _ (c .before .before .before .before .pre .1 .there))
+slice-aggregate-codes-from c = sym (length-take-le _ _ (c .before .before .before .before .before .before .pre .1 .there))
 
 codes-from-requires : tie.Need-codes-from-requires
 codes-from-requires c κs = search needs
@@ -75,10 +75,10 @@ returns c =
     let made = wrote .before .before .before .before .before in
     let counted = made .before .before .before in
     let codes = counted .before .before .before .before in
-    let s = codes .before .before .before .before .before .before in
+    let s = codes .before .before .before .before .before .before .before .before in
     let input = length-take-le (s .args .n) (now (s .args .bytes)) (s .pre .1 .there) in
-    let corrects = piece-corrects _ _ _ _ (now (s .args .raw)) (now (s .args .corrected)) (now (s .args .bytes)) (s .pre .0)
-    (subst (λ k. codeCount (s .args .scale .wide) k ≤ length (now (s .args .raw))) (sym input) (s .pre .1 .for-raw)) (s .pre .1 .for-corrected) (omega (arith, input, s .pre .1 .there))
+    let room = subst (λ k. Room (s .args .scales) k (length (now (s .args .bytes))) (length (now (s .args .raw))) (length (now (s .args .corrected)))) (sym input) (s .pre .1) in
+    let corrects = piece-corrects _ _ _ _ (now (s .args .raw)) (now (s .args .corrected)) (now (s .args .bytes)) (s .pre .0) room
     (codes .codes-from .ensures) (counted .count-within .ensures .0) (made .picture .ensures) (wrote .bytes-from .ensures) in
     (corrects, omega (arith, corrects .few, input))
 

@@ -1,14 +1,15 @@
 -- What is read is a piece at most, and a piece fits its buffers.
 use denote.Ref.{now}
-use Prim.Native.Nat.{_+_, _*_, _≤_, _<_}
-use mathlib.Core.Path.{sym, subst}
-use lib.ListN.{length, drop, length-append}
+use Prim.Native.Nat.{ℕ, _+_, _*_, _≤_, _<_}
+use mathlib.Core.Path.{_≡_, sym, subst}
+use mathlib.Core.List.{_++_}
+use lib.ListN.{length, drop, length-append, length-drop}
 use mir.Syntax.{w64}
 use mir.Val.{Fits}
 use lib.Seq.{length-take-le}
 use Rattle.desk.specs.Loads.{Fills}
 use Rattle.correct.specs.Pieces.{pixelBytes}
-use Rattle.correct.proofs.Sizes.{piece-bytes, piece-codes, pixel-there}
+use Rattle.correct.proofs.Sizes.{piece-bytes, piece-codes, piece-made, pixel-there}
 use native.Mathlib.Omega.{arith}
 use borrow.Author.Needs.{needs}
 use Rattle.correct.proofs.pieces.pass_piece.Statement.{statement}
@@ -16,27 +17,40 @@ use Rattle.correct.proofs.pieces.pass_piece.Tie as tie
 
 -- the function's entry
 abbrev entry : tie.After-pixel-bytes → tie.Start
-entry c = c .before .before .before .before
+entry c = c .before .before .before .before .before
 
 -- the bytes of a piece
 asked : (c : tie.After-pixel-bytes) → entry c .args .want * c .pixel-bytes .result ≤ 6_291_456
-asked c = subst (λ n. entry c .args .want * n ≤ 6_291_456) (sym (c .pixel-bytes .ensures)) (piece-bytes (entry c .args .scale .wide) (entry c .args .want) (entry c .pre .1 .1 .1))
+asked c = subst (λ n. entry c .args .want * n ≤ 6_291_456) (sym (c .pixel-bytes .ensures)) (piece-bytes (entry c .args .scales .raw .wide) (entry c .args .want) (entry c .pre .1 .1 .1))
 
 fits : (c : tie.After-pixel-bytes) → entry c .args .want * c .pixel-bytes .result ≤ length (now (entry c .args .bytes))
 fits c = omega (arith, asked c, entry c .pre .1 .0 .of-bytes)
 
--- what was read is no more
+-- the reading
 abbrev filled : tie.After-got → tie.After-fill
 filled c = c .before .before .before .before
 
-inside : (c : tie.After-got) → c .got .given .0 .0 ≤ length (filled c .fill .last .1 .0)
-inside c = subst (Fills _) (c .got .given .1) (filled c .fill .ensures)
+-- how many bytes were asked for
+abbrev count : tie.After-got → ℕ
+count c = let p = filled c .before .before in entry p .args .want * p .pixel-bytes .result
 
-got : (c : tie.After-got) → let s = entry (filled c .before .before) in c .got .given .0 .0 ≤ s .args .want * pixelBytes (s .args .scale .wide)
-got c =
+-- the bytes that were lent for the reading are so many
+long : (c : tie.After-got) → length (filled c .fill .last .1 .0) ≡ count c
+long c = let p = filled c .before .before in omega (arith, filled c .fill .kept, length-take-le (count c) (now (entry p .args .bytes)) (fits p))
+
+-- what was read is no more
+inside : (c : tie.After-got) → c .got .given .0 .0 ≤ count c
+inside c = subst (λ n. c .got .given .0 .0 ≤ n) (long c) (subst (Fills _) (c .got .given .1) (filled c .fill .ensures))
+
+got : (c : tie.After-got) → let s = entry (filled c .before .before) in c .got .given .0 .0 ≤ s .args .want * pixelBytes (s .args .scales .raw .wide)
+got c = let p = filled c .before .before in subst (λ n. c .got .given .0 .0 ≤ entry p .args .want * n) (p .pixel-bytes .ensures) (inside c)
+
+-- all bytes are as many as before
+lent : (c : tie.After-got) → let bytes = now (entry (filled c .before .before) .args .bytes) in length (filled c .fill .last .1 .0 ++ drop (count c) bytes) ≡ length bytes
+lent c =
     let p = filled c .before .before in
-    subst (λ n. c .got .given .0 .0 ≤ entry p .args .want * n) (p .pixel-bytes .ensures)
-    (omega (arith, inside c, filled c .fill .kept, length-take-le (entry p .args .want * p .pixel-bytes .result) (now (entry p .args .bytes)) (fits p)))
+    let bytes = now (entry p .args .bytes) in
+    omega (arith, length-append (filled c .fill .last .1 .0) (drop (count c) bytes), length-drop (count c) bytes, long c, fits p)
 
 abbrev read : tie.After-correct-piece → tie.After-got
 read c = c .before .before .before .before .before
@@ -49,7 +63,7 @@ numbered : (c : tie.Else1) → Fits w64 (entry (filled (read (piece c)) .before 
 numbered c =
     let p = read (piece c) in
     let s = entry (filled p .before .before) in
-    record { fits = omega (arith, s .pre .1 .1 .0, piece c .correct-piece .ensures .1, got p, piece-bytes (s .args .scale .wide) (s .args .want) (s .pre .1 .1 .1)) }
+    record { fits = omega (arith, s .pre .1 .1 .0, piece c .correct-piece .ensures .1, got p, piece-bytes (s .args .scales .raw .wide) (s .args .want) (s .pre .1 .1 .1)) }
 
 pixel-bytes-requires : tie.Need-pixel-bytes-requires
 pixel-bytes-requires c κs = search needs
@@ -85,9 +99,10 @@ correct-piece-requires c κs =
     let s = entry (filled r .before .before) in (
       s .pre .0,
       record {
-        there = omega (arith, length-append (filled r .fill .last .1 .0) (drop (s .args .want * filled r .before .before .pixel-bytes .result) (now (s .args .bytes))), inside r);
-        for-raw = omega (arith, s .pre .1 .0 .of-raw, piece-codes (s .args .scale .wide) (s .args .want) n (s .pre .1 .1 .1) (got r));
+        there = omega (arith, lent r, inside r, fits (filled r .before .before));
+        for-raw = omega (arith, s .pre .1 .0 .of-raw, piece-codes (s .args .scales .raw .wide) (s .args .want) n (s .pre .1 .1 .1) (got r));
         for-corrected = s .pre .1 .0 .of-corrected;
+        for-bytes = omega (arith, lent r, s .pre .1 .0 .of-bytes, piece-made (s .args .scales .raw .wide) (s .args .scales .corrected .wide) (s .args .want) n (s .pre .1 .1 .1) (got r));
       },
     )
 
@@ -115,10 +130,10 @@ returns-2 c = search needs
 div-if2 : tie.Need-div-if2
 div-if2 c =
     let p = filled (read (piece c)) .before .before in
-    subst (λ n. 0 < n) (sym (p .pixel-bytes .ensures)) (pixel-there (entry p .args .scale .wide))
+    subst (λ n. 0 < n) (sym (p .pixel-bytes .ensures)) (pixel-there (entry p .args .scales .raw .wide))
 
-add-t29 : tie.Need-add-t29
-add-t29 c = numbered (c .before)
+add-t30 : tie.Need-add-t30
+add-t30 c = numbered (c .before)
 
 same-length-5 : tie.Need-same-length-5
 same-length-5 c = search needs
@@ -132,8 +147,8 @@ same-length-7 c = search needs
 returns-3 : tie.Need-returns-3
 returns-3 c = search needs
 
-add-t31 : tie.Need-add-t31
-add-t31 c = numbered (c .before .before)
+add-t32 : tie.Need-add-t32
+add-t32 c = numbered (c .before .before)
 
 same-length-8 : tie.Need-same-length-8
 same-length-8 c = search needs
@@ -181,12 +196,12 @@ pass-piece-spec =
     same-length-4
     returns-2
     div-if2
-    add-t29
+    add-t30
     same-length-5
     same-length-6
     same-length-7
     returns-3
-    add-t31
+    add-t32
     same-length-8
     same-length-9
     same-length-10

@@ -1,7 +1,5 @@
 -- What the look ensures is all that is asked of one that is shown, and the end is the look's.
-use denote.Ref.{now}
-use mathlib.Core.Path.{sym, subst, _∙_}
-use Rattle.explain.specs.Spans.{Seen}
+use mathlib.Core.Path.{sym, _∙_}
 use Rattle.explain.proofs.Between.{seen}
 use Rattle.explain.proofs.Ends.{ends-unknown, ends-refused, ends-shown}
 use borrow.Author.Needs.{needs}
@@ -11,8 +9,8 @@ use Rattle.explain.proofs.show.explain_held.Tie as tie
 of-requires : tie.Need-of-requires
 of-requires c κs = search needs
 
-enum-known-depth : tie.Need-enum-known-depth
-enum-known-depth c = search needs
+enum-known-depths : tie.Need-enum-known-depths
+enum-known-depths c = search needs
 
 enum-told : tie.Need-enum-told
 enum-told c = search needs
@@ -37,21 +35,15 @@ refuse-requires-2 c κs = search needs
 enum-known-codes : tie.Need-enum-known-codes
 enum-known-codes c = search needs
 
-greatest-requires : tie.Need-greatest-requires
-greatest-requires c κs = search needs
-
 show-pixel-requires : tie.Need-show-pixel-requires
 show-pixel-requires c κs = search needs
 
 show-look-requires : tie.Need-show-look-requires
 show-look-requires c κs =
-    let greatest = c .before .before in
-    let codes = greatest .before .before in
+    let codes = c .before .before .before in
     let look = codes .before .before in
-    let depth = look .before .before in
-    let by-depth = seen (look .look .ensures) (codes .codes .given .1) (depth .depth .given .0 .0) (sym (depth .before .before .of .ensures) ∙ depth .depth .given .1) in
-    let a = depth .before .before .before .before .args in
-    subst (λ m. Seen (a .d) (now (a .table)) m (codes .codes .given .0 .1 .0)) (sym (greatest .greatest .ensures)) by-depth
+    let depths = look .before .before in
+    seen (look .look .ensures) (codes .codes .given .1) (depths .depths .given .0 .0) (sym (depths .before .before .of .ensures) ∙ depths .depths .given .1)
 
 slice-aggregate-if-written : tie.Need-slice-aggregate-if-written
 slice-aggregate-if-written c = search needs
@@ -67,7 +59,7 @@ returns-2 c =
 returns-3 : tie.Need-returns-3
 returns-3 c =
     let joined = c .before .before in
-    let codes = joined .before .before .before .before in
+    let codes = joined .before .before .before in
     ends-shown _ _ _ _ (codes .before .before .look .ensures) (joined .if1 .written) (c .if-written .result) (c .if-written .ensures) (codes .codes .given .1)
 
 pub explain-held-spec : {M : Type 1} → statement M
@@ -75,7 +67,7 @@ explain-held-spec =
     tie.close
     (tie.spec
     of-requires
-    enum-known-depth
+    enum-known-depths
     enum-told
     refuse-requires
     returns
@@ -83,7 +75,6 @@ explain-held-spec =
     enum-known-reason
     refuse-requires-2
     enum-known-codes
-    greatest-requires
     show-pixel-requires
     show-look-requires
     slice-aggregate-if-written

@@ -1,7 +1,9 @@
--- The number above 0 is at most the absolute value, so no step wraps, and the steps are the definition of `code`.
+-- The number above 0 is at most the absolute value, so that its double fits.
+use mathlib.Core.Path.{ap, _∙_}
+use Prim.Native.Nat.{min}
 use native.Mathlib.Omega.{arith}
 use borrow.Author.Needs.{needs}
-use Rattle.whole.specs.Nearest.{code}
+use Rattle.whole.specs.Nearest.{rounded, code}
 use Rattle.whole.proofs.Halves.{split}
 use Rattle.whole.proofs.Whole.nearest.Statement.{statement}
 use Rattle.whole.proofs.Whole.nearest.Tie as tie
@@ -9,24 +11,17 @@ use Rattle.whole.proofs.Whole.nearest.Tie as tie
 above-requires : tie.Need-above-requires
 above-requires c κs = search needs
 
-mul-q : tie.Need-mul-q
-mul-q c = omega (arith, split (c .before .args .self .0))
-
-add-q : tie.Need-add-q
-add-q c = omega (arith, split (c .before .args .self .0))
-
-mul-q-2 : tie.Need-mul-q-2
-mul-q-2 c = search needs
-
-div-q : tie.Need-div-q
-div-q c = search needs
+rounded-requires : tie.Need-rounded-requires
+rounded-requires c κs = let s = c .before in (s .pre .0, omega (arith, c .above .ensures, split (s .args .self .0), s .pre .1))
 
 lesser-requires : tie.Need-lesser-requires
 lesser-requires c κs = search needs
 
 returns : tie.Need-returns
 unfolding code
-returns c = rw (c .lesser .ensures, ← (c .before .above .ensures)) (omega arith)
+returns c =
+    let s = c .before .before .before in
+    c .lesser .ensures ∙ ap (min (s .args .m)) (c .before .rounded .ensures ∙ ap (λ n. rounded n (s .args .den)) (c .before .before .above .ensures))
 
 pub nearest-spec : {M : Type 1} → statement M
-nearest-spec = tie.close (tie.spec above-requires mul-q add-q mul-q-2 div-q lesser-requires returns)
+nearest-spec = tie.close (tie.spec above-requires rounded-requires lesser-requires returns)
