@@ -125,9 +125,7 @@ module _ {plan : Plan} {table : List ℤ} (p : Planned plan table) where
 
   -- 3D has one D
   pub one-den : plan .kind ≡ ThreeD → (c : Colour) → plan .red .den ≡ axisIn plan c .den
-  one-den e c =
-      let one = could-sound .one-domain (sym kind-is ∙ e) in
-      den-is Red ∙ ap (λ (x : Domain). m * width x) (one Red ∙ sym (one c)) ∙ sym (den-is c)
+  one-den e c = den-is Red ∙ D3.one-den d table m (p .could) (sym kind-is ∙ e) Red c ∙ sym (den-is c)
 
   pub cells-fit : CellsFit (plan .cells)
   cells-fit = rw (p .is) (record { some = omega (arith, could-sound .least); most = omega (arith, n-most could-sound) })
@@ -190,7 +188,7 @@ module _ {plan : Plan} {table : List ℤ} (p : Planned plan table) where
     end-most = let i = indexOf d m pixel in omega (arith, path-rows (d .n) 0 i i rgb (λ k. reads k .cell) .1 .1 .1 .0, cube-most)
 
     part : (c : Colour) → fractionOf d m pixel c ≤ denOf d m Red
-    part c = omega (arith, reads c .part, D3.one-den d table m pixel (p .could) (p .deep) three-d c Red)
+    part c = omega (arith, reads c .part, D3.one-den d table m (p .could) three-d c Red)
 
     pub steps-fit : StepsFit (stepsOf plan pixel)
     unfolding stepsOf stepOf

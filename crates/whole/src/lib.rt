@@ -98,7 +98,7 @@ impl Whole {
 }
 
 // The whole number nearest to n / den, the greater of two equally near.
-pub fn rounded(n: u64, den: u64) -> u64
+fn rounded(n: u64, den: u64) -> u64
     requires { ⌜ 0 < den ⌝ }
     requires { ⌜ 2 * n + 2 * den ≤ 18_446_744_073_709_551_615 ⌝ }
     ensures { λ r. ⌜ r ≡ rounded n den ⌝ }
