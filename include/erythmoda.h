@@ -24,9 +24,9 @@ extern "C" {
  * a call changes, so that a program never meets a library with other calls than it was compiled for. MINOR grows when a
  * rule changes, so that some file or pixel is answered otherwise. */
 #define ERYTHMODA_VERSION_MAJOR 1
-#define ERYTHMODA_VERSION_MINOR 0
+#define ERYTHMODA_VERSION_MINOR 1
 #define ERYTHMODA_VERSION_PATCH 0
-#define ERYTHMODA_VERSION "1.0.0"
+#define ERYTHMODA_VERSION "1.1.0"
 
 /* What a table is, in eleven numbers:
  *
@@ -34,9 +34,14 @@ extern "C" {
  *   0         1 for a 1D table, 3 for a 3D table
  *   1         N: 2 to 65536 in 1D, 2 to 256 in 3D
  *   2, 3, 4   the lower bounds of the domain for red, green and blue, in thousandths, from -10000 to 10000
- *   5, 6, 7   the upper bounds, likewise, each above its lower bound by at most 10000; in 3D all colours have one domain
+ *   5, 6, 7   the upper bounds, likewise, each above its lower bound by at most 10000
  *   8         1 if there is a title, 0 if not
  *   9, 10     the title's first byte place in the file, counted from 0, and its length; both 0 without a title
+ *
+ * In 1D each colour has its own domain. In 3D all three have one, of any bounds, or the domains differ and all six bounds
+ * are whole numbers, that is multiples of 1000 thousandths. Domains differ if any bound does, whatever their widths: 0 to 1
+ * and 1 to 2 differ. Where 3D domains differ and one of the six bounds is no whole number, a file is refused with 12, and a
+ * description with 24.
  *
  * Samples stand in a table of 64-bit numbers, in ten-millionths, from -10000000000 to 10000000000. The numbers of row n,
  * rows counted from 0, stand at 3n (red), 3n + 1 (green) and 3n + 2 (blue). A 1D table has N rows. A 3D table has N*N*N,
@@ -94,7 +99,7 @@ static inline const char *erythmoda_words(uint32_t number) {
     case ERYTHMODA_NO_SIZE: return "there is no size";
     case ERYTHMODA_BOUNDS_NOT_IN_ORDER: return "a lower bound is not below its upper bound";
     case ERYTHMODA_DOMAIN_TOO_WIDE: return "a domain is wider than 10";
-    case ERYTHMODA_DOMAINS_DIFFER: return "a 3D table's domains differ between colours";
+    case ERYTHMODA_DOMAINS_DIFFER: return "3D with domains that differ between colours, and a bound that is no whole number";
     case ERYTHMODA_TABLE_TOO_SHORT: return "the lent table has fewer places than three for each row";
     case ERYTHMODA_TOO_MANY_ROWS: return "there are more data lines than rows";
     case ERYTHMODA_NOT_THREE_NUMBERS: return "a data line is not three numbers";
@@ -140,10 +145,16 @@ uint32_t erythmoda_check(const uint8_t *file, size_t file_len,
 /* Corrects one pixel, and shows which rows of the table made the codes, and with which weights.
  *
  * `pixel` has codes of `raw_bits`, and `codes` gets codes of `corrected_bits`; each is 8, 10, 12 or 16, and the two may
- * differ either way. Rows and weights go by the raw M alone: the weights of a colour in 1D, and of all three in 3D, add up
- * to the raw M times the domain's width in thousandths. Of weights and samples comes a colour's exact value, a fraction;
- * its code is the one from 0 to the corrected M that is nearest to the corrected M times that value, and of two equally
- * near the greater. So a value below 0 gives 0, and one above 1 the corrected M.
+ * differ either way. Rows and weights go by the raw M alone. What the weights add up to:
+ *
+ *   1D                        the two of a colour: the raw M times the width of its own domain in thousandths
+ *   3D, one domain            the four: the raw M times its width in thousandths
+ *   3D, domains that differ   the four: the raw M times the product of the three widths in whole units, so at 8 bits with
+ *                             red from 0 to 2, green and blue from 0 to 1, 255 * 2 * 1 * 1 = 510
+ *
+ * Of weights and samples comes a colour's exact value, a fraction; its code is the one from 0 to the corrected M that is
+ * nearest to the corrected M times that value, and of two equally near the greater. So a value below 0 gives 0, and one
+ * above 1 the corrected M.
  *
  * 1D: places 2c and 2c + 1 of `rows` and `weights` belong to colour c (0 red, 1 green, 2 blue). 3D: places 0 to 3 are
  * the rows met, and 4 and 5 are zero. Rows with weight 0 are shown too.

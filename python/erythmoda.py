@@ -21,7 +21,7 @@ from ctypes import POINTER, byref, c_int64, c_size_t, c_uint8, c_uint16, c_uint3
 from pathlib import Path
 from typing import NamedTuple, Optional, Tuple
 
-__version__ = "1.0.0"
+__version__ = "1.1.0"
 __all__ = ["Description", "Look", "Refused", "Table", "WORDS", "check", "read"]
 
 WORDS = {
@@ -36,7 +36,7 @@ WORDS = {
     9: "there is no size",
     10: "a lower bound is not below its upper bound",
     11: "a domain is wider than 10",
-    12: "a 3D table's domains differ between colours",
+    12: "3D with domains that differ between colours, and a bound that is no whole number",
     13: "the lent table has fewer places than three for each row",
     14: "there are more data lines than rows",
     15: "a data line is not three numbers",
@@ -67,7 +67,8 @@ class Description(NamedTuple):
     """What a file says of its table.
 
     `kind` is 1 for a 1D table and 3 for a 3D table, `domain` has for red, green and blue the lower and the upper bound in
-    thousandths, `title` is None if there is none, and `places` counts the samples: three for each row.
+    thousandths, `title` is None if there is none, and `places` counts the samples: three for each row. In 3D the three
+    domains are one, or they differ and all six bounds are whole numbers, that is multiples of 1000.
     """
 
     kind: int
@@ -82,6 +83,9 @@ class Look(NamedTuple):
 
     1D: places 2c and 2c + 1 belong to colour c (0 red, 1 green, 2 blue). 3D: places 0 to 3 are the rows met, and the last
     two are zero. Rows with weight 0 are shown too.
+
+    With M the greatest raw code, weights add up to M times the domain's width in thousandths, in 1D for each colour by its
+    own domain; in 3D, where the domains differ, to M times the product of the three widths in whole units.
     """
 
     codes: Tuple[int, ...]

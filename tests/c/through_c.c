@@ -1,6 +1,6 @@
-/* The four calls from C: document 01's 3D file is judged, read, looked at and applied, every answer is compared, and so is
- * everything lent that a call may not change; then the header's words and version. Prints what is wrong, and exits 1 if
- * anything is. */
+/* The four calls from C: document 01's 3D file is judged, read, looked at and applied, with one domain and with mixed ones,
+ * every answer is compared, and so is everything lent that a call may not change; then the header's words and version. Prints
+ * what is wrong, and exits 1 if anything is. */
 #include <stdio.h>
 #include <stdlib.h>
 #include <string.h>
@@ -11,8 +11,8 @@
 #define ROW_PLACES 24
 #define KEPT 77 /* what lent memory holds beforehand; no call writes it here */
 
-static const char CUBE[] =
-    "LUT_3D_SIZE 2\n0 0 0\n0 0 0\n0 0 0\n0 0 0\n0 0 0\n0 0 0\n0 0 0\n1 1 1\n";
+#define CUBE_LINES "LUT_3D_SIZE 2\n0 0 0\n0 0 0\n0 0 0\n0 0 0\n0 0 0\n0 0 0\n0 0 0\n1 1 1\n"
+static const char CUBE[] = CUBE_LINES;
 static const int64_t CUBE_DESCRIPTION[ERYTHMODA_DESCRIPTION_PLACES] = {3, 2, 0, 0, 0, 1000, 1000, 1000, 0, 0, 0};
 
 /* An accepted reading of CUBE, shared by the calls after it. */
@@ -106,24 +106,24 @@ static void points(void) {
     expect(line == 3, "the line of the point without a digit");
 }
 
-/* A file with one domain line without the other, read and checked: both refuse it on this line, and the table is kept. */
-static void half_a_domain(const char *file, uint64_t expected_line) {
+/* A file whose domain lines are refused, read and checked: both answer the number and this line, and the table is kept. */
+static void refused_domain(const char *file, enum erythmoda_number number, uint64_t expected_line) {
     int64_t samples[TABLE_PLACES], description[ERYTHMODA_DESCRIPTION_PLACES];
     uint64_t line = KEPT, places = KEPT;
     uint32_t answer;
     fill(samples, TABLE_PLACES, KEPT);
     fill(description, ERYTHMODA_DESCRIPTION_PLACES, KEPT);
     answer = erythmoda_read((const uint8_t *)file, strlen(file), samples, TABLE_PLACES, description, &line);
-    expect_number(answer, ERYTHMODA_HALF_A_DOMAIN, "reading half a domain");
-    expect(line == expected_line, "the line of half a domain");
-    expect(describes_nothing(description), "half a domain describes nothing");
-    expect(all_are(samples, TABLE_PLACES, KEPT), "half a domain keeps the table");
+    expect_number(answer, number, "reading a refused domain");
+    expect(line == expected_line, "the line of a refused domain");
+    expect(describes_nothing(description), "a refused domain describes nothing");
+    expect(all_are(samples, TABLE_PLACES, KEPT), "a refused domain keeps the table");
     line = KEPT;
     fill(description, ERYTHMODA_DESCRIPTION_PLACES, KEPT);
     answer = erythmoda_check((const uint8_t *)file, strlen(file), description, &line, &places);
-    expect_number(answer, ERYTHMODA_HALF_A_DOMAIN, "checking half a domain");
-    expect(line == expected_line && places == 0, "half a domain, checked, has the same line, and no places");
-    expect(describes_nothing(description), "half a domain, checked, describes nothing");
+    expect_number(answer, number, "checking a refused domain");
+    expect(line == expected_line && places == 0, "a refused domain, checked, has the same line, and no places");
+    expect(describes_nothing(description), "a refused domain, checked, describes nothing");
 }
 
 static void check_then_read(void) {
@@ -279,6 +279,41 @@ static void refused_picture(const struct colour_table *table) {
     expect_refusal(table, 8, 16, above, 3, 8, ERYTHMODA_CODE_ABOVE_M, "a picture from 8 bits to 16 with the code 256");
 }
 
+/* Document 02's head: red from 0 to 2, green and blue from 0 to 1. */
+static struct colour_table read_mixed(void) {
+    static const char mixed[] = "DOMAIN_MIN 0 0 0\nDOMAIN_MAX 2 1 1\n" CUBE_LINES;
+    static const int64_t described[ERYTHMODA_DESCRIPTION_PLACES] = {3, 2, 0, 0, 0, 2000, 1000, 1000, 0, 0, 0};
+    struct colour_table table;
+    uint64_t line = KEPT;
+    uint32_t answer;
+    fill(table.description, ERYTHMODA_DESCRIPTION_PLACES, KEPT);
+    fill(table.samples, TABLE_PLACES, KEPT);
+    answer = erythmoda_read((const uint8_t *)mixed, sizeof mixed - 1, table.samples, TABLE_PLACES, table.description, &line);
+    expect_number(answer, ERYTHMODA_ACCEPTED, "reading mixed domains");
+    expect(line == 0 && memcmp(table.description, described, sizeof described) == 0, "the description of mixed domains");
+    return table;
+}
+
+/* The weights add up to 255 * 2 * 1 * 1 = 510. A red code counts once in it and the others twice, and the least of the three is
+ * what the table gives: 51 of 51, 204 and 408, and 255 of 255, 510 and 510. */
+static void mixed_domains(void) {
+    static const uint16_t pixel[3] = {51, 102, 204}, two[6] = {51, 102, 204, 255, 255, 255};
+    static const struct looked zeros = {{0, 0, 0}, {0, 0, 0, 0, 0, 0}, {0, 0, 0, 0, 0, 0}};
+    static const struct looked from_8_to_8 = {{26, 26, 26}, {0, 4, 6, 7, 0, 0}, {102, 204, 153, 51, 0, 0}};
+    static const struct looked from_8_to_16 = {{6554, 6554, 6554}, {0, 4, 6, 7, 0, 0}, {102, 204, 153, 51, 0, 0}};
+    static const struct looked one_domain = {{51, 51, 51}, {0, 4, 6, 7, 0, 0}, {51255, 102000, 51000, 51000, 0, 0}};
+    static const uint16_t corrected[OUTPUT_PLACES] = {26, 26, 26, 128, 128, 128, KEPT, KEPT};
+    struct colour_table table = read_mixed();
+    expect_look(&table, 8, 8, pixel, ERYTHMODA_ACCEPTED, &from_8_to_8, "looking through mixed domains");
+    expect_look(&table, 8, 16, pixel, ERYTHMODA_ACCEPTED, &from_8_to_16, "looking through mixed domains from 8 bits to 16");
+    expect_picture(&table, 8, 8, two, 6, 8, ERYTHMODA_ACCEPTED, corrected, "a picture through mixed domains");
+    table.description[7] = 1001;
+    expect_look(&table, 8, 8, pixel, ERYTHMODA_COULD_NOT_BE_READ, &zeros, "looking through a bound that is no whole number");
+    expect_refusal(&table, 8, 8, two, 6, 8, ERYTHMODA_COULD_NOT_BE_READ, "a picture through a bound that is no whole number");
+    table.description[5] = table.description[6] = 1001;
+    expect_look(&table, 8, 8, pixel, ERYTHMODA_ACCEPTED, &one_domain, "looking through one domain that is not whole");
+}
+
 /* A table with fewer places than its rows need. */
 static void short_table(const struct colour_table *table) {
     static const uint16_t src[3] = {51, 102, 204};
@@ -313,14 +348,17 @@ int main(void) {
     memcpy(&before, &table, sizeof table);
     refused_reading();
     points();
-    half_a_domain("DOMAIN_MIN -1 -1 -1\nLUT_1D_SIZE 2\n0 0 0\n1 1 1\n", 3);
-    half_a_domain("LUT_1D_SIZE 2\nDOMAIN_MAX 2 2 2", 2);
+    refused_domain("DOMAIN_MIN -1 -1 -1\nLUT_1D_SIZE 2\n0 0 0\n1 1 1\n", ERYTHMODA_HALF_A_DOMAIN, 3);
+    refused_domain("LUT_1D_SIZE 2\nDOMAIN_MAX 2 2 2", ERYTHMODA_HALF_A_DOMAIN, 2);
+    refused_domain("DOMAIN_MIN 0 0 0\nDOMAIN_MAX 2 1 1.5\n" CUBE_LINES, ERYTHMODA_DOMAINS_DIFFER, 4);
+    refused_domain("LUT_3D_SIZE 2\nDOMAIN_MIN 0 0.5 0\nDOMAIN_MAX 1 1.5 1\n", ERYTHMODA_DOMAINS_DIFFER, 4);
     check_then_read();
     refused_check();
     look(&table);
     refused_look(&table);
     picture(&table);
     refused_picture(&table);
+    mixed_domains();
     short_table(&table);
     expect(memcmp(&before, &table, sizeof table) == 0, "look and picture change neither description nor table");
     words();

@@ -3,7 +3,7 @@
 use crate::print;
 use erythmoda::erythmoda_check;
 
-fn show(name: &[u8], file: &[u8]) {
+pub(crate) fn show(name: &[u8], file: &[u8]) {
     let mut description = [7i64; 11];
     let mut line = 7u64;
     let mut places = 7u64;

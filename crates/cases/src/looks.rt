@@ -1,4 +1,4 @@
-// Pixels looked at: the number, three codes, six rows and six weights, all of which held what is no answer. 1D, N = 2, all colours alike.
+// Pixels looked at: the number, three codes, six rows and six weights, all of which held what is no answer.
 use crate::print;
 use erythmoda::erythmoda_look;
 
@@ -19,27 +19,24 @@ fn show_weights(weights: &[i64; 6]) {
     print::numbers(weights);
 }
 
-// The depths, a domain in thousandths, and a table that goes from 0 to `last`.
-fn show(
+// What a look answers.
+pub(crate) fn looked(
     name: &[u8],
+    description: &[i64; 11],
+    table: &[i64],
     raw_bits: u32,
     corrected_bits: u32,
-    lower: i64,
-    upper: i64,
-    last: i64,
-    code: u16,
+    pixel: &[u16; 3],
 ) {
-    let description = [1, 2, lower, lower, lower, upper, upper, upper, 0, 0, 0];
-    let table = [0, 0, 0, last, last, last];
     let mut codes = [777u16; 3];
     let mut rows = [777u32; 6];
     let mut weights = [-7i64; 6];
     let number = erythmoda_look(
-        &description,
-        &table,
+        description,
+        table,
         raw_bits,
         corrected_bits,
-        &[code, code, code],
+        pixel,
         &mut codes,
         &mut rows,
         &mut weights,
@@ -50,6 +47,26 @@ fn show(
     show_rows(&rows);
     show_weights(&weights);
     print::raw(b"\n");
+}
+
+// 1D, N = 2, all colours alike: the depths, a domain in thousandths, and a table that goes from 0 to `last`.
+fn show(
+    name: &[u8],
+    raw_bits: u32,
+    corrected_bits: u32,
+    lower: i64,
+    upper: i64,
+    last: i64,
+    code: u16,
+) {
+    looked(
+        name,
+        &[1, 2, lower, lower, lower, upper, upper, upper, 0, 0, 0],
+        &[0, 0, 0, last, last, last],
+        raw_bits,
+        corrected_bits,
+        &[code, code, code],
+    );
 }
 
 fn one_depth() {

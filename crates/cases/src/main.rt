@@ -4,6 +4,7 @@
 mod checks;
 mod longest;
 mod looks;
+mod mixed;
 mod pictures;
 mod print;
 mod reads;
@@ -18,4 +19,5 @@ fn main() {
     looks::run();
     pictures::run();
     checks::run();
+    mixed::run();
 }

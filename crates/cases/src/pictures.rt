@@ -1,47 +1,38 @@
-// Pictures through document 01's 3D file: the number, and every place of an output that held 7s.
+// Pictures: the number, and every place of an output that held 7s.
 use crate::print;
 use erythmoda::erythmoda_picture;
 
-fn into(name: &[u8], raw_bits: u32, corrected_bits: u32, src: &[u16], dst: &mut [u16]) {
-    let description = [3, 2, 0, 0, 0, 1000, 1000, 1000, 0, 0, 0];
-    let table = [
-        0,
-        0,
-        0,
-        0,
-        0,
-        0,
-        0,
-        0,
-        0,
-        0,
-        0,
-        0,
-        0,
-        0,
-        0,
-        0,
-        0,
-        0,
-        0,
-        0,
-        0,
-        10_000_000,
-        10_000_000,
-        10_000_000,
-    ];
-    let number = erythmoda_picture(
-        &description,
-        &table,
-        raw_bits,
-        corrected_bits,
-        src,
-        &mut *dst,
-    );
+pub(crate) fn through(
+    name: &[u8],
+    description: &[i64; 11],
+    table: &[i64],
+    raw_bits: u32,
+    corrected_bits: u32,
+    src: &[u16],
+    dst: &mut [u16],
+) {
+    let number = erythmoda_picture(description, table, raw_bits, corrected_bits, src, &mut *dst);
     print::raw(name);
     print::count(number as u64);
     print::codes(dst);
     print::raw(b"\n");
+}
+
+// Through document 01's 3D file.
+fn into(name: &[u8], raw_bits: u32, corrected_bits: u32, src: &[u16], dst: &mut [u16]) {
+    let mut table = [0i64; 24];
+    table[21] = 10_000_000;
+    table[22] = 10_000_000;
+    table[23] = 10_000_000;
+    through(
+        name,
+        &[3, 2, 0, 0, 0, 1000, 1000, 1000, 0, 0, 0],
+        &table,
+        raw_bits,
+        corrected_bits,
+        src,
+        dst,
+    );
 }
 
 fn one_depth() {

@@ -14,7 +14,7 @@ pub(crate) fn answered(name: &[u8], file: &[u8], table: &mut [i64]) {
     print::description(&description);
 }
 
-fn into(name: &[u8], file: &[u8], table: &mut [i64]) {
+pub(crate) fn into(name: &[u8], file: &[u8], table: &mut [i64]) {
     answered(name, file, &mut *table);
     print::numbers(table);
     print::raw(b"\n");

@@ -1,12 +1,18 @@
--- The place of a code on an axis lies within one of its cells, and is the rule's where the axis is that of a domain.
-use Prim.Native.Nat.{ℕ, suc, _-_, _*_, _/_, _≤_, _<_, min}
-use mathlib.Core.Path.{_≡_}
+-- The place of a code on an axis lies within one of its cells, and is the rule's where the axis is that of a domain and a span.
+use Prim.Native.Nat.{ℕ, zero, suc, _-_, _*_, _/_, _≤_, _<_, min}
+use mathlib.Core.Path.{_≡_, refl, sym, ap, _∙_}
 use native.Mathlib.Nat as NatL
 use native.Mathlib.Decide.{decLe}
 use native.Mathlib.Omega.{arith}
-use Rattle.rules.specs.Looking.Interpolation.{index, fraction, position, offset}
+use lib.IntN.{ℤ, pos, negsuc, negℤ, _*ℤ_}
+use lib.Signed.{quotZ}
+use Rattle.rules.specs.Units.{boundOne}
+use Rattle.rules.specs.Descriptions.{width}
+use Rattle.rules.specs.Looking.Interpolation.{den, index, fraction, brought}
 use Rattle.rules.specs.declared.Domain.{Domain}
-use Rattle.colour.specs.Plans.{axisOf}
+use Rattle.rules.proofs.Looking.Spans.{InParts}
+use Rattle.rules.proofs.Looking.Brought.{offsetIn, index-in, fraction-in}
+use Rattle.colour.specs.Plans.{eachOf, lowOf, axisOf}
 use Rattle.colour.specs.Places.{AxisFits, CellsFit, placeOf}
 use Rattle.colour.specs.declared.place.Place.{Place}
 use Rattle.colour.specs.declared.plan.Axis.{Axis}
@@ -33,7 +39,35 @@ place-fits {axis} {cells} a n code =
       part = rest-most _ (axis .den) (cells - 1) (a .wide) (rw whole (NatL.mul-le-mul-right cells (NatL.min-le-left (axis .den) _)));
     }
 
-pub place-is : (dom : Domain) (m q n step c : ℕ)
-    → placeOf (axisOf dom m q step) (n - 1) c ≡ record { index = index m dom n c; fraction = fraction m dom n c }
-unfolding placeOf index fraction position offset
-place-is dom m q n step c = let two : n - 1 - 1 ≡ n - 2 = omega arith in rw two
+-- ---- the parts of a domain, by the formulas of the plan
+
+quot-negative : (n k : ℕ) → quotZ (negℤ (pos n)) (pos k) ≡ negℤ (pos (n / k))
+quot-negative zero k = rw (NatL.zero-div k)
+quot-negative (suc n) k = refl
+
+quot-times : (k : ℕ) (z : ℤ) → 0 < k → quotZ (pos k *ℤ z) (pos k) ≡ z
+quot-times k (pos a) h = ap pos (NatL.mul-div-cancel-left a h)
+quot-times k (negsuc a) h = quot-negative (k * suc a) k ∙ ap (λ x. negℤ (pos x)) (NatL.mul-div-cancel-left (suc a) h)
+
+module _ (dom : Domain) (s : ℕ) (parts : InParts dom s) (wide : 0 < width dom) where
+  each-is : eachOf dom s ≡ parts .each
+  each-is = NatL.div-eq-of-eq-mul-left wide (sym (parts .units-so))
+
+  low-is : lowOf dom s ≡ parts .low
+  low-is =
+      ap (λ x. quotZ (pos x *ℤ dom .lower .0) (pos boundOne)) each-is
+      ∙ ap (λ z. quotZ z (pos boundOne)) (sym (parts .lower-so))
+      ∙ quot-times boundOne (parts .low) (omega arith)
+
+  module _ (m q n step c : ℕ) (some : 0 < s) (deep : 0 < m) (least : 2 ≤ n) where
+    own : 0 < den m dom
+    own = NatL.mul-pos deep wide
+
+    pub place-is : placeOf (axisOf dom s m q step) (n - 1) c ≡ record { index = index m dom n c; fraction = brought (den m dom) (m * s) (fraction m dom n c) }
+    unfolding placeOf
+    place-is =
+        let two : n - 1 - 1 ≡ n - 2 = omega arith in
+        let i = index-in dom s parts m own n c wide some in
+        let f = fraction-in dom s parts m own n c least in
+        rw (low-is, each-is, two)
+        (λ j. record { index = sym i j; fraction = (ap (λ k. offsetIn dom s parts m c * (n - 1) - k * (m * s)) (sym i) ∙ sym f) j })

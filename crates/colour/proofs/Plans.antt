@@ -6,11 +6,12 @@ use mathlib.Core.Bool.{true}
 use mathlib.Core.List.{List}
 use native.Mathlib.Nat as NatL
 use native.Mathlib.Omega.{arith}
-use lib.IntN.{ℤ, natAbs}
+use lib.IntN.{ℤ, pos, natAbs, _*ℤ_}
 use Rattle.whole.proofs.Halves.{product-abs}
-use Rattle.rules.specs.Units.{depthsOf, rawM, correctedM, sampleOne, sampleLimit, rowsOf, rowLimit, rowAt, stride}
-use Rattle.rules.specs.Descriptions.{rows, domain, width, couldBeRead, Sound, DomainFits}
-use Rattle.rules.specs.Looking.Interpolation.{den, denominator, denOf, positionOf, indexOf, fractionOf, rgb, climb, pathBy, pair, path, pairAt, codeBy}
+use Rattle.whole.proofs.Held.{quot-size}
+use Rattle.rules.specs.Units.{depthsOf, rawM, correctedM, sampleOne, sampleLimit, boundOne, boundLimit, widthLimit, rowsOf, rowLimit, rowAt, stride}
+use Rattle.rules.specs.Descriptions.{rows, domain, width, span, couldBeRead, Sound, DomainFits}
+use Rattle.rules.specs.Looking.Interpolation.{denominator, denOf, indexAt, fractionAt, positionOf, indexOf, fractionOf, rgb, climb, pathBy, pair, path, pairAt, codeBy}
 use Rattle.rules.specs.Looking.{six, shown, lineCode}
 use Rattle.rules.specs.Looking.Readings.{Reading}
 use Rattle.rules.specs.declared.Bits.{Bits}
@@ -26,12 +27,13 @@ use Rattle.rules.specs.declared.Kind.the-variants.{OneD, ThreeD}
 use Rattle.rules.specs.declared.Shares.{Shares}
 use Rattle.rules.proofs.KnownDepths.{depths-bounds}
 use Rattle.rules.proofs.Sound.{sound-of, wide-enough, rows-most, greatest-most}
+use Rattle.rules.proofs.Looking.Spans.{span-some, span-most, in-parts}
 use Rattle.rules.proofs.Looking.Demand3 as D3
 use Rattle.rules.proofs.Looking.RowsAndWeights.{path-rows}
-use Rattle.colour.specs.Limits.{denLimit}
+use Rattle.colour.specs.Limits.{denLimit, eachLimit}
 use Rattle.colour.specs.Ratios.{ratioOf}
-use Rattle.colour.specs.Plans.{axisOf, planOf, axisIn, rowsIn, Readable, Planned}
-use Rattle.colour.specs.Places.{AxisFits, CellsFit, pairOf, stepOf, stepsOf, StepsFit, pathBySteps, shownBy}
+use Rattle.colour.specs.Plans.{eachOf, lowOf, axisOf, planOf, axisIn, rowsIn, Readable, Planned}
+use Rattle.colour.specs.Places.{AxisFits, CellsFit, placeOf, pairOf, stepOf, stepsOf, StepsFit, pathBySteps, shownBy}
 use Rattle.colour.specs.Adding.{Codable, Coded}
 use Rattle.colour.specs.declared.plan.Plan.{Plan}
 use Rattle.colour.specs.declared.shares.Steps.{Steps}
@@ -47,12 +49,20 @@ sound d r = sound-of d (r .0) (r .1)
 pub n-most : {d : Description} {table : List ℤ} → Sound d table → d .n ≤ 65536
 n-most {d} s = NatL.le-trans (s .most) (greatest-most (d .kind))
 
-module _ (dom : Domain) (fits : DomainFits dom) (m : ℕ) (most : m ≤ 65535) where
-  pub den-most : den m dom ≤ denLimit
-  den-most = NatL.mul-le-mul {n₂ = 65535} {m₂ = 10_000} most (fits .narrow)
+-- the parts of a span
+module _ (dom : Domain) (fits : DomainFits dom) (s : ℕ) (narrow : s ≤ widthLimit) where
+  pub each-most : eachOf dom s ≤ eachLimit
+  each-most = NatL.le-trans (NatL.div-le-self (boundOne * s) (width dom)) (omega arith)
 
-  pub low-most : natAbs (axisOf dom m 0 0 .low .0) ≤ denLimit
-  low-most = rw product-abs (NatL.mul-le-mul {n₂ = 65535} {m₂ = 10_000} most (fits .low))
+  pub low-most : natAbs (lowOf dom s) ≤ 100_000_000
+  low-most =
+      let z = pos (eachOf dom s) *ℤ dom .lower .0 in
+      rw (quot-size z boundOne, product-abs)
+      (NatL.div-le-of-le-mul boundOne {n = 100_000_000} (NatL.mul-le-mul {n₂ = eachLimit} {m₂ = boundLimit} each-most (fits .low)))
+
+-- what is at most the widest domain, times M
+pub den-most : (m s : ℕ) → m ≤ 65535 → s ≤ widthLimit → m * s ≤ denLimit
+den-most m s most narrow = NatL.mul-le-mul {n₂ = 65535} {m₂ = widthLimit} most narrow
 
 -- M times a bound or a sample
 pub times-m-most : (m : ℕ) (z : ℤ) → m < 65536 → natAbs z ≤ sampleLimit → m * natAbs z ≤ 65535 * sampleLimit
@@ -78,23 +88,32 @@ planned d bits {depths = depths} could known is =
 -- ---- the axes of a plan
 
 -- what a plan says by its definition
-module _ (d : Description) (depths : Depths) where
-  pub axis-of : (c : Colour) → axisIn (planOf d depths) c ≡ axisOf (domain d c) (rawM depths) (ratioOf depths .bottom) (stride (d .n) c)
-  axis-of Red = refl
-  axis-of Green = refl
-  axis-of Blue = refl
+pub axis-of : (d : Description) (depths : Depths) (c : Colour)
+    → axisIn (planOf d depths) c ≡ axisOf (domain d c) (span d c) (rawM depths) (ratioOf depths .bottom) (stride (d .n) c)
+axis-of d depths Red = refl
+axis-of d depths Green = refl
+axis-of d depths Blue = refl
 
-  pairs-of : (c : Colour) (code : ℕ) → pairOf (axisIn (planOf d depths) c) (d .n - 1) code ≡ pairAt d (rawM depths) c code
+-- and that its places are those of the rule
+module _ (d : Description) {table : List ℤ} (good : Sound d table) (depths : Depths) (deep : 0 < rawM depths) where
+  abbrev raw : ℕ
+  raw = rawM depths
+
+  place-at : (c : Colour) (code : ℕ) → placeOf (axisIn (planOf d depths) c) (d .n - 1) code ≡ record { index = indexAt d raw c code; fraction = fractionAt d raw c code }
+  place-at c code =
+      ap (λ x. placeOf x (d .n - 1) code) (axis-of d depths c)
+      ∙ place-is (domain d c) (span d c) (in-parts d good c) (wide-enough (good .domains c)) raw (ratioOf depths .bottom) (d .n) (stride (d .n) c) code
+      (span-some d good c) deep (good .least)
+
+  pairs-of : (c : Colour) (code : ℕ) → pairOf (axisIn (planOf d depths) c) (d .n - 1) code ≡ pairAt d raw c code
   unfolding pairOf
-  pairs-of c code = rw (axis-of c, place-is)
+  pairs-of c code = rw (place-at c code, axis-of d depths c)
 
-  shown-of : (pixel : Codes) (k : Kind) → shownBy (planOf d depths) pixel k ≡ shown d (rawM depths) pixel k
+  shown-of : (pixel : Codes) (k : Kind) → shownBy (planOf d depths) pixel k ≡ shown d raw pixel k
   unfolding shownBy shown pair path pathBySteps stepsOf stepOf
   shown-of pixel OneD = rw (pairs-of Red (pixel .red), pairs-of Green (pixel .green), pairs-of Blue (pixel .blue))
   shown-of pixel ThreeD =
-      let m = rawM depths in
-      let q = ratioOf depths .bottom in
-      rw (place-is (d .red) m q (d .n) 1 (pixel .red), place-is (d .green) m q (d .n) (d .n) (pixel .green), place-is (d .blue) m q (d .n) (d .n * d .n) (pixel .blue), along-path (d .n) (denOf d m Red) (indexOf d m pixel) (fractionOf d m pixel))
+      rw (place-at Red (pixel .red), place-at Green (pixel .green), place-at Blue (pixel .blue), along-path (d .n) (denOf d raw Red) (indexOf d raw pixel) (fractionOf d raw pixel))
 
 module _ {plan : Plan} {table : List ℤ} (p : Planned plan table) where
   abbrev d : Description
@@ -117,7 +136,7 @@ module _ {plan : Plan} {table : List ℤ} (p : Planned plan table) where
   pub rows-are : rowsIn plan ≡ rows d
   rows-are = let n : suc (d .n - 1) ≡ d .n = omega (arith, could-sound .least) in ap rowsIn (p .is) ∙ ap (rowsOf (d .kind)) n
 
-  pub axis-is : (c : Colour) → axisIn plan c ≡ axisOf (domain d c) m q (stride (d .n) c)
+  pub axis-is : (c : Colour) → axisIn plan c ≡ axisOf (domain d c) (span d c) m q (stride (d .n) c)
   axis-is c = ap (λ x. axisIn x c) (p .is) ∙ axis-of d (p .depths) c
 
   pub den-is : (c : Colour) → axisIn plan c .den ≡ denOf d m c
@@ -125,7 +144,7 @@ module _ {plan : Plan} {table : List ℤ} (p : Planned plan table) where
 
   -- 3D has one D
   pub one-den : plan .kind ≡ ThreeD → (c : Colour) → plan .red .den ≡ axisIn plan c .den
-  one-den e c = den-is Red ∙ D3.one-den d table m (p .could) (sym kind-is ∙ e) Red c ∙ sym (den-is c)
+  one-den e c = den-is Red ∙ D3.one-den d m (sym kind-is ∙ e) Red c ∙ sym (den-is c)
 
   pub cells-fit : CellsFit (plan .cells)
   cells-fit = rw (p .is) (record { some = omega (arith, could-sound .least); most = omega (arith, n-most could-sound) })
@@ -133,16 +152,20 @@ module _ {plan : Plan} {table : List ℤ} (p : Planned plan table) where
   pub axis-fits : (c : Colour) → AxisFits (axisIn plan c)
   axis-fits c =
       let fits = could-sound .domains c in
+      let narrow = span-most d could-sound c in
       rw (axis-is c)
-      (record { low = low-most (domain d c) fits m (p .most); wide = NatL.mul-pos (p .deep) (wide-enough fits); most = den-most (domain d c) fits m (p .most) })
+      (record {
+        each = each-most (domain d c) fits (span d c) narrow;
+        low = rw product-abs (NatL.mul-le-mul {n₂ = 65535} {m₂ = 100_000_000} (p .most) (low-most (domain d c) fits (span d c) narrow));
+        wide = NatL.mul-pos (p .deep) (span-some d could-sound c);
+        most = den-most m (span d c) (p .most) narrow;
+      })
 
   pub codable : Coded plan (correctedM (p .depths))
   codable c =
-      let fits = could-sound .domains c in
-      let w = width (domain d c) in
-      let u = w * sampleOne in
-      let over : denominator (den m (domain d c)) ≡ m * u = NatL.mul-assoc m w sampleOne in
-      let some : 0 < u = omega (arith, wide-enough fits) in
+      let u = span d c * sampleOne in
+      let over : denominator (denOf d m c) ≡ m * u = NatL.mul-assoc m (span d c) sampleOne in
+      let some : 0 < u = omega (arith, span-some d could-sound c) in
       subst (λ x. Codable (x .times) (axisIn x c) (correctedM (p .depths))) (sym (p .is))
       (rw (axis-of d (p .depths) c)
       (record {
@@ -150,22 +173,22 @@ module _ {plan : Plan} {table : List ℤ} (p : Planned plan table) where
         wide = subst (λ x. 0 < x) (sym over) (NatL.mul-pos (p .deep) some);
         in-terms = ap (λ x. ratioOf (p .depths) .top * x) over ∙ crossed (p .in-terms) u;
         divisor = refl;
-        fits = subst (λ x. 2 * (ratioOf (p .depths) .top * x) + q * u < 4_611_686_018_427_387_904) (sym over) (all-fits (p .in-terms) u (omega (arith, fits .narrow)));
-        least = omega (arith, NatL.mul-le-mul-right u (p .in-terms .some), wide-enough fits);
+        fits = subst (λ x. 2 * (ratioOf (p .depths) .top * x) + q * u < 4_611_686_018_427_387_904) (sym over) (all-fits (p .in-terms) u (omega (arith, span-most d could-sound c)));
+        least = omega (arith, NatL.mul-le-mul-right u (p .in-terms .some), span-some d could-sound c);
         deepest = p .corrected-most;
       }))
 
   -- ---- its rows and weights
 
   pub shown-is : (pixel : Codes) {k : Kind} → plan .kind ≡ k → shownBy plan pixel k ≡ shown d m pixel (d .kind)
-  shown-is pixel {k} e = ap (λ x. shownBy x pixel k) (p .is) ∙ shown-of d (p .depths) pixel k ∙ ap (shown d m pixel) (sym e ∙ kind-is)
+  shown-is pixel {k} e = ap (λ x. shownBy x pixel k) (p .is) ∙ shown-of d could-sound (p .depths) (p .deep) pixel k ∙ ap (shown d m pixel) (sym e ∙ kind-is)
 
   -- 1D: a colour's code of its own code, by its axis alone
   pub line-code : (c : Colour) (code : ℕ)
       → codeBy (correctedM (p .depths)) (axisIn plan c .den) table c (pairOf (axisIn plan c) (plan .cells) code) ≡ lineCode d table (p .depths) c code
   line-code c code =
       ap (λ x. codeBy (correctedM (p .depths)) (axisIn x c .den) table c (pairOf (axisIn x c) (x .cells) code)) (p .is)
-      ∙ rw (pairs-of d (p .depths) c code, axis-of d (p .depths) c)
+      ∙ rw (pairs-of d could-sound (p .depths) (p .deep) c code, axis-of d (p .depths) c)
 
   -- 3D: the path of the pixel's steps
   pub path-shown : (pixel : Codes) {steps : Steps} {r : Shares} → steps ≡ stepsOf plan pixel → r ≡ six (pathBySteps steps) → r ≡ shownBy plan pixel ThreeD
@@ -188,11 +211,14 @@ module _ {plan : Plan} {table : List ℤ} (p : Planned plan table) where
     end-most = let i = indexOf d m pixel in omega (arith, path-rows (d .n) 0 i i rgb (λ k. reads k .cell) .1 .1 .1 .0, cube-most)
 
     part : (c : Colour) → fractionOf d m pixel c ≤ denOf d m Red
-    part c = omega (arith, reads c .part, D3.one-den d table m (p .could) three-d c Red)
+    part c = omega (arith, reads c .part, D3.one-den d m three-d c Red)
+
+    placed : (c : Colour) (code : ℕ) → placeOf (axisIn (planOf d (p .depths)) c) (d .n - 1) code ≡ record { index = indexAt d m c code; fraction = fractionAt d m c code }
+    placed = place-at d could-sound (p .depths) (p .deep)
 
     pub steps-fit : StepsFit (stepsOf plan pixel)
     unfolding stepsOf stepOf
     steps-fit =
         subst (λ x. StepsFit (stepsOf x pixel)) (sym (p .is))
-        (rw (place-is (d .red) m q (d .n) 1 (pixel .red), place-is (d .green) m q (d .n) (d .n) (pixel .green), place-is (d .blue) m q (d .n) (d .n * d .n) (pixel .blue))
-        (record { end = end-most; most = den-most (d .red) (could-sound .domains Red) m (p .most); red = part Red; green = part Green; blue = part Blue }))
+        (rw (placed Red (pixel .red), placed Green (pixel .green), placed Blue (pixel .blue))
+        (record { end = end-most; most = den-most m (span d Red) (p .most) (span-most d could-sound Red); red = part Red; green = part Green; blue = part Blue }))

@@ -3,7 +3,7 @@ use Prim.Native.Nat.{ℕ, _+_, _-_, _*_, _/_, _≤_, _<_, min}
 use mathlib.Core.List.{List, [], _∷_, _++_}
 use lib.IntN.{pos, natAbs, _-ℤ_}
 use Rattle.whole.specs.Integers.{up}
-use Rattle.rules.specs.Units.{boundOne, rowLimit}
+use Rattle.rules.specs.Units.{rowLimit}
 use Rattle.rules.specs.Looking.Interpolation.{pairBy, 1st, 2nd, 3rd, order, climb}
 use Rattle.rules.specs.Looking.{six}
 use Rattle.rules.specs.declared.Codes.{Codes}
@@ -13,7 +13,7 @@ use Rattle.rules.specs.declared.Kind.{Kind}
 use Rattle.rules.specs.declared.Kind.the-variants.{OneD, ThreeD}
 use Rattle.rules.specs.declared.Share.{Share}
 use Rattle.rules.specs.declared.Shares.{Shares}
-use Rattle.colour.specs.Limits.{denLimit}
+use Rattle.colour.specs.Limits.{eachLimit, lowLimit, denLimit}
 use Rattle.colour.specs.declared.place.Place.{Place}
 use Rattle.colour.specs.declared.plan.Axis.{Axis}
 use Rattle.colour.specs.declared.plan.Plan.{Plan}
@@ -25,7 +25,8 @@ use Rattle.colour.specs.declared.shares.Steps.{Steps}
 
 -- how great the numbers of an axis are
 pub record AxisFits (axis : Axis) : Type 0 where
-  pub low : natAbs (axis .low .0) ≤ denLimit
+  pub each : axis .each ≤ eachLimit
+  pub low : natAbs (axis .low .0) ≤ lowLimit
   pub wide : 0 < axis .den
   pub most : axis .den ≤ denLimit
 
@@ -34,10 +35,10 @@ pub record CellsFit (cells : ℕ) : Type 0 where
   pub some : 0 < cells
   pub most : cells ≤ 65535
 
--- a, p, i and f of the rule, with lo·M, D and N − 1 as the plan keeps them
+-- a, p, i and f of the rule, with D, N − 1 and the parts of the span as the plan keeps them
 unfoldable pub placeOf : Axis → ℕ → ℕ → Place
 placeOf axis cells c =
-    let p = min (axis .den) (up (pos (boundOne * c) -ℤ axis .low .0)) * cells in
+    let p = min (axis .den) (up (pos (axis .each * c) -ℤ axis .low .0)) * cells in
     let i = min (p / axis .den) (cells - 1) in
     record { index = i; fraction = p - i * axis .den }
 

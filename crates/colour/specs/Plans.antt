@@ -1,13 +1,14 @@
 -- A plan: what of a description and the depths is the same for every pixel.
-use Prim.Native.Nat.{ℕ, suc, _-_, _*_, _≤_, _<_}
+use Prim.Native.Nat.{ℕ, suc, _-_, _*_, _/_, _≤_, _<_}
 use mathlib.Core.Path.{_≡_}
 use mathlib.Core.Bool.{true}
 use mathlib.Core.List.{List}
 use lib.IntN.{ℤ, pos, _*ℤ_}
+use lib.Signed.{quotZ}
 use Rattle.whole.specs.Reciprocals.{divisorOf}
-use Rattle.rules.specs.Units.{sampleOne, rawM, correctedM, rowsOf, stride}
-use Rattle.rules.specs.Descriptions.{width, couldBeRead}
-use Rattle.rules.specs.Looking.Interpolation.{den, denominator}
+use Rattle.rules.specs.Units.{sampleOne, boundOne, rawM, correctedM, rowsOf, stride}
+use Rattle.rules.specs.Descriptions.{width, span, couldBeRead}
+use Rattle.rules.specs.Looking.Interpolation.{denominator}
 use Rattle.rules.specs.declared.Colour.{Colour}
 use Rattle.rules.specs.declared.Colour.the-variants.{Red, Green, Blue}
 use Rattle.rules.specs.declared.Depths.{Depths}
@@ -19,14 +20,24 @@ use Rattle.colour.specs.declared.plan.Plan.{Plan}
 
 -- ---- what is kept
 
--- of a domain, at the M of raw codes: lo·M, D, D·10,000,000 and, with q of p / q, q·w·10,000,000 and its double; one index up along the axis is so many rows up
-abbrev pub axisOf : Domain → ℕ → ℕ → ℕ → Axis
-axisOf dom m q step = record {
-  low = record { 0 = pos m *ℤ dom .lower .0 };
-  den = den m dom;
-  full = denominator (den m dom);
-  unit = q * (width dom * sampleOne);
-  divisor = divisorOf (2 * (q * (width dom * sampleOne)));
+-- one unit of a domain is so many parts of a span s
+abbrev pub eachOf : Domain → ℕ → ℕ
+eachOf dom s = boundOne * s / width dom
+
+-- and its lower bound lies at so many
+abbrev pub lowOf : Domain → ℕ → ℤ
+lowOf dom s = quotZ (pos (eachOf dom s) *ℤ dom .lower .0) (pos boundOne)
+
+-- of a domain and a span, at the M of raw codes: these parts, D, D·10,000,000 and, with q of p / q, q·s·10,000,000 and its double; one index up along the axis
+-- is so many rows up
+abbrev pub axisOf : Domain → ℕ → ℕ → ℕ → ℕ → Axis
+axisOf dom s m q step = record {
+  each = eachOf dom s;
+  low = record { 0 = pos m *ℤ lowOf dom s };
+  den = m * s;
+  full = denominator (m * s);
+  unit = q * (s * sampleOne);
+  divisor = divisorOf (2 * (q * (s * sampleOne)));
   stride = step;
 }
 
@@ -34,9 +45,9 @@ abbrev pub planOf : Description → Depths → Plan
 planOf d depths = record {
   kind = d .kind;
   cells = d .n - 1;
-  red = axisOf (d .red) (rawM depths) (ratioOf depths .bottom) (stride (d .n) Red);
-  green = axisOf (d .green) (rawM depths) (ratioOf depths .bottom) (stride (d .n) Green);
-  blue = axisOf (d .blue) (rawM depths) (ratioOf depths .bottom) (stride (d .n) Blue);
+  red = axisOf (d .red) (span d Red) (rawM depths) (ratioOf depths .bottom) (stride (d .n) Red);
+  green = axisOf (d .green) (span d Green) (rawM depths) (ratioOf depths .bottom) (stride (d .n) Green);
+  blue = axisOf (d .blue) (span d Blue) (rawM depths) (ratioOf depths .bottom) (stride (d .n) Blue);
   times = ratioOf depths .top;
 }
 

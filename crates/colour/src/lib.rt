@@ -37,6 +37,7 @@ mod plan;
 mod ratio;
 mod rows;
 mod shares;
+mod span;
 mod sums;
 
 // The first half: the rows and weights of a pixel, two for each colour in 1D, four for the pixel in 3D.

@@ -1,14 +1,12 @@
 // Where a code stands between two rows (document 01, "Interpolation").
 use crate::plan::Axis;
-use rules::Thousandths;
 use whole::Whole;
 use whole::lesser;
 ghost use mathlib.Core.Path.{_≡_};
 ghost use Prim.Native.Nat.{_*_, _≤_};
 ghost use lib.IntN.{pos, natAbs, _-ℤ_};
 ghost use Rattle.whole.specs.Integers.{up};
-ghost use Rattle.rules.specs.Units.{boundOne};
-ghost use Rattle.colour.specs.Limits.{denLimit};
+ghost use Rattle.colour.specs.Limits.{eachLimit, lowLimit};
 ghost use Rattle.colour.specs.Places.{AxisFits, CellsFit, placeOf};
 
 // The index i and the fraction f of one colour's code.
@@ -17,13 +15,14 @@ pub struct Place {
     pub fraction: u64,
 }
 
-// 1000·c − lo·M, moved to 0 if less.
-fn above_lower(low: Whole, code: u16) -> u64
-    requires { ⌜ natAbs (low .0) ≤ denLimit ⌝ }
-    ensures { λ r. ⌜ r ≡ up (pos (boundOne * code) -ℤ low .0) ⌝ }
+// 1000·c − lo·M, in thousandths or as many parts of a span as a unit has; moved to 0 if less.
+fn above_lower(each: u64, low: Whole, code: u16) -> u64
+    requires { ⌜ each ≤ eachLimit ⌝ }
+    requires { ⌜ natAbs (low .0) ≤ lowLimit ⌝ }
+    ensures { λ r. ⌜ r ≡ up (pos (each * code) -ℤ low .0) ⌝ }
 {
-    let thousands = Thousandths::ONE * code as u64;
-    let a = Whole(thousands as i64 - low.0);
+    let parts = each * code as u64;
+    let a = Whole(parts as i64 - low.0);
     a.above()
 }
 
@@ -34,7 +33,7 @@ pub fn place_of(axis: Axis, cells: usize, code: u16) -> Place
     ensures { λ r. ⌜ r ≡ placeOf axis cells code ⌝ }
 {
     let den = axis.den;
-    let above = above_lower(axis.low, code);
+    let above = above_lower(axis.each, axis.low, code);
     let a = lesser(den, above);
     let p = a * cells as u64;
     let i = lesser(p / den, cells as u64 - 1);

@@ -1,30 +1,38 @@
 // A plan: what of a description and the depths is the same for every pixel, made once.
 use crate::ratio::ratio_of;
+use crate::span::domain_of;
+use crate::span::span_of;
+use crate::span::width_of;
+use rules::Colour;
 use rules::Depths;
 use rules::Description;
 use rules::Domain;
 use rules::Kind;
 use rules::TenMillionths;
+use rules::Thousandths;
 use whole::Divisor;
 use whole::Whole;
 ghost use mathlib.Core.Path.{_≡_};
 ghost use Prim.Native.Nat.{_≤_, _<_};
 ghost use lib.IntN.{pos, natAbs, _*ℤ_};
-ghost use Rattle.rules.specs.Units.{sampleLimit};
-ghost use Rattle.rules.specs.Descriptions.{width, DomainFits};
-ghost use Rattle.colour.specs.Limits.{bottomLimit};
+ghost use lib.Signed.{quotZ};
+ghost use Rattle.rules.specs.Units.{sampleLimit, boundOne, boundLimit, widthLimit};
+ghost use Rattle.rules.specs.Descriptions.{domain, span, DomainFits};
+ghost use Rattle.colour.specs.Limits.{eachLimit, bottomLimit};
 ghost use Rattle.colour.specs.Ratios.{ratioOf, InTerms};
 ghost use Rattle.colour.specs.Plans.{axisOf, planOf, Readable};
 
 // One colour's axis.
 pub struct Axis {
-    // lo·M, with the M of raw codes.
+    // One unit of the colour's domain is so many parts of its span: 1000 where the span is in thousandths.
+    pub each: u64,
+    // The lower bound in those parts, times the M of raw codes.
     pub low: Whole,
-    // D, over which the colour's fraction is.
+    // D, over which the colour's fraction is: M times the span.
     pub den: u64,
     // D·10,000,000: an S so great is the value 1.
     pub full: u64,
-    // q·w·10,000,000, over which p·S is the corrected code, p / q being the ratio of the two M.
+    // q·span·10,000,000, over which p·S is the corrected code, p / q being the ratio of the two M.
     pub unit: u64,
     // Twice the unit, which the nearest code of every colour of every pixel is divided by.
     pub divisor: Divisor,
@@ -43,18 +51,6 @@ pub struct Plan {
     pub times: u64,
 }
 
-// w, the width of a domain, in thousandths.
-pub fn width_of(dom: Domain) -> u64
-    requires { ⌜ DomainFits dom ⌝ }
-    ensures { λ r. ⌜ r ≡ width dom ⌝ }
-{
-    let lower = dom.lower;
-    let upper = dom.upper;
-    let lo = lower.0;
-    let hi = upper.0;
-    (hi - lo) as u64
-}
-
 // M times a bound or a sample.
 pub fn times_m(m: u16, value: Whole) -> Whole
     requires { ⌜ natAbs (value .0) ≤ sampleLimit ⌝ }
@@ -63,24 +59,46 @@ pub fn times_m(m: u16, value: Whole) -> Whole
     Whole::of(m as u64).times(value)
 }
 
-fn axis_of(dom: Domain, m: u16, q: u64, stride: usize) -> Axis
+// The lower bound in parts of a span, of which a unit has so many.
+fn low_in(lower: Thousandths, each: u64) -> Whole
+    requires { ⌜ natAbs (lower .0) ≤ boundLimit ⌝ }
+    requires { ⌜ each ≤ eachLimit ⌝ }
+    ensures { λ r. ⌜ r .0 ≡ quotZ (pos each *ℤ lower .0) (pos boundOne) ⌝ }
+{
+    let parts = Whole::of(each).times(Whole(lower.0));
+    parts.over(Thousandths::ONE)
+}
+
+fn axis_of(dom: Domain, span: u64, m: u16, q: u64, stride: usize) -> Axis
     requires { ⌜ DomainFits dom ⌝ }
+    requires { ⌜ 0 < span ⌝ }
+    requires { ⌜ span ≤ widthLimit ⌝ }
     requires { ⌜ 0 < q ⌝ }
     requires { ⌜ q ≤ bottomLimit ⌝ }
-    ensures { λ r. ⌜ r ≡ axisOf dom m q stride ⌝ }
+    ensures { λ r. ⌜ r ≡ axisOf dom span m q stride ⌝ }
 {
-    let lower = dom.lower;
-    let w = width_of(dom);
-    let den = m as u64 * w;
-    let unit = q * (w * TenMillionths::ONE);
+    let each = Thousandths::ONE * span / width_of(dom);
+    let den = m as u64 * span;
+    let unit = q * (span * TenMillionths::ONE);
     Axis {
-        low: times_m(m, Whole(lower.0)),
+        each,
+        low: times_m(m, low_in(dom.lower, each)),
         den,
         full: den * TenMillionths::ONE,
         unit,
         divisor: Divisor::of(2 * unit),
         stride,
     }
+}
+
+// A colour's axis: its own domain, and its span.
+fn colour_axis(d: Description, c: Colour, m: u16, q: u64, stride: usize) -> Axis
+    requires { ⌜ Readable d ⌝ }
+    requires { ⌜ 0 < q ⌝ }
+    requires { ⌜ q ≤ bottomLimit ⌝ }
+    ensures { λ r. ⌜ r ≡ axisOf (domain d c) (span d c) m q stride ⌝ }
+{
+    axis_of(domain_of(d, c), span_of(d, c), m, q, stride)
 }
 
 pub fn plan_of(d: Description, depths: Depths) -> Plan
@@ -98,9 +116,9 @@ pub fn plan_of(d: Description, depths: Depths) -> Plan
     Plan {
         kind,
         cells: n - 1,
-        red: axis_of(d.red, m, q, 1),
-        green: axis_of(d.green, m, q, n),
-        blue: axis_of(d.blue, m, q, square),
+        red: colour_axis(d, Colour::Red, m, q, 1),
+        green: colour_axis(d, Colour::Green, m, q, n),
+        blue: colour_axis(d, Colour::Blue, m, q, square),
         times: ratio.top,
     }
 }

@@ -1,11 +1,10 @@
 // A row by itself: its code for a colour, and the D over which it may carry the weight (document 01, "Interpolation").
 use crate::plan::times_m;
-use crate::plan::width_of;
+use crate::span::span_of;
 use crate::sums::row_part;
 use crate::sums::sample_of;
 use rules::Colour;
 use rules::Description;
-use rules::Domain;
 use rules::TenMillionths;
 use whole::Whole;
 ghost use mathlib.Core.Path.{_≡_};
@@ -13,30 +12,16 @@ ghost use Prim.Native.Nat.{ℕ, _*_, _≤_, _<_};
 ghost use lib.IntN.{pos, natAbs, _*ℤ_};
 ghost use Rattle.whole.specs.Nearest.{code};
 ghost use Rattle.rules.specs.Units.{sampleOne, sampleLimit};
-ghost use Rattle.rules.specs.Descriptions.{domain};
 ghost use Rattle.rules.specs.Looking.Interpolation.{denOf, rowCode};
 ghost use Rattle.colour.specs.Plans.{Readable};
 ghost use Rattle.colour.specs.Adding.{RowAt};
-
-fn domain_of(d: Description, c: Colour) -> Domain
-    ensures { λ r. ⌜ r ≡ domain d c ⌝ }
-{
-    let red = d.red;
-    let green = d.green;
-    let blue = d.blue;
-    match c {
-        Colour::Red => red,
-        Colour::Green => green,
-        Colour::Blue => blue,
-    }
-}
 
 // D: what the weights of a colour add up to.
 pub fn den_of(d: Description, m: u16, c: Colour) -> u64
     requires { ⌜ Readable d ⌝ }
     ensures { λ r. ⌜ r ≡ denOf d m c ⌝ }
 {
-    m as u64 * width_of(domain_of(d, c))
+    m as u64 * span_of(d, c)
 }
 
 // The code nearest to M times a sample.

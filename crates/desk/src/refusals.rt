@@ -20,7 +20,10 @@ pub fn write_meaning(fd: i32, reason: Refusal) -> bool {
         Refusal::NoSize => write(fd, b"no size"),
         Refusal::LowerNotBelowUpper => write(fd, b"a lower bound not below its upper bound"),
         Refusal::DomainTooWide => write(fd, b"a domain wider than 10"),
-        Refusal::DomainsDiffer => write(fd, b"3D with domains that differ between colours"),
+        Refusal::DomainsDiffer => write(
+            fd,
+            b"3D with domains that differ between colours, and a bound that is no whole number",
+        ),
         Refusal::TableTooShort => write(
             fd,
             b"table shorter than 3 * rows, so this program has too little room",

@@ -20,7 +20,8 @@ use Rattle.rules.specs.declared.Kind.the-variants.{OneD, ThreeD}
 use Rattle.rules.specs.declared.Share.{Share}
 use Rattle.rules.specs.declared.Shares.{Shares}
 use Rattle.rules.proofs.Tests.{both-and}
-use Rattle.rules.proofs.Sound.{sound-of, wide-enough}
+use Rattle.rules.proofs.Sound.{sound-of}
+use Rattle.rules.proofs.Looking.Spans.{span-some}
 use Rattle.colour.specs.Adding.{RowAt}
 use Rattle.colour.proofs.Weighing.{row-stands}
 use Rattle.explain.specs.declared.rows.Four.{Four}
@@ -80,7 +81,7 @@ module _ {d : Description} {table : List ℤ} {depths : Depths} {shares : Shares
   in-range = both-and _ _ (le-leb _ _ (sound .least)) (le-leb _ _ (sound .most))
 
   pub den-there : (c : Colour) → 0 < denOf d (rawM depths) c
-  den-there c = mul-pos (seen .deep) (wide-enough (sound .domains c))
+  den-there c = mul-pos (seen .deep) (span-some _ sound c)
 
   pub listed-stand : (c : Colour) (four : Four) → listed four ≡ fourOf (d .kind) c shares → Each (λ s. RowAt table (3 * s .row)) (listed four)
   listed-stand c four e = subst (Each (λ s. RowAt table (3 * s .row))) (sym e) (four-stand (d .kind) refl c)

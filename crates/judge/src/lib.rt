@@ -6,12 +6,13 @@ use rules::TenMillionths;
 use rules::Thousandths;
 use whole::Whole;
 ghost use mathlib.Core.Path.{_≡_};
+ghost use Prim.Native.Nat.{_%_};
 ghost use mathlib.Core.Bool.{true, _&&_};
-ghost use lib.Dec.{leb};
+ghost use lib.Dec.{eqb, leb};
 ghost use lib.IntN.{natAbs};
 ghost use lib.Signed.{leZ};
-ghost use Rattle.rules.specs.Units.{boundLimit, greatestN, inRange, rowsOf};
-ghost use Rattle.rules.specs.Descriptions.{everyColour, boundsFit, ordered, narrow, sameDomain, agree, samplesFit, couldBeRead};
+ghost use Rattle.rules.specs.Units.{boundOne, boundLimit, greatestN, inRange, rowsOf};
+ghost use Rattle.rules.specs.Descriptions.{everyColour, boundsFit, ordered, narrow, sameDomain, oneDomain, wholeBounds, agree, samplesFit, couldBeRead};
 ghost use Rattle.judge.specs.Rules.{test, Asked};
 
 // ---- N and the rows
@@ -53,6 +54,7 @@ pub enum Rule {
     Within,
     Ordered,
     Narrow,
+    Whole,
 }
 
 fn bound_fits(bound: Thousandths) -> bool
@@ -100,6 +102,25 @@ fn narrow(dom: Domain) -> bool
     hi - lo <= Thousandths::WIDEST
 }
 
+fn whole_bound(bound: Thousandths) -> bool
+    ensures { λ r. ⌜ r ≡ eqb (natAbs (bound .0) % boundOne) 0 ⌝ }
+{
+    let z = Whole(bound.0);
+    z.size() % Thousandths::ONE == 0
+}
+
+// Both bounds are whole numbers.
+fn whole_bounds(dom: Domain) -> bool
+    ensures { λ r. ⌜ r ≡ wholeBounds dom ⌝ }
+{
+    let lower = dom.lower;
+    let upper = dom.upper;
+    if whole_bound(lower) {
+        return whole_bound(upper);
+    }
+    false
+}
+
 fn domain_keeps(rule: Rule, dom: Domain) -> bool
     requires { ⌜ Asked rule (boundsFit dom) ⌝ }
     ensures { λ r. ⌜ r ≡ test rule dom ⌝ }
@@ -108,6 +129,7 @@ fn domain_keeps(rule: Rule, dom: Domain) -> bool
         Rule::Within => bounds_fit(dom),
         Rule::Ordered => ordered(dom),
         Rule::Narrow => narrow(dom),
+        Rule::Whole => whole_bounds(dom),
     }
 }
 
@@ -149,20 +171,30 @@ fn same_domain(a: Domain, b: Domain) -> bool
     false
 }
 
-// In 3D the three colours have one domain: else 12.
-pub fn agree(kind: Kind, d: Description) -> bool
-    ensures { λ r. ⌜ r ≡ agree kind d ⌝ }
+// The three colours have one domain.
+pub fn one_domain(d: Description) -> bool
+    ensures { λ r. ⌜ r ≡ oneDomain d ⌝ }
 {
     let red = d.red;
     let green = d.green;
     let blue = d.blue;
+    if same_domain(green, red) {
+        return same_domain(blue, red);
+    }
+    false
+}
+
+// In 3D the three colours have one domain, or all six bounds are whole numbers: else 12.
+pub fn agree(kind: Kind, d: Description) -> bool
+    ensures { λ r. ⌜ r ≡ agree kind d ⌝ }
+{
     match kind {
         Kind::OneD => true,
         Kind::ThreeD => {
-            if same_domain(green, red) {
-                return same_domain(blue, red);
+            if one_domain(d) {
+                return true;
             }
-            false
+            domains_keep(Rule::Whole, d)
         }
     }
 }

@@ -4,6 +4,9 @@
 pub mod Layers
 pub mod EitherReading
 pub mod Rule
+-- the span of a colour, and what is brought to the D that it makes
+pub mod Spans
+pub mod Brought
 pub mod Chart
 pub mod RowsAndWeights
 -- the answer by its checks, and that an accepted one is right

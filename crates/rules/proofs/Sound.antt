@@ -1,11 +1,11 @@
 -- The test of 24 and the property that it tests: each gives the other, and so does each part of the test.
 use Prim.Native.Nat.{ℕ, zero, suc, _*_, _≤_, _<_}
 use mathlib.Core.Path.{_≡_, refl, sym, ap, ap₂, _∙_}
-use mathlib.Core.Bool.{Bool, true, false, _&&_}
+use mathlib.Core.Bool.{Bool, true, false, _&&_, _||_, or-true}
 use mathlib.Core.List.{List, [], _∷_}
 use native.Mathlib.Nat.{mul-le-mul}
 use native.Mathlib.Omega.{arith}
-use borrow.Author.Tests.{leb-true, le-leb}
+use borrow.Author.Tests.{leb-true, le-leb, eqb-true, eq-eqb}
 use lib.Dec.{leb}
 use lib.IntN.{ℤ, pos, negℤ, natAbs, _-ℤ_}
 use lib.ListN.{length, take, getD}
@@ -14,7 +14,7 @@ use lib.Signed.{_<ℤ_, ltZ, leZ, ≤ℤ-refl, ltZ-yes, leZ-yes}
 use Rattle.whole.proofs.Halves as H
 use Rattle.whole.proofs.Held.{passed, true-by, false-by, le-up}
 use Rattle.rules.specs.Units.{sampleLimit, boundLimit, widthLimit, greatestN, inRange, rowsOf, rowLimit}
-use Rattle.rules.specs.Descriptions.{DomainFits, Sound, rows, domain, width, everyColour, boundsFit, ordered, narrow, sameDomain, agree, roomy, samplesFit, couldBeRead}
+use Rattle.rules.specs.Descriptions.{DomainFits, WholeBounds, Agreed, one, whole, Sound, rows, domain, width, everyColour, boundsFit, ordered, narrow, sameDomain, oneDomain, wholeBounds, agree, roomy, samplesFit, couldBeRead}
 use Rattle.rules.specs.declared.Colour.{Colour}
 use Rattle.rules.specs.declared.Colour.the-variants.{Red, Green, Blue}
 use Rattle.rules.specs.declared.Description.{Description}
@@ -102,20 +102,15 @@ module _ (a b : Domain) where
       both-and _ _ (number-same _ _ (ap (λ (x : Domain). x .lower .0) e)) (number-same _ _ (ap (λ (x : Domain). x .upper .0) e))
 
 module _ (d : Description) where
-  pub agree-one : (k : Kind) → agree k d ≡ true → k ≡ ThreeD → (c : Colour) → domain d c ≡ d .red
-  unfolding agree
-  agree-one OneD e q c = absurd (apart q)
-    where
-      apart : OneD ≡ ThreeD → ⊥
-      apart q = let z : _≡_ {A = ℕ} 0 1 = cc in omega arith
-  agree-one ThreeD e q Red = refl
-  agree-one ThreeD e q Green = same-domain _ _ (and-both _ _ e .0)
-  agree-one ThreeD e q Blue = same-domain _ _ (and-both (sameDomain (d .green) (d .red)) _ e .1)
+  pub one-domain : oneDomain d ≡ true → (c : Colour) → domain d c ≡ d .red
+  unfolding oneDomain
+  one-domain e Red = refl
+  one-domain e Green = same-domain _ _ (and-both _ _ e .0)
+  one-domain e Blue = same-domain _ _ (and-both (sameDomain (d .green) (d .red)) _ e .1)
 
-  pub one-agree : (k : Kind) → (k ≡ ThreeD → (c : Colour) → domain d c ≡ d .red) → agree k d ≡ true
-  unfolding agree
-  one-agree OneD h = refl
-  one-agree ThreeD h = both-and _ _ (domain-same _ _ (h refl Green)) (domain-same _ _ (h refl Blue))
+  pub domain-one : ((c : Colour) → domain d c ≡ d .red) → oneDomain d ≡ true
+  unfolding oneDomain
+  domain-one h = both-and _ _ (domain-same _ _ (h Green)) (domain-same _ _ (h Blue))
 
 -- ---- the three colours
 
@@ -130,6 +125,39 @@ module _ (good : Domain → Bool) (d : Description) where
 
   pub each-every : ((c : Colour) → good (domain d c) ≡ true) → everyColour good d ≡ true
   each-every h = both-and _ _ (h Red) (both-and _ _ (h Green) (h Blue))
+
+-- ---- 12: one domain, or whole bounds
+
+module _ (dom : Domain) where
+  whole-bounds : wholeBounds dom ≡ true → WholeBounds dom
+  unfolding wholeBounds
+  whole-bounds e = let (l, u) = and-both _ _ e in record { lower = eqb-true _ _ l; upper = eqb-true _ _ u }
+
+  bounds-whole : WholeBounds dom → wholeBounds dom ≡ true
+  unfolding wholeBounds
+  bounds-whole w = both-and _ _ (eq-eqb _ _ (w .lower)) (eq-eqb _ _ (w .upper))
+
+module _ (d : Description) where
+  pub agree-agreed : (k : Kind) → agree k d ≡ true → k ≡ ThreeD → Agreed d
+  unfolding agree
+  agree-agreed OneD e q = absurd (apart q)
+    where
+      apart : OneD ≡ ThreeD → ⊥
+      apart q = let z : _≡_ {A = ℕ} 0 1 = cc in omega arith
+  agree-agreed ThreeD e q = by (oneDomain d) refl e
+    where
+      by : (b : Bool) → oneDomain d ≡ b → b || everyColour wholeBounds d ≡ true → Agreed d
+      by true h e = one (one-domain d h)
+      by false h e = whole (λ c. whole-bounds (domain d c) (every-each wholeBounds d e c))
+
+  pub agreed-agree : (k : Kind) → (k ≡ ThreeD → Agreed d) → agree k d ≡ true
+  unfolding agree
+  agreed-agree OneD h = refl
+  agreed-agree ThreeD h = by (h refl)
+    where
+      by : Agreed d → oneDomain d || everyColour wholeBounds d ≡ true
+      by (one o) = rw (domain-one d o)
+      by (whole w) = rw (each-every wholeBounds d (λ c. bounds-whole (domain d c) (w c))) (or-true (oneDomain d))
 
 -- ---- the samples
 
@@ -163,7 +191,7 @@ module _ (d : Description) (table : List ℤ) where
       let (bounds, e2) = and-both (everyColour boundsFit d) _ e1 in
       let (order, e3) = and-both (everyColour ordered d) _ e2 in
       let (widths, e4) = and-both (everyColour narrow d) _ e3 in
-      let (one, e5) = and-both _ _ e4 in
+      let (agrees, e5) = and-both _ _ e4 in
       let (room, fit) = and-both _ _ e5 in
       let (least, most) = and-both _ _ range in
       let long : 3 * rows d ≤ length table = leb-true _ _ room in
@@ -171,7 +199,7 @@ module _ (d : Description) (table : List ℤ) where
         least = leb-true _ _ least;
         most = leb-true _ _ most;
         domains = λ c. fits c (every-each boundsFit d bounds c) (every-each ordered d order c) (every-each narrow d widths c);
-        one-domain = agree-one d (d .kind) one;
+        agreed = agree-agreed d (d .kind) agrees;
         long = long;
         samples = first-fit-each (3 * rows d) table long fit;
       }
@@ -188,7 +216,7 @@ module _ (d : Description) (table : List ℤ) where
       (both-and _ _ (each-every boundsFit d (λ c. within-bounds _ (s .domains c .low) (s .domains c .high)))
       (both-and _ _ (each-every ordered d (λ c. less-ordered _ (s .domains c .order)))
       (both-and _ _ (each-every narrow d (λ c. width-narrow _ (s .domains c .narrow)))
-      (both-and _ _ (one-agree d (d .kind) (s .one-domain))
+      (both-and _ _ (agreed-agree d (d .kind) (s .agreed))
       (both-and _ _ (le-leb _ _ (s .long))
       (each-first-fit (3 * rows d) table (s .long) (s .samples)))))))
 

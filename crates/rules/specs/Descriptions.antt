@@ -1,9 +1,9 @@
 -- Document 01, "Units and places" and "Answers by number": the description, the rules on its domains, and what 24 means.
-use Prim.Native.Nat.{ℕ, _*_, _≤_, _<_}
+use Prim.Native.Nat.{ℕ, _*_, _/_, _%_, _≤_, _<_}
 use mathlib.Core.Path.{_≡_}
-use mathlib.Core.Bool.{Bool, true, false, _&&_}
+use mathlib.Core.Bool.{Bool, true, false, cond, _&&_, _||_}
 use mathlib.Core.List.{List, [], _∷_}
-use lib.Dec.{leb}
+use lib.Dec.{eqb, leb}
 use lib.IntN.{ℤ, pos, natAbs, _-ℤ_}
 use lib.ListN.{length, take, getD}
 use lib.Signed.{_<ℤ_, ltZ, leZ}
@@ -85,14 +85,41 @@ same a b = leZ a b && leZ b a
 unfoldable pub sameDomain : Domain → Domain → Bool
 sameDomain a b = same (a .lower .0) (b .lower .0) && same (a .upper .0) (b .upper .0)
 
--- in 3D the three colours have one domain: else 12
+-- the three colours have one domain
+unfoldable pub oneDomain : Description → Bool
+oneDomain d = sameDomain (d .green) (d .red) && sameDomain (d .blue) (d .red)
+
+-- both bounds are whole numbers
+unfoldable pub wholeBounds : Domain → Bool
+wholeBounds dom = eqb (natAbs (dom .lower .0) % boundOne) 0 && eqb (natAbs (dom .upper .0) % boundOne) 0
+
+-- Document 02, Req 07: in 3D the three colours have one domain, or all six bounds are whole numbers: else 12
 unfoldable pub agree : Kind → Description → Bool
 agree OneD d = true
-agree ThreeD d = sameDomain (d .green) (d .red) && sameDomain (d .blue) (d .red)
+agree ThreeD d = oneDomain d || everyColour wholeBounds d
 
 -- the table has 3·rows places: else 13
 unfoldable pub roomy : ℕ → Description → Bool
 roomy places d = leb (3 * rows d) places
+
+-- ---- the span of a colour
+
+-- the width W of a domain in whole units
+abbrev pub units : Domain → ℕ
+units dom = width dom / boundOne
+
+-- 3D has one span: w, in thousandths, where the domains are one, and Wr·Wg·Wb where they differ
+unfoldable pub commonSpan : Description → ℕ
+commonSpan d = cond (oneDomain d) (width (d .red)) (units (d .red) * units (d .green) * units (d .blue))
+
+-- in 1D it is the width w of the colour's own domain
+abbrev pub spanIn : Kind → Description → Colour → ℕ
+spanIn OneD d c = width (domain d c)
+spanIn ThreeD d c = commonSpan d
+
+-- M times it is what the weights of a colour add up to
+abbrev pub span : Description → Colour → ℕ
+span d c = spanIn (d .kind) d c
 
 -- ---- 24
 
@@ -120,10 +147,19 @@ pub record DomainFits (dom : Domain) : Type 0 where
   pub order : dom .lower .0 <ℤ dom .upper .0
   pub narrow : width dom ≤ widthLimit
 
+pub record WholeBounds (dom : Domain) : Type 0 where
+  pub lower : natAbs (dom .lower .0) % boundOne ≡ 0
+  pub upper : natAbs (dom .upper .0) % boundOne ≡ 0
+
+-- in 3D
+pub data Agreed (d : Description) : Type 0 where
+  one : ((c : Colour) → domain d c ≡ d .red) → Agreed d
+  whole : ((c : Colour) → WholeBounds (domain d c)) → Agreed d
+
 pub record Sound (d : Description) (table : List ℤ) : Type 0 where
   pub least : 2 ≤ d .n
   pub most : d .n ≤ greatestN (d .kind)
   pub domains : (c : Colour) → DomainFits (domain d c)
-  pub one-domain : d .kind ≡ ThreeD → (c : Colour) → domain d c ≡ d .red
+  pub agreed : d .kind ≡ ThreeD → Agreed d
   pub long : 3 * rows d ≤ length table
   pub samples : (k : ℕ) → k < 3 * rows d → natAbs (getD table k (pos 0)) ≤ sampleLimit

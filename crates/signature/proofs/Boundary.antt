@@ -13,6 +13,8 @@ pub mod Checks
 pub mod Depths
 -- with one depth they are document 01's
 pub mod OneDepth
+-- with one domain they are what they were
+pub mod OneDomain
 -- wrong calls that the promises rule out
 pub mod WrongReads
 pub mod WrongChecks

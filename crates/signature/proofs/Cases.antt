@@ -11,7 +11,7 @@ use lib.Signed.{leZ, leZ-yes}
 use Rattle.whole.specs.Nearest.{code}
 use Rattle.whole.proofs.Halves as H
 use Rattle.whole.proofs.Held.{passed}
-use Rattle.rules.specs.Descriptions.{boundsFit, ordered, narrow, sameDomain, agree, roomy, samplesFit, couldBeRead}
+use Rattle.rules.specs.Descriptions.{boundsFit, ordered, narrow, sameDomain, oneDomain, wholeBounds, agree, commonSpan, roomy, samplesFit, couldBeRead}
 use Rattle.rules.specs.Reading.Lines.{bytes, every, run, after, starts, same, onFirst, linesOf, wordsOf}
 use Rattle.rules.specs.Reading.Numerals.{digits, spell}
 use Rattle.rules.specs.Reading.Numbers.{unsigned, exponentOf, numeralWith, numeralOf, settle, numberOf}
@@ -19,13 +19,13 @@ use Rattle.rules.specs.Reading.Contents.{keywordOf, wordForm, formOf, closes, q
 use Rattle.rules.specs.Reading.Judge.{add, describe, repeats, need, first, domainFault, givenFault, headFault, byteFault, orderFault, take-in, unless, judge, endFault}
 use Rattle.rules.specs.Reading.{readLines, read, samplesIn, samplesOf, tableAfter}
 use Rattle.rules.specs.Reporting.{report, reportBytes}
-use Rattle.rules.specs.Looking.Interpolation.{offset, position, index, fraction, pairBy, chart, order, climb, pathBy, pair, path, codeBy}
+use Rattle.rules.specs.Looking.Interpolation.{offset, position, index, fraction, brought, pairBy, chart, order, climb, pathBy, pair, path, codeBy}
 use Rattle.rules.specs.Looking.{within, shown, lookAt, look}
 use Rattle.rules.specs.Picturing.{eachPixel, pictureWith, picture, outputAfter}
 use Rattle.rules.specs.Answers.{refusalNumber, readNumber, readLine}
 use Rattle.rules.proofs.Tests.{and-both}
 use Rattle.rules.proofs.Reading.Wordings.{same-eq}
-use Rattle.signature.specs.Cases.{Outcome, Case, outcome, marked, numbered, halves, points, twoDepths, AllMet, ReadA3}
+use Rattle.signature.specs.Cases.{Outcome, Case, outcome, marked, numbered, halves, mixed, points, twoDepths, AllMet, ReadA3}
 
 -- ---- a test that antt computes over a whole table, and what it tells
 
@@ -96,11 +96,11 @@ unfolding need first take-in unless add describe repeats domainFault givenFault 
 lines-opened = 0
 
 unfoldable tables-opened : ℕ
-unfolding boundsFit ordered narrow sameDomain agree roomy samplesFit couldBeRead
+unfolding boundsFit ordered narrow sameDomain oneDomain wholeBounds agree commonSpan roomy samplesFit couldBeRead
 tables-opened = 0
 
 unfoldable looks-opened : ℕ
-unfolding offset position index fraction pairBy chart order climb pathBy pair path codeBy code within shown lookAt look
+unfolding offset position index fraction brought pairBy chart order climb pathBy pair path codeBy code within shown lookAt look
 looks-opened = 0
 
 unfoldable pub opened : ℕ
@@ -127,6 +127,10 @@ two-depths-pass : test twoDepths ≡ true
 unfolding opened
 two-depths-pass = refl
 
+mixed-pass : test mixed ≡ true
+unfolding opened
+mixed-pass = refl
+
 -- the cases of document 01 that are marked P
 pub marked-met : AllMet marked
 marked-met = tested marked marked-pass
@@ -146,6 +150,10 @@ halves-met = tested halves halves-pass
 -- document 02's two depths
 pub two-depths-met : AllMet twoDepths
 two-depths-met = tested twoDepths two-depths-pass
+
+-- document 02's different domains in 3D
+pub mixed-met : AllMet mixed
+mixed-met = tested mixed mixed-pass
 
 -- 30, on line 0
 pub report-30 : (input : List ℕ) → reportBytes < length input → (readNumber (report input) ≡ 30) × (readLine (report input) ≡ 0)

@@ -9,5 +9,7 @@ pub mod Promised
 pub mod Depths
 -- with one depth it is document 01's
 pub mod OneDepth
+-- with one domain it is what it was
+pub mod OneDomain
 -- wrong programs that it rules out
 pub mod WrongPrograms

@@ -10,7 +10,9 @@ pub mod Beside
 pub mod Moved
 pub mod BarePoints
 pub mod Told
+pub mod Heads
 pub mod HalfDomains
+pub mod MixedDomains
 -- where numbers stand, and the lines by their numbers
 pub mod Places
 pub mod LineNumbers

@@ -1,13 +1,13 @@
 -- The title's fields change no answer of look and picture: neither looks further than kind, N and the three domains.
-use Prim.Native.Nat.{ℕ}
+use Prim.Native.Nat.{ℕ, _*_}
 use mathlib.Core.Path.{_≡_, refl, ap, ap₂}
 use mathlib.Core.Bool.{cond}
 use mathlib.Core.List.{List, _++_}
 use lib.IntN.{ℤ}
 use lib.ListN.{length, drop}
 use Rattle.rules.specs.Units.{rawM, depthsOf, codeIn}
-use Rattle.rules.specs.Descriptions.{domain, agree, roomy, couldBeRead}
-use Rattle.rules.specs.Looking.Interpolation.{den, index, fraction}
+use Rattle.rules.specs.Descriptions.{domain, width, oneDomain, agree, commonSpan, spanIn, roomy, couldBeRead}
+use Rattle.rules.specs.Looking.Interpolation.{den, index, fraction, brought}
 use Rattle.rules.specs.Looking.{lookAt, look}
 use Rattle.rules.specs.Answers.{codesIn}
 use Rattle.rules.specs.Demands.{pixelAt}
@@ -42,10 +42,15 @@ module _ (d : Description) (t : Title) where
   same-domain Green = refl
   same-domain Blue = refl
 
+  same-span : (k : Kind) (c : Colour) → spanIn k e c ≡ spanIn k d c
+  unfolding commonSpan oneDomain
+  same-span OneD c = ap width (same-domain c)
+  same-span ThreeD c = refl
+
   -- ---- 24
 
   same-agree : (k : Kind) → agree k e ≡ agree k d
-  unfolding agree
+  unfolding agree oneDomain
   same-agree OneD = refl
   same-agree ThreeD = refl
 
@@ -61,9 +66,9 @@ module _ (d : Description) (t : Title) where
       kind = refl;
       n = refl;
       inside = refl;
-      dens = λ c. ap (den m) (same-domain c);
+      dens = λ c. ap (λ s. m * s) (same-span (d .kind) c);
       indices = λ c. ap (λ dom. index m dom (d .n) (codeIn pixel c)) (same-domain c);
-      fractions = λ c. ap (λ dom. fraction m dom (d .n) (codeIn pixel c)) (same-domain c);
+      fractions = λ c i. brought (den m (same-domain c i)) (m * same-span (d .kind) c i) (fraction m (same-domain c i) (d .n) (codeIn pixel c));
     }
 
     same-at : (x : DepthsFound) → lookAt e table pixel x ≡ lookAt d table pixel x

@@ -20,6 +20,7 @@ use Rattle.rules.specs.declared.Look.{Look}
 use Rattle.rules.specs.declared.Picture.{Picture}
 use Rattle.rules.specs.declared.Read.{Read}
 use Rattle.rules.specs.declared.Read.the-variants.{Accepted}
+use Rattle.signature.specs.OneDomain.{redWider, greenHigher, redLower, allWider, greenFirst, cubeTo}
 
 -- ---- what is asked, and what comes out
 
@@ -181,7 +182,7 @@ numbered =
     ∷ refused (bytes "DOMAIN_MAX 1 1 10.001") 6 8 1
     ∷ refused (bytes "LUT_1D_SIZE 2\nDOMAIN_MIN 0 1 0\nDOMAIN_MAX 1 1 1\n0 0 0") 6 10 4
     ∷ refused (bytes "LUT_1D_SIZE 2\nDOMAIN_MIN -9.5 0 0\nDOMAIN_MAX 1 1 1\n\n") 6 11 5
-    ∷ refused (bytes "LUT_3D_SIZE 2\nDOMAIN_MIN 0 0 0\nDOMAIN_MAX 1 2 1\n0 0 0") 24 12 4
+    ∷ refused (bytes "LUT_3D_SIZE 2\nDOMAIN_MIN 0 0 0\nDOMAIN_MAX 1 1.5 1\n0 0 0") 24 12 4
     ∷ refused (bytes "LUT_3D_SIZE 2\n0 0 0") 23 13 2
     ∷ refused (bytes "LUT_1D_SIZE 2\n0 0 0\n0 0 0\n0 0 0") 6 14 4
     ∷ refused (bytes "LUT_1D_SIZE 2\n. 0 0") 6 15 2
@@ -241,7 +242,7 @@ halves =
     ∷ refused (bytes "DOMAIN_MIN 0 1 0\nLUT_1D_SIZE 2\n0 0 0") 6 19 3
     ∷ refused (bytes "DOMAIN_MAX 1 0 1\nLUT_1D_SIZE 2") 6 19 2
     ∷ refused (bytes "DOMAIN_MIN -9.5 0 0\nLUT_1D_SIZE 2\n0 0 0") 6 19 3
-    ∷ refused (bytes "DOMAIN_MAX 1 2 1\nLUT_3D_SIZE 2\n0 0 0") 24 19 3
+    ∷ refused (bytes "DOMAIN_MAX 1 1.5 1\nLUT_3D_SIZE 2\n0 0 0") 24 19 3
     ∷ refused (bytes "DOMAIN_MAX 2 2 2\nLUT_3D_SIZE 2\n0 0 0") 23 19 3
     ∷ refused (bytes "DOMAIN_MAX 2 2 2\nLUT_1D_SIZE 2\n. 0 0") 6 19 3
     ∷ refused (bytes "DOMAIN_MAX 2 2 2\nLUT_1D_SIZE 2\n0 0 0\r") 6 2 3
@@ -272,6 +273,50 @@ twoDepths =
     ∷ pictured (describedBy zeroAndHalf) (bitsOf 9 8) (1 ∷ 3 ∷ 1 ∷ 256 ∷ []) 3 20 (77 ∷ 77 ∷ 77 ∷ [])
     ∷ pictured (describedBy zeroAndHalf) (bitsOf 8 9) (1 ∷ 3 ∷ 1 ∷ 256 ∷ []) 3 20 (77 ∷ 77 ∷ 77 ∷ [])
     ∷ pictured (describedBy zeroAndHalf) (bitsOf 8 16) (1 ∷ 3 ∷ 256 ∷ []) 3 23 (77 ∷ 77 ∷ 77 ∷ [])
+    ∷ []
+
+-- ---- document 02, Req 07: 3D tables whose domains differ
+
+-- one domain whose bounds are not whole
+abbrev pub oneUneven : String
+oneUneven = "LUT_3D_SIZE 2\nDOMAIN_MIN 0 0 0\nDOMAIN_MAX 1.5 1.5 1.5\n0 0 0\n0 0 0\n1 1 1\n0 0 0\n0 0 0\n0 0 0\n0 0 0\n1 1 1\n"
+
+-- two colours have one domain whose bounds are not whole, and the third one as wide
+abbrev pub unevenBesideWhole : String
+unevenBesideWhole = "LUT_3D_SIZE 2\nDOMAIN_MIN 0 0.5 0.5\nDOMAIN_MAX 1 1.5 1.5\n0 0 0"
+
+-- a picture of a file, corrected at 8 bits, and what the output holds afterwards
+abbrev pub painted : String → List ℕ → ℕ → List ℕ → Case
+painted file src places after = record {
+  asked = picturing (describedBy file) (tableFrom file) (sameBits 8) src places;
+  expected = record { number = 0; line = 0; table = []; codes = after; rows = []; weights = [] };
+}
+
+-- Red to 2 beside 1: D is 255·2·1·1, and a red code counts once, the others twice, so 204, 306 and 102; rows 2 and 7 are 1, so the value is 204 of 510. Red and
+-- green at 204 both: red stands first. At 16 bits two fifths are 26214. Green from 1 to 2: below its bound, so its fraction is 0, and D is 255. Widths of 2, of
+-- red from -1 and the others from 0: D is 255·8, and 51 in red is 306 of 510. One domain to 2, or to 1.5, keeps D in thousandths.
+abbrev pub mixed : List Case
+mixed =
+    looked redWider (sameBits 8) greenFirst (102 ∷ 102 ∷ 102 ∷ []) (0 ∷ 2 ∷ 3 ∷ 7 ∷ 0 ∷ 0 ∷ []) (pos 204 ∷ pos 102 ∷ pos 102 ∷ pos 102 ∷ pos 0 ∷ pos 0 ∷ [])
+    ∷ looked redWider (bitsOf 8 16) greenFirst (26214 ∷ 26214 ∷ 26214 ∷ []) (0 ∷ 2 ∷ 3 ∷ 7 ∷ 0 ∷ 0 ∷ []) (pos 204 ∷ pos 102 ∷ pos 102 ∷ pos 102 ∷ pos 0 ∷ pos 0 ∷ [])
+    ∷ looked redWider (sameBits 8) (record { red = 204; green = 102; blue = 51 }) (51 ∷ 51 ∷ 51 ∷ []) (0 ∷ 1 ∷ 3 ∷ 7 ∷ 0 ∷ 0 ∷ [])
+    (pos 306 ∷ pos 0 ∷ pos 102 ∷ pos 102 ∷ pos 0 ∷ pos 0 ∷ [])
+    ∷ looked greenHigher (sameBits 8) greenFirst (0 ∷ 0 ∷ 0 ∷ []) (0 ∷ 1 ∷ 5 ∷ 7 ∷ 0 ∷ 0 ∷ []) (pos 51 ∷ pos 153 ∷ pos 51 ∷ pos 0 ∷ pos 0 ∷ pos 0 ∷ [])
+    ∷ looked redLower (sameBits 8) (record { red = 51; green = 255; blue = 51 }) (26 ∷ 26 ∷ 26 ∷ []) (0 ∷ 1 ∷ 3 ∷ 7 ∷ 0 ∷ 0 ∷ [])
+    (pos 816 ∷ pos 204 ∷ pos 816 ∷ pos 204 ∷ pos 0 ∷ pos 0 ∷ [])
+    ∷ looked allWider (sameBits 8) greenFirst (26 ∷ 26 ∷ 26 ∷ []) (0 ∷ 1 ∷ 3 ∷ 7 ∷ 0 ∷ 0 ∷ []) (pos 306_000 ∷ pos 51_000 ∷ pos 102_000 ∷ pos 51_000 ∷ pos 0 ∷ pos 0 ∷ [])
+    ∷ looked oneUneven (sameBits 8) greenFirst (34 ∷ 34 ∷ 34 ∷ []) (0 ∷ 1 ∷ 3 ∷ 7 ∷ 0 ∷ 0 ∷ []) (pos 178_500 ∷ pos 51_000 ∷ pos 102_000 ∷ pos 51_000 ∷ pos 0 ∷ pos 0 ∷ [])
+    ∷ painted redWider (204 ∷ 153 ∷ 51 ∷ 204 ∷ 102 ∷ 51 ∷ []) 7 (102 ∷ 102 ∷ 102 ∷ 51 ∷ 51 ∷ 51 ∷ 77 ∷ [])
+    ∷ lookRefused (cubeTo 2000 1000 1500) (sameBits 9) (grey 256) 24
+    ∷ pictured (cubeTo 2000 1000 1500) (sameBits 8) (1 ∷ 3 ∷ 1 ∷ []) 3 24 (77 ∷ 77 ∷ 77 ∷ [])
+    ∷ refused (bytes "LUT_3D_SIZE 2\nDOMAIN_MIN 0 0 0\nDOMAIN_MAX 2 1 1.5\n0 0 0") 24 12 4
+    ∷ refused (bytes "LUT_3D_SIZE 2\nDOMAIN_MIN 0.001 0 0\nDOMAIN_MAX 2 1 1\n") 24 12 4
+    ∷ refused (bytes unevenBesideWhole) 24 12 4
+    ∷ refused (bytes unevenBesideWhole) 23 12 4
+    ∷ refused (bytes "LUT_3D_SIZE 2\nDOMAIN_MIN 0 0 -9.5\nDOMAIN_MAX 1 1 1\n0 0 0") 24 11 4
+    ∷ refused (bytes redWider) 23 13 4
+    ∷ refused (bytes "LUT_3D_SIZE 2\nDOMAIN_MIN 0 0 0\nDOMAIN_MAX 2 1 1\n0 0") 24 15 4
+    ∷ refused (bytes "LUT_3D_SIZE 2\nDOMAIN_MIN 0 0 0\nDOMAIN_MAX 2 1 1\n") 24 18 4
     ∷ []
 
 -- ---- what the report program prints

@@ -1,15 +1,13 @@
 -- Document 02, Req 05: a file with one line of the domain and not the other is refused with 19. Where that is, and reading as it was before.
 use Prim.Native.Nat.{ℕ, _≤_}
 use mathlib.Core.Path.{_≡_}
-use mathlib.Core.Bool.{Bool, true, false, cond, _||_}
-use mathlib.Core.List.{List, [], _∷_, _++_}
+use mathlib.Core.Bool.{Bool, true, false, cond}
+use mathlib.Core.List.{List}
 use mathlib.Core.Option.{none}
 use lib.Dec.{eqb}
-use lib.ListN.{length}
 use Rattle.rules.specs.Reading.{read}
-use Rattle.rules.specs.Reading.Lines.{linesOf}
-use Rattle.rules.specs.Reading.Contents.{contentOf, formOf}
-use Rattle.rules.specs.Reading.Judge.{Fault, State, start, byteFault, describe, domainFault, given, need}
+use Rattle.rules.specs.Reading.Contents.{contentOf}
+use Rattle.rules.specs.Reading.Judge.{Fault, State, describe, domainFault, given, need}
 use Rattle.rules.specs.declared.Form.{Form}
 use Rattle.rules.specs.declared.Form.the-variants.{Idle, Keyed, Data, Neither}
 use Rattle.rules.specs.declared.Keyword.the-variants.{ATitle, ALower, AnUpper, ASize}
@@ -17,8 +15,8 @@ use Rattle.rules.specs.declared.Read.{Read}
 use Rattle.rules.specs.declared.Read.the-variants.{Refused}
 use Rattle.rules.specs.declared.Refusal.{Refusal}
 use Rattle.rules.specs.declared.Refusal.the-variants.{HalfADomain, NoSize}
-use Rattle.signature.specs.Before.{lineAfter, readBy}
-use Rattle.signature.specs.Order.{Reached}
+use Rattle.signature.specs.Before.{readBy}
+use Rattle.signature.specs.Heads.{HeadAt, among}
 
 -- ---- sorts of line
 
@@ -49,17 +47,6 @@ sizeLine (Keyed (ASize k)) = true
 sizeLine Data = false
 sizeLine Neither = false
 
-unfoldable pub dataLine : Form → Bool
-dataLine Idle = false
-dataLine (Keyed k) = false
-dataLine Data = true
-dataLine Neither = false
-
--- a line of the sort is among them
-unfoldable pub among : (Form → Bool) → List (List ℕ) → Bool
-among sort [] = false
-among sort (l ∷ ls) = sort (formOf l) || among sort ls
-
 -- one line of the domain is among them, and the other is not
 pub data HalfDomain (ls : List (List ℕ)) : Type 0 where
   lower-alone : among lowerLine ls ≡ true → among upperLine ls ≡ false → HalfDomain ls
@@ -67,24 +54,14 @@ pub data HalfDomain (ls : List (List ℕ)) : Type 0 where
 
 -- ---- where 19 is given
 
--- the end, or a data line that 1 and 2 let pass
-abbrev pub AtHead : List (List ℕ) → Type 0
-AtHead [] = Unit {0}
-AtHead (l ∷ ls) = (byteFault l ≡ none) × (formOf l ≡ Data)
-
--- the first refusal comes where the head is checked, a size was given, and one line of the domain was and the other not
-pub record HalfAt (file : List ℕ) (places n : ℕ) : Type 0 where
-  pub before : List (List ℕ)
-  pub left : List (List ℕ)
-  pub lines-so : linesOf file ≡ before ++ left
-  pub number : n ≡ lineAfter (length before) left
-  -- the lines before pass, with no data among them; data follow, or the end
-  pub state : State
-  pub passed : Reached places 0 start before state
-  pub no-data : among dataLine before ≡ false
-  pub at-head : AtHead left
+-- a size was given, and one line of the domain was and the other not
+pub record HalfGiven (before : List (List ℕ)) (st : State) : Type 0 where
   pub sized : among sizeLine before ≡ true
   pub half : HalfDomain before
+
+-- the first refusal comes where the head is checked, and so were the lines before
+abbrev pub HalfAt : List ℕ → ℕ → ℕ → Type 0
+HalfAt = HeadAt HalfGiven
 
 -- ---- before: of the two lines together nothing was asked
 

@@ -1,5 +1,5 @@
--- Document 01's look and picture, with one depth: raw and corrected codes have one M, and as a code the exact value is S / (w·10,000,000). What does not stand
--- here anew is that of the rules.
+-- Document 01's look and picture, with one depth: raw and corrected codes have one M, and as a code the exact value is S / (w·10,000,000), with the span of the
+-- colour for w. What does not stand here anew is that of the rules.
 use Prim.Native.Nat.{ℕ, _*_}
 use mathlib.Core.Bool.{cond}
 use mathlib.Core.List.{List, _++_}
@@ -7,7 +7,7 @@ use lib.IntN.{ℤ}
 use lib.ListN.{length, drop}
 use Rattle.whole.specs.Nearest.{code}
 use Rattle.rules.specs.Units.{depthOf, sampleOne}
-use Rattle.rules.specs.Descriptions.{domain, width, couldBeRead}
+use Rattle.rules.specs.Descriptions.{span, couldBeRead}
 use Rattle.rules.specs.Looking.Interpolation.{sharesFor, total}
 use Rattle.rules.specs.Looking.{within, shown}
 use Rattle.rules.specs.Picturing.{eachPixel, pictureWith}
@@ -26,9 +26,9 @@ use Rattle.rules.specs.declared.Refusal.the-variants.{DepthUnknown, CodeTooGrea
 
 -- ---- look
 
--- the code of a colour is the nearest to S / (w·10,000,000) from 0 to M
+-- the code of a colour is the nearest to S / (w·10,000,000) from 0 to M, w being its span
 abbrev pub codeOne : Description → List ℤ → ℕ → Codes → Colour → ℕ
-codeOne d table m pixel c = code (total table c (sharesFor d m pixel (d .kind) c)) (width (domain d c) * sampleOne) m
+codeOne d table m pixel c = code (total table c (sharesFor d m pixel (d .kind) c)) (span d c * sampleOne) m
 
 abbrev pub correctOne : Description → List ℤ → ℕ → Codes → Codes
 correctOne d table m pixel = record {

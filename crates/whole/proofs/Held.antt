@@ -2,13 +2,13 @@
 -- So each need of a signed expression is one application, with a bound that omega shows.
 use mathlib.Core.Path.{_≡_, refl, sym, subst}
 use mathlib.Core.Bool.{Bool, true, false, not, false≢true}
-use Prim.Native.Nat.{ℕ, suc, _+_, _*_, _≤_, _<_}
+use Prim.Native.Nat.{ℕ, suc, _+_, _*_, _/_, _≤_, _<_}
 use native.Mathlib.Nat as NatL
 use native.Mathlib.Omega.{arith}
 use borrow.Author.Tests.{ltb-true, ltb-false, le-leb, lt-leb}
 use lib.Dec.{T, leb, leb·zero, lit<}
 use lib.IntN.{ℤ, pos, negsuc, negℤ, natAbs, _+ℤ_, _-ℤ_, _*ℤ_}
-use lib.Signed.{ltZ, leZ, nonNeg, ltZ-yes, ltZ-no}
+use lib.Signed.{ltZ, leZ, nonNeg, quotZ, ltZ-yes, ltZ-no}
 use mir.Syntax.{w64}
 use mir.Val.{Fits, SFits, toZ, ofZ}
 use mir.ValLaws.{toZ-ofZ, toZ-pos}
@@ -64,6 +64,22 @@ module _ {x y : ℕ} {a b : ℤ} {m n : ℕ} (p : Held x a m) (q : Held y b n) w
 
   pub mul : m * n < 9_223_372_036_854_775_808 → Held (ofZ w64 (toZ w64 x *ℤ toZ w64 y)) (a *ℤ b) (m * n)
   mul k = rw (p .reads, q .reads) (of (a *ℤ b) (m * n) mul-abs k)
+
+-- ---- quotient, by a number above 0
+
+pub quot-size : (z : ℤ) (k : ℕ) → natAbs (quotZ z (pos k)) ≡ natAbs z / k
+quot-size (pos a) k = refl
+quot-size (negsuc a) k = H.neg-abs (pos (suc a / k))
+
+module _ {x y : ℕ} {a : ℤ} {k m n : ℕ} (p : Held x a m) (q : Held y (pos k) n) where
+  quot-abs : natAbs (quotZ a (pos k)) ≤ m
+  quot-abs = rw (quot-size a k) (NatL.le-trans (NatL.div-le-self (natAbs a) k) (p .within))
+
+  pub quot-ok : m < 9_223_372_036_854_775_808 → SFits w64 (quotZ (toZ w64 x) (toZ w64 y))
+  quot-ok h = rw (p .reads, q .reads) (abs-fits (quotZ a (pos k)) (omega (arith, quot-abs)))
+
+  pub quot : m < 9_223_372_036_854_775_808 → Held (ofZ w64 (quotZ (toZ w64 x) (toZ w64 y))) (quotZ a (pos k)) m
+  quot h = rw (p .reads, q .reads) (of (quotZ a (pos k)) m quot-abs h)
 
 -- ---- a Bool that is known, and the test that it is
 pub passed : (t : Bool) → t ≡ true → T t

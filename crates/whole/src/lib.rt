@@ -9,6 +9,7 @@ pub use reciprocal::Divisor;
 ghost use mathlib.Core.Path.{_≡_};
 ghost use Prim.Native.Nat.{_+_, _*_, _≤_, _<_, max};
 ghost use lib.IntN.{pos, natAbs, _+ℤ_, _*ℤ_};
+ghost use lib.Signed.{quotZ};
 ghost use Rattle.whole.specs.Integers.{up, dn};
 ghost use Rattle.whole.specs.Nearest.{rounded, code};
 
@@ -40,6 +41,16 @@ impl Whole {
         ensures { λ r. ⌜ r .0 ≡ self .0 +ℤ other .0 ⌝ }
     {
         Whole(self.0 + other.0)
+    }
+
+    // How often a number goes into it, towards 0.
+    pub fn over(self, by: u64) -> Whole
+        requires { ⌜ natAbs (self .0) < 9_223_372_036_854_775_808 ⌝ }
+        requires { ⌜ 0 < by ⌝ }
+        requires { ⌜ by < 9_223_372_036_854_775_808 ⌝ }
+        ensures { λ r. ⌜ r .0 ≡ quotZ (self .0) (pos by) ⌝ }
+    {
+        Whole(self.0 / by as i64)
     }
 
     // How far it is above 0.

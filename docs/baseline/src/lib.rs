@@ -28,17 +28,22 @@ impl Description {
         }
     }
 
-    /// N and the domains keep document 01's limits.
+    /// Whether the domains of a 3D table differ.
+    pub fn is_mixed(&self) -> bool {
+        let [red, green, blue] = self.domains;
+        self.kind == Kind::ThreeD && (red != green || green != blue)
+    }
+
+    /// N and the domains keep document 01's limits, and mixed domains document 02's: they are whole.
     pub fn keeps_limits(&self) -> bool {
         let most = if self.kind == Kind::OneD { 65_536 } else { 256 };
         let within = |bound: i64| (-10_000..=10_000).contains(&bound);
         let domain_keeps = |[lower, upper]: [i64; 2]| {
             within(lower) && within(upper) && lower < upper && upper - lower <= 10_000
         };
-        let [red, green, blue] = self.domains;
         (2..=most).contains(&self.n)
             && self.domains.into_iter().all(domain_keeps)
-            && (self.kind == Kind::OneD || (red == green && green == blue))
+            && (!self.is_mixed() || self.domains.iter().flatten().all(|bound| bound % 1000 == 0))
     }
 }
 

@@ -1,6 +1,6 @@
 //! A run of pixels: judged once, then corrected pixel by pixel.
 
-use crate::{Description, Domains, Kind, GREATEST_SAMPLE};
+use crate::{Description, Kind, GREATEST_SAMPLE};
 
 /// One in ten-millionths, the unit of samples.
 const ONE: u64 = 10_000_000;
@@ -24,7 +24,7 @@ pub fn picture(
     dst: &mut [u16],
 ) -> Result<(), Refused> {
     let greatest = judge(description, table, bits, src, dst.len())?;
-    let axes = axes(&description.domains, description.n, greatest);
+    let axes = axes(description, greatest);
     if bits.raw == bits.corrected {
         correct::<false>(description, &axes, table, src, dst);
     } else {
@@ -43,11 +43,16 @@ fn correct<const SCALED: bool>(
     dst: &mut [u16],
 ) {
     let pixels = src.chunks_exact(3).zip(dst.chunks_exact_mut(3));
-    match description.kind {
-        Kind::OneD => pixels.for_each(|(pixel, out)| linear::<SCALED>(axes, table, pixel, out)),
-        Kind::ThreeD => {
-            let n = description.n;
-            pixels.for_each(|(pixel, out)| tetrahedral::<SCALED>(axes, n, table, pixel, out));
+    let n = description.n;
+    match (description.kind, description.is_mixed()) {
+        (Kind::OneD, _) => {
+            pixels.for_each(|(pixel, out)| linear::<SCALED>(axes, table, pixel, out))
+        }
+        (Kind::ThreeD, false) => {
+            pixels.for_each(|(pixel, out)| tetrahedral::<SCALED, false>(axes, n, table, pixel, out))
+        }
+        (Kind::ThreeD, true) => {
+            pixels.for_each(|(pixel, out)| tetrahedral::<SCALED, true>(axes, n, table, pixel, out))
         }
     }
 }
@@ -91,14 +96,19 @@ fn greatest_code(bits: u32) -> Result<u16, Refused> {
     }
 }
 
-/// All that one colour's codes need, worked out once.
+/// All that one colour's codes need, worked out once. Bounds are in thousandths, or in whole units
+/// where the domains are mixed.
 struct Axis {
     /// The lower bound times M.
     start: i64,
-    /// D.
-    den: u64,
+    /// The D of the colour's own domain.
+    own: u64,
     /// N - 1.
     cells: u64,
+    /// How often the own D goes into the common one of mixed domains.
+    factor: u64,
+    /// D, what the weights add up to.
+    den: u64,
     /// The sum of a value of one: no greater one has another code.
     ceiling: i64,
     /// The corrected M over the raw M in lowest terms: what is above; with equal depths it is 1.
@@ -107,19 +117,25 @@ struct Axis {
     one_code: u64,
 }
 
-fn axes(domains: &Domains, n: usize, greatest: [u16; 2]) -> [Axis; 3] {
+fn axes(description: &Description, greatest: [u16; 2]) -> [Axis; 3] {
     let [raw, corrected] = greatest.map(u64::from);
-    let common = common_divisor(raw, corrected);
-    domains.map(|[lower, upper]| {
-        let width = (upper - lower) as u64;
-        let den = raw * width;
+    let divisor = common_divisor(raw, corrected);
+    let mixed = description.is_mixed();
+    let unit = if mixed { 1000 } else { 1 };
+    let bounds = description.domains.map(|[lower, upper]| [lower / unit, upper / unit]);
+    let widths = bounds.map(|[lower, upper]| (upper - lower) as u64);
+    [0, 1, 2].map(|colour| {
+        let width = widths[colour];
+        let span = if mixed { widths.iter().product() } else { width };
         Axis {
-            start: lower * raw as i64,
-            den,
-            cells: n as u64 - 1,
-            ceiling: (den * ONE) as i64,
-            times: corrected / common,
-            one_code: raw / common * width * ONE,
+            start: bounds[colour][0] * raw as i64,
+            own: raw * width,
+            cells: description.n as u64 - 1,
+            factor: span / width,
+            den: raw * span,
+            ceiling: (raw * span * ONE) as i64,
+            times: corrected / divisor,
+            one_code: raw / divisor * span * ONE,
         }
     })
 }
@@ -133,13 +149,16 @@ fn common_divisor(one: u64, other: u64) -> u64 {
 }
 
 impl Axis {
-    /// The cell and the fraction over D of a code.
+    /// The cell and the fraction over D of a code. MIXED says whether the domains are, so that those
+    /// of one D are not multiplied by 1.
     #[inline]
-    fn place(&self, code: u16) -> (usize, u64) {
-        let along = (1000 * i64::from(code) - self.start).clamp(0, self.den as i64) as u64;
+    fn place<const MIXED: bool>(&self, code: u16) -> (usize, u64) {
+        let parts = if MIXED { 1 } else { 1000 };
+        let along = (parts * i64::from(code) - self.start).clamp(0, self.own as i64) as u64;
         let scaled = along * self.cells;
-        let cell = (scaled / self.den).min(self.cells - 1);
-        (cell as usize, scaled - cell * self.den)
+        let cell = (scaled / self.own).min(self.cells - 1);
+        let fraction = scaled - cell * self.own;
+        (cell as usize, if MIXED { self.factor * fraction } else { fraction })
     }
 
     /// The nearest code of a weighed sum, the greater of two equally near. Moved to 0 or the
@@ -155,7 +174,7 @@ impl Axis {
 #[inline]
 fn linear<const SCALED: bool>(axes: &[Axis; 3], table: &[i64], pixel: &[u16], out: &mut [u16]) {
     for (colour, axis) in axes.iter().enumerate() {
-        let (row, fraction) = axis.place(pixel[colour]);
+        let (row, fraction) = axis.place::<false>(pixel[colour]);
         let (low, high) = (table[3 * row + colour], table[3 * row + 3 + colour]);
         let sum = (axis.den - fraction) as i64 * low + fraction as i64 * high;
         out[colour] = axis.code::<SCALED>(sum);
@@ -163,16 +182,16 @@ fn linear<const SCALED: bool>(axes: &[Axis; 3], table: &[i64], pixel: &[u16], ou
 }
 
 #[inline]
-fn tetrahedral<const SCALED: bool>(
+fn tetrahedral<const SCALED: bool, const MIXED: bool>(
     axes: &[Axis; 3],
     n: usize,
     table: &[i64],
     pixel: &[u16],
     out: &mut [u16],
 ) {
-    let (red, f_red) = axes[0].place(pixel[0]);
-    let (green, f_green) = axes[1].place(pixel[1]);
-    let (blue, f_blue) = axes[2].place(pixel[2]);
+    let (red, f_red) = axes[0].place::<MIXED>(pixel[0]);
+    let (green, f_green) = axes[1].place::<MIXED>(pixel[1]);
+    let (blue, f_blue) = axes[2].place::<MIXED>(pixel[2]);
     // greatest fraction first, equal ones red, green, blue
     let mut steps = [(f_red, 1), (f_green, n), (f_blue, n * n)];
     if steps[0].0 < steps[1].0 {
@@ -188,7 +207,10 @@ fn tetrahedral<const SCALED: bool>(
     let row = red + n * green + n * n * blue;
     let rows = [row, row + step1, row + step1 + step2, row + step1 + step2 + step3];
     let weights = [axes[0].den - f1, f1 - f2, f2 - f3, f3].map(|weight| weight as i64);
-    let samples = rows.map(|row| &table[3 * row..3 * row + 3]);
+    // row by row: a `map` over the four is a call of its own where this function has several shapes
+    let samples_of = |row: usize| &table[3 * row..3 * row + 3];
+    let samples =
+        [samples_of(rows[0]), samples_of(rows[1]), samples_of(rows[2]), samples_of(rows[3])];
     for colour in 0..3 {
         let sum = (0..4).map(|corner| weights[corner] * samples[corner][colour]).sum();
         out[colour] = axes[colour].code::<SCALED>(sum);

@@ -4,7 +4,7 @@
 mod library;
 
 use baseline::picture::Bits;
-use baseline::{Description, Kind};
+use baseline::{Description, Domains, Kind};
 use std::fmt::Write;
 use std::process::ExitCode;
 use std::time::Instant;
@@ -18,20 +18,25 @@ const READING_N: usize = 65;
 const EQUAL: &[Bits] = &[Bits { raw: 8, corrected: 8 }, Bits { raw: 16, corrected: 16 }];
 const WIDER: &[Bits] = &[EQUAL[0], EQUAL[1], Bits { raw: 12, corrected: 16 }];
 
+/// One domain for all colours, and red's twice as wide.
+const ONE: Domains = [[0, 1000]; 3];
+const MIXED: Domains = [[0, 2000], [0, 1000], [0, 1000]];
+
 fn main() -> ExitCode {
     println!("pictures of {PIXELS} pixels, medians of {PICTURE_ROUNDS} rounds");
     println!("kind\tN\tbits\tours, ns a pixel\tbaseline, ns a pixel\tratio");
     let shapes = [
-        (Kind::ThreeD, 13, WIDER),
-        (Kind::ThreeD, 33, WIDER),
-        (Kind::OneD, 13, EQUAL),
-        (Kind::OneD, 33, WIDER),
-        (Kind::OneD, 1024, EQUAL),
+        (Kind::ThreeD, 13, ONE, WIDER),
+        (Kind::ThreeD, 33, ONE, WIDER),
+        (Kind::ThreeD, 33, MIXED, EQUAL),
+        (Kind::OneD, 13, ONE, EQUAL),
+        (Kind::OneD, 33, ONE, WIDER),
+        (Kind::OneD, 1024, ONE, EQUAL),
     ];
     let mut alike = true;
-    for (kind, n, depths) in shapes {
+    for (kind, n, domains, depths) in shapes {
         for bits in depths {
-            alike &= pictures(kind, n, *bits);
+            alike &= pictures(&Description { kind, n, domains }, *bits);
         }
     }
     alike &= reading();
@@ -83,11 +88,9 @@ fn median(mut times: Vec<u128>) -> f64 {
 }
 
 /// One line of the table of pictures; whether the two gave the same codes.
-fn pictures(kind: Kind, n: usize, bits: Bits) -> bool {
+fn pictures(description: &Description, bits: Bits) -> bool {
     let mut draws = Draws(1);
-    let description = Description { kind, n, domains: [[0, 1000]; 3] };
-    let mark = if kind == Kind::OneD { 1 } else { 3 };
-    let eleven = [mark, n as i64, 0, 0, 0, 1000, 1000, 1000, 0, 0, 0];
+    let eleven = eleven(description);
     let table: Vec<i64> = (0..3 * description.rows()).map(|_| draws.sample()).collect();
     let source: Vec<u16> = (0..3 * PIXELS).map(|_| draws.below(1 << bits.raw) as u16).collect();
     let (mut ours, mut plain) = (vec![0; source.len()], vec![0; source.len()]);
@@ -95,12 +98,28 @@ fn pictures(kind: Kind, n: usize, bits: Bits) -> bool {
     let (our_time, plain_time) = medians(
         PICTURE_ROUNDS,
         || number = library::picture(&eleven, &table, bits, &source, &mut ours),
-        || answer = baseline::picture::picture(&description, &table, bits, &source, &mut plain),
+        || answer = baseline::picture::picture(description, &table, bits, &source, &mut plain),
     );
     let (our_time, plain_time) = (our_time / PIXELS as f64, plain_time / PIXELS as f64);
     let ratio = our_time / plain_time;
-    println!("{mark}D\t{n}\t{}\t{our_time:.1}\t{plain_time:.1}\t{ratio:.2}", shown(bits));
+    let (kind, n, bits) = (kind_shown(description), description.n, shown(bits));
+    println!("{kind}\t{n}\t{bits}\t{our_time:.1}\t{plain_time:.1}\t{ratio:.2}");
     number == 0 && answer.is_ok() && ours == plain
+}
+
+/// The description as the library takes it.
+fn eleven(description: &Description) -> [i64; 11] {
+    let mark = if description.kind == Kind::OneD { 1 } else { 3 };
+    let [[r, to_r], [g, to_g], [b, to_b]] = description.domains;
+    [mark, description.n as i64, r, g, b, to_r, to_g, to_b, 0, 0, 0]
+}
+
+fn kind_shown(description: &Description) -> &'static str {
+    match (description.kind, description.is_mixed()) {
+        (Kind::OneD, _) => "1D",
+        (Kind::ThreeD, false) => "3D",
+        (Kind::ThreeD, true) => "3D mixed",
+    }
 }
 
 fn shown(bits: Bits) -> String {

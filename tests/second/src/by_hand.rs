@@ -1,5 +1,5 @@
-//! Document 01, "Checked by hand": every case, marked P or not; and the order of the checks
-//! that document 02 adds to.
+//! Document 01, "Checked by hand": every case, marked P or not; the order of the checks that
+//! document 02 adds to; and looks through its mixed domains, worked by hand.
 
 use crate::cases::{CUBE, SAMPLE_A2, SAMPLE_A3, SAMPLE_A4, SMALL};
 use crate::look::{look, Look};
@@ -7,6 +7,7 @@ use crate::paper::{Bits, Description, REFUSED_DESCRIPTION};
 use crate::picture::picture;
 use crate::reading::{check, read, read_into};
 use crate::report::report;
+use crate::show::list;
 
 /// The number for a file whose first sample is the word, and that sample if accepted.
 fn first_sample(word: &str) -> Result<i64, u32> {
@@ -93,7 +94,8 @@ fn half_a_domain_before_10_to_13() {
         ("DOMAIN_MIN -10 2 0", "DOMAIN_MAX 1 1 1", 10),
         ("DOMAIN_MAX 0 0 0", "DOMAIN_MIN 0 0 0", 10),
         ("DOMAIN_MIN -10 0 0", "DOMAIN_MAX 1 1 1", 11),
-        ("DOMAIN_MAX 1 2 1", "DOMAIN_MIN 0 0 0", 12),
+        ("DOMAIN_MAX 1 1.5 1", "DOMAIN_MIN 0 0 0", 12),
+        ("DOMAIN_MAX 1 2 1", "DOMAIN_MIN 0 0 0", 13),
         ("DOMAIN_MIN -1 -1 -1", "DOMAIN_MAX 1 1 1", 13),
         ("DOMAIN_MIN 0 0 0", "DOMAIN_MAX 1 1 1", 13),
         ("DOMAIN_MAX 1 1 1", "DOMAIN_MIN 0 0 0", 13),
@@ -124,6 +126,52 @@ fn half_a_domain_among_other_lines() {
     assert_eq!(both.description, [1, 2, -1000, -1000, -1000, 1000, 2000, 3000, 0, 0, 0]);
     let neither = read(SMALL.as_bytes(), 6);
     assert_eq!(neither.description, [1, 2, 0, 0, 0, 1000, 1000, 1000, 0, 0, 0]);
+}
+
+/// Document 02, Req 07: "12 only where domains differ and some bound isn't whole; 24 likewise."
+/// Bounds in thousandths, and what a 3D file that writes them so is answered.
+#[test]
+fn domains_that_differ() {
+    for (lower, upper, number) in [
+        ([0, 0, 0], [2000, 1000, 1000], 0),
+        ([0, 1000, 0], [1000, 2000, 1000], 0),
+        ([-1000, -10_000, 9000], [1000, -1000, 10_000], 0),
+        ([-10_000, -5000, 0], [0, 5000, 10_000], 0),
+        // one domain, whole or not
+        ([0; 3], [2000; 3], 0),
+        ([250; 3], [750; 3], 0),
+        ([-1; 3], [1000; 3], 0),
+        // one bound of six, as near to a whole number as can be
+        ([-1, 0, 0], [1000, 1000, 1000], 12),
+        ([0, 0, 0], [1000, 1000, 1001], 12),
+        ([0, 999, 0], [2000, 2000, 1000], 12),
+        ([0, 0, 0], [2000, 9999, 1000], 12),
+        // a bound that is another colour's too, and whole widths beside bounds that are not
+        ([0, 0, 0], [1000, 1500, 1500], 12),
+        ([500, 500, 0], [1000, 1000, 1000], 12),
+        ([0, 500, 0], [1000, 1500, 1000], 12),
+        // 10 and 11 go first
+        ([0, 0, 500], [1000, 2000, 500], 10),
+        ([-9001, 0, 0], [1000, 1000, 1000], 11),
+    ] {
+        expect_bounds(lower, upper, number);
+    }
+}
+
+/// A file with these bounds is answered the number: in 3D on its first data line or at its end,
+/// with 13 and 18 behind it; by a look it is 24, and in 1D there is no 12.
+fn expect_bounds(lower: [i64; 3], upper: [i64; 3], number: u32) {
+    let words = |bounds: [i64; 3]| list(&bounds.map(|bound| format!("{bound}e-3")), " ");
+    let lines = format!("DOMAIN_MIN {}\nDOMAIN_MAX {}\n", words(lower), words(upper));
+    let or = |otherwise: u32| if number == 0 { otherwise } else { number };
+    let file = format!("{lines}{CUBE}");
+    assert_eq!(number_and_line(&file, 24), (number, if number == 0 { 0 } else { 4 }), "{lines}");
+    assert_eq!(number_and_line(&file, 23), (or(13), 4), "{lines}");
+    assert_eq!(number_and_line(&format!("{lines}LUT_3D_SIZE 2"), 24), (or(18), 3), "{lines}");
+    let looked = look(&domained(2, lower, upper), &[0; 24], Bits::same(8), [0; 3]);
+    assert_eq!(looked.number, if number == 0 { 0 } else { 24 }, "{lines}");
+    let in_1d = number_for(&format!("{lines}{SMALL}"), 6);
+    assert_eq!(in_1d, if number == 12 { 0 } else { number }, "{lines}");
 }
 
 /// Judged with no table: number, line and places.
@@ -240,6 +288,135 @@ fn three_dimensional() {
     let source = [51, 102, 204, 255, 255, 255];
     assert_eq!(picture(&description, &table, Bits::same(8), &source, &mut output), 0);
     assert_eq!(output, [51, 51, 51, 255, 255, 255, 9]);
+}
+
+/// The description of a 3D table with these bounds.
+fn domained(n: i64, [r, g, b]: [i64; 3], [to_r, to_g, to_b]: [i64; 3]) -> Description {
+    [3, n, r, g, b, to_r, to_g, to_b, 0, 0, 0]
+}
+
+/// A look at 8 bits through a table in which each sample is its colour's index, as a part of N - 1.
+/// So a colour's value is how far its index and fraction are along its axis.
+fn along(n: i64, lower: [i64; 3], upper: [i64; 3], pixel: [u16; 3]) -> Look {
+    let mut table = Vec::new();
+    for row in 0..n * n * n {
+        let index = [row % n, row / n % n, row / (n * n)];
+        table.extend(index.map(|i| i * 10_000_000 / (n - 1)));
+    }
+    look(&domained(n, lower, upper), &table, Bits::same(8), pixel)
+}
+
+/// Document 02, Req 07: "Our ultraviolet-filtered head uses red 0 to 2 while the others use 0 to
+/// 1." N = 2, so every i is 0, and D is 255·2·1·1 = 510.
+#[test]
+fn red_to_2_beside_1() {
+    // Red is 200 of its own 255·2, so 200 of 510; green 120 of 255, so 240; blue 60, so 120. The
+    // order is green, red, blue, though 200 is the greatest of the three numerators.
+    let expected = Look {
+        number: 0,
+        // 200/510, 240/510 and 120/510 of 255
+        codes: [100, 120, 60],
+        rows: [0, 2, 3, 7, 0, 0],
+        // 510 - 240, 240 - 200, 200 - 120, 120
+        weights: [270, 40, 80, 120, 0, 0],
+    };
+    assert_eq!(along(2, [0; 3], [2000, 1000, 1000], [200, 120, 60]), expected);
+    // Red and green are 204 of 510, and stand in that order; blue is 510, all of it.
+    let expected = Look {
+        number: 0,
+        codes: [102, 102, 255],
+        rows: [0, 4, 5, 7, 0, 0],
+        weights: [0, 306, 0, 204, 0, 0],
+    };
+    assert_eq!(along(2, [0; 3], [2000, 1000, 1000], [204, 102, 255]), expected);
+    // Document 01's 3D file and pixel: 51, 204 and 408 of 510. Row 7 alone is not 0, and 51/510 of
+    // 255 is 25 and a half.
+    let (mut description, table) = cube();
+    description[5] = 2000;
+    let expected = Look {
+        number: 0,
+        codes: [26; 3],
+        rows: [0, 4, 6, 7, 0, 0],
+        weights: [102, 204, 153, 51, 0, 0],
+    };
+    assert_eq!(look(&description, &table, Bits::same(8), [51, 102, 204]), expected);
+    // The same at 16 bits: 25.5/255 of 65535 is 6553 and a half.
+    let to_16 = look(&description, &table, Bits { raw: 8, corrected: 16 }, [51, 102, 204]);
+    assert_eq!(to_16, Look { codes: [6554; 3], ..expected });
+}
+
+/// Widths of 1 alone, yet the domains differ: D is 255·1·1·1, and not 255·1000.
+#[test]
+fn equal_widths_of_domains_that_differ() {
+    // Red from 0 to 1 is 51 of 255. Green from 1 to 2 is at or below its lower bound, whatever its
+    // code, so 0. Blue from -1 to 0 is above its upper bound, so all of 255.
+    let expected = Look {
+        number: 0,
+        codes: [51, 0, 255],
+        rows: [0, 4, 5, 7, 0, 0],
+        // 255 - 255, 255 - 51, 51 - 0, 0
+        weights: [0, 204, 51, 0, 0, 0],
+    };
+    let (lower, upper) = ([0, 1000, -1000], [1000, 2000, 0]);
+    assert_eq!(along(2, lower, upper, [51, 102, 204]), expected);
+    // At 255 green is at its lower bound, which is no other place.
+    assert_eq!(along(2, lower, upper, [51, 255, 204]), expected);
+    // One domain from 0 to 1 for all has thousandths, as before.
+    let one = along(2, [0; 3], [1000; 3], [51, 102, 204]);
+    assert_eq!(one.weights, [51_000, 102_000, 51_000, 51_000, 0, 0]);
+}
+
+/// N = 3, red from -1 to 1 beside 0 to 1: D is 255·2·1·1 = 510.
+#[test]
+fn mixed_domains_of_three_rows() {
+    // Red: a = 85 + 255 = 340 and p = 680, so i = 1 and f = 170 of 510. Green: p = 256, so i = 1
+    // and f = 1 of 255, or 2 of 510. Blue: p = 170, so i = 0 and f = 170 of 255, or 340 of 510.
+    // Red and blue have the same numerator, and blue the greater fraction.
+    let expected = Look {
+        number: 0,
+        // (1 + 170/510)/2, (1 + 2/510)/2 and 340/510/2 of 255
+        codes: [170, 128, 85],
+        // from 1 + 3·1 + 9·0 along blue, red, green
+        rows: [4, 13, 14, 17, 0, 0],
+        // 510 - 340, 340 - 170, 170 - 2, 2
+        weights: [170, 170, 168, 2, 0, 0],
+    };
+    assert_eq!(along(3, [-1000, 0, 0], [1000, 1000, 1000], [85, 128, 85]), expected);
+    // Red at 0 is on the border of its two cells, in the upper one; the others are within cells.
+    let border = along(3, [-1000, 0, 0], [1000, 1000, 1000], [0, 128, 85]);
+    assert_eq!(border.rows, [4, 13, 16, 17, 0, 0]);
+    assert_eq!(border.weights, [170, 338, 2, 0, 0, 0]);
+    assert_eq!(border.codes, [128, 128, 85]);
+}
+
+/// Widths of 2, 1 and 4: D is 255·8 = 2040, and 40 of 510, 20 of 255 and 80 of 1020 are each 160
+/// of it. Equal ones stand red, green, blue.
+#[test]
+fn equal_fractions_of_unlike_numerators() {
+    let three = along(2, [0; 3], [2000, 1000, 4000], [40, 20, 80]);
+    assert_eq!(three.rows, [0, 1, 3, 7, 0, 0]);
+    assert_eq!(three.weights, [1880, 0, 0, 160, 0, 0]);
+    assert_eq!(three.codes, [20; 3]);
+    // Blue one code more is 162, and stands first; green and blue one more are 168 and 162.
+    let two = along(2, [0; 3], [2000, 1000, 4000], [40, 20, 81]);
+    assert_eq!(two.rows, [0, 4, 5, 7, 0, 0]);
+    assert_eq!(two.weights, [1878, 2, 0, 160, 0, 0]);
+    let none = along(2, [0; 3], [2000, 1000, 4000], [40, 21, 81]);
+    assert_eq!(none.rows, [0, 2, 6, 7, 0, 0]);
+    assert_eq!(none.weights, [1872, 6, 2, 160, 0, 0]);
+}
+
+/// The greatest D of mixed domains, 65535·10·10·10, and the greatest S: every sample is 1000.
+#[test]
+fn widest_mixed_domains() {
+    let description = domained(2, [-10_000, -5000, 0], [0, 5000, 10_000]);
+    // Red is above its domain, so all of D; green is 5/10 of its width and a tenth of 32768/65535
+    // more; blue is a tenth of 1/65535 of its width.
+    let seen = look(&description, &[10_000_000_000; 24], Bits::same(16), [1, 32_768, 1]);
+    assert_eq!(seen.rows, [0, 1, 3, 7, 0, 0]);
+    let (green, blue) = ((5 * 65_535 + 32_768) * 100, 100);
+    assert_eq!(seen.weights, [0, 65_535_000 - green, green - blue, blue, 0, 0]);
+    assert_eq!(seen.codes, [65_535; 3]);
 }
 
 #[test]

@@ -108,8 +108,44 @@
 //! | check-sample-a3 | sample A.3, each line ended by NL |
 //!
 //! A size that passes is answered 18 here, for want of rows.
+//!
+//! Mixed domains, in 3D with N = 2. STAIR's rows are 0 but for 1 in red in row 4, in green in row 6
+//! and in blue in row 7. HEAD(lower; upper) is `LUT_3D_SIZE 2` and the two lines of the domain, each
+//! ended by NL.
+//!
+//! | name | call | file | places |
+//! |---|---|---|---|
+//! | domain-mixed | read | HEAD(0 0 0; 2 1 1), STAIR | 24 |
+//! | domain-mixed-23-places | read | the same | 23 |
+//! | domain-mixed-not-whole | read | HEAD(0 0 0; 2 1.5 1), `0 0 0`, NL | 24 |
+//! | domain-mixed-shared-not-whole | read | HEAD(0 -1 0; 1.5 1.5 1.5), `0 0 0`, NL | 24 |
+//! | domain-one-not-whole | read | HEAD(0 0 0; 1.5 1.5 1.5), CUBE's rows | 24 |
+//! | check-domain-mixed | check | as domain-mixed | |
+//!
+//! | name | call | bits | lower bounds | upper bounds | pixels |
+//! |---|---|---|---|---|---|
+//! | look-mixed | look | 8 to 8 | 0 0 0 | 2000 1000 1000 | 51 102 204 |
+//! | look-mixed-order | look | 8 to 8 | 0 0 0 | 2000 1000 1000 | 120 100 200 |
+//! | look-mixed-12-to-16 | look | 12 to 16 | 0 0 0 | 2000 1000 1000 | 819 1638 3276 |
+//! | look-mixed-tie | look | 8 to 8 | 0 0 0 | 1000 2000 1000 | 50 100 25 |
+//! | look-mixed-beyond | look | 8 to 8 | 0 -1000 1000 | 2000 0 2000 | 51 102 204 |
+//! | look-mixed-equal-widths | look | 8 to 8 | 0 0 1000 | 1000 1000 2000 | 51 102 204 |
+//! | look-one-to-two | look | 8 to 8 | 0 0 0 | 2000 2000 2000 | 51 102 204 |
+//! | look-mixed-not-whole | look | 8 to 8 | 0 0 0 | 2000 1500 1000 | 51 102 204 |
+//! | picture-mixed | picture | 8 to 8 | 0 0 0 | 2000 1000 1000 | 51 102 204 120 100 200 |
+//! | picture-mixed-not-whole | picture | 8 to 8 | 0 0 0 | 2000 1500 1000 | the same |
+//!
+//! All of these have STAIR's 24 numbers. The first picture has 8 places, the other 6.
+//!
+//! By hand: with red to 2, D is 510, and a red code counts once and the others twice: 51 204 408
+//! and 120 200 400, so that blue stands first and red last in both. The weights are 102 204 153 51
+//! and 110 200 80 120, and red's code is the weight of row 4 as a part of 510, green's that of row 6
+//! and blue's that of row 7: 204/510 of 255 is 102, 153/510 of it 76 and a half, 51/510 of it 25 and
+//! a half. With green to 2 the pixel 50 100 25 has 100 of 510 in red and green, and red stands first.
+//! Green from -1 to 0 is at its upper bound, blue from 1 to 2 at its lower one. One domain to 2 has
+//! D = 510000, as before.
 
-use crate::look::look;
+use crate::look::{look, Look};
 use crate::paper::Bits;
 use crate::picture::picture;
 use crate::reading::{check, read_into};
@@ -136,7 +172,13 @@ pub fn printed() -> String {
         check_line("check-cube", CUBE),
         check_line("check-sample-a3", SAMPLE_A3),
     ];
-    reads.chain(look_lines()).chain(picture_lines()).chain(checks).map(|line| line + "\n").collect()
+    reads
+        .chain(look_lines())
+        .chain(picture_lines())
+        .chain(checks)
+        .chain(mixed_domains())
+        .map(|line| line + "\n")
+        .collect()
 }
 
 fn look_lines() -> [String; 12] {
@@ -255,7 +297,10 @@ fn look_line(
 ) -> String {
     let description = [1, 2, lo, lo, lo, up, up, up, 0, 0, 0];
     let table = [0, 0, 0, last, last, last];
-    let look = look(&description, &table, Bits { raw, corrected }, [code; 3]);
+    looked(name, look(&description, &table, Bits { raw, corrected }, [code; 3]))
+}
+
+fn looked(name: &str, look: Look) -> String {
     let mut fields = vec![i64::from(look.number)];
     fields.extend(look.codes.map(i64::from));
     fields.extend(look.rows.map(i64::from));
@@ -263,12 +308,22 @@ fn look_line(
     format!("{name}\t{}", list(&fields, "\t"))
 }
 
-fn picture_line(name: &str, [raw, corrected]: [u32; 2], source: &[u16], places: usize) -> String {
-    let description = [3, 2, 0, 0, 0, 1000, 1000, 1000, 0, 0, 0];
+/// CUBE's 24 numbers.
+fn cube_table() -> [i64; 24] {
     let mut table = [0; 24];
     table[21..].fill(10_000_000);
+    table
+}
+
+fn picture_line(name: &str, [raw, corrected]: [u32; 2], source: &[u16], places: usize) -> String {
+    let description = [3, 2, 0, 0, 0, 1000, 1000, 1000, 0, 0, 0];
     let mut output = vec![7; places];
-    let number = picture(&description, &table, Bits { raw, corrected }, source, &mut output);
+    let bits = Bits { raw, corrected };
+    let number = picture(&description, &cube_table(), bits, source, &mut output);
+    pictured(name, number, output)
+}
+
+fn pictured(name: &str, number: u32, output: Vec<u16>) -> String {
     let mut fields = vec![i64::from(number)];
     fields.extend(output.into_iter().map(i64::from));
     format!("{name}\t{}", list(&fields, "\t"))
@@ -280,4 +335,80 @@ fn check_line(name: &str, file: &str) -> String {
     fields.extend(check.description);
     fields.push(check.places as i64);
     format!("{name}\t{}", list(&fields, "\t"))
+}
+
+// ---- mixed domains
+
+fn mixed_domains() -> Vec<String> {
+    let mut lines = mixed_reads();
+    lines.extend(mixed_looks());
+    lines.extend(mixed_pictures());
+    lines
+}
+
+fn headed(lower: &str, upper: &str, rows: &str) -> String {
+    format!("LUT_3D_SIZE 2\nDOMAIN_MIN {lower}\nDOMAIN_MAX {upper}\n{rows}")
+}
+
+fn mixed_reads() -> Vec<String> {
+    let stair = "0 0 0\n0 0 0\n0 0 0\n0 0 0\n1 0 0\n0 0 0\n0 1 0\n0 0 1\n";
+    let mixed = headed("0 0 0", "2 1 1", stair);
+    let uneven = headed("0 0 0", "2 1.5 1", "0 0 0\n");
+    let shared = headed("0 -1 0", "1.5 1.5 1.5", "0 0 0\n");
+    let one = headed("0 0 0", "1.5 1.5 1.5", CUBE.split_once('\n').map_or("", |(_, rows)| rows));
+    vec![
+        read_line("domain-mixed", &mixed, 24),
+        read_line("domain-mixed-23-places", &mixed, 23),
+        read_line("domain-mixed-not-whole", &uneven, 24),
+        read_line("domain-mixed-shared-not-whole", &shared, 24),
+        read_line("domain-one-not-whole", &one, 24),
+        check_line("check-domain-mixed", &mixed),
+    ]
+}
+
+/// STAIR's 24 numbers.
+fn stair() -> [i64; 24] {
+    let mut table = [0; 24];
+    for place in [12, 19, 23] {
+        table[place] = 10_000_000;
+    }
+    table
+}
+
+fn mixed_looks() -> [String; 8] {
+    let (pixel, red_to_2) = ([51, 102, 204], [2000, 1000, 1000]);
+    [
+        mixed_look("look-mixed", [8, 8], [0; 3], red_to_2, pixel),
+        mixed_look("look-mixed-order", [8, 8], [0; 3], red_to_2, [120, 100, 200]),
+        mixed_look("look-mixed-12-to-16", [12, 16], [0; 3], red_to_2, [819, 1638, 3276]),
+        mixed_look("look-mixed-tie", [8, 8], [0; 3], [1000, 2000, 1000], [50, 100, 25]),
+        mixed_look("look-mixed-beyond", [8, 8], [0, -1000, 1000], [2000, 0, 2000], pixel),
+        mixed_look("look-mixed-equal-widths", [8, 8], [0, 0, 1000], [1000, 1000, 2000], pixel),
+        mixed_look("look-one-to-two", [8, 8], [0; 3], [2000; 3], pixel),
+        mixed_look("look-mixed-not-whole", [8, 8], [0; 3], [2000, 1500, 1000], pixel),
+    ]
+}
+
+fn mixed_look(
+    name: &str,
+    [raw, corrected]: [u32; 2],
+    [r, g, b]: [i64; 3],
+    [to_r, to_g, to_b]: [i64; 3],
+    pixel: [u16; 3],
+) -> String {
+    let description = [3, 2, r, g, b, to_r, to_g, to_b, 0, 0, 0];
+    looked(name, look(&description, &stair(), Bits { raw, corrected }, pixel))
+}
+
+fn mixed_pictures() -> [String; 2] {
+    let pixels = [51, 102, 204, 120, 100, 200];
+    let bits = Bits { raw: 8, corrected: 8 };
+    [("picture-mixed", 1000, 8), ("picture-mixed-not-whole", 1500, 6)].map(
+        |(name, green, places)| {
+            let description = [3, 2, 0, 0, 0, 2000, green, 1000, 0, 0, 0];
+            let mut output = vec![7; places];
+            let number = picture(&description, &stair(), bits, &pixels, &mut output);
+            pictured(name, number, output)
+        },
+    )
 }

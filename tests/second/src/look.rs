@@ -3,10 +3,15 @@
 //! Document 01, "Interpolation", with document 02's two depths: "The position [...] use[s] the raw
 //! M; nearest, and the range of corrected codes, use the corrected M." All numbers are 128 bits wide, so that nothing
 //! depends on how far the paper's "fits 64 signed bits" goes.
+//!
+//! Where the domains of a 3D table differ (Req 07), every bound is whole, and bounds are counted in
+//! whole units from the start: so a fraction's own denominator is M times its own width in them,
+//! and goes into the common one as often as the product of the other two widths.
 
 use crate::paper::{colours, number, place, Bits, Description, Greatest, Kind};
-use crate::paper::{differ_in_3d, some_lower_not_below, some_too_wide};
+use crate::paper::{differ_and_not_whole, differ_in_3d, some_lower_not_below, some_too_wide};
 use crate::paper::{BOUND_UNITS, GREATEST_BOUND, GREATEST_SAMPLE, SAMPLE_UNITS};
+use std::cmp::Ordering;
 
 /// The complete answer of look.
 #[derive(Clone, PartialEq, Eq, Debug)]
@@ -62,7 +67,7 @@ impl<'a> Cube<'a> {
         }
         if some_lower_not_below(&lower, &upper)
             || some_too_wide(&lower, &upper)
-            || differ_in_3d(kind, &lower, &upper)
+            || differ_and_not_whole(kind, &lower, &upper)
         {
             return None;
         }
@@ -76,18 +81,47 @@ impl<'a> Cube<'a> {
         let positions = [0, 1, 2].map(|colour| self.position(m.raw, colour, pixel[colour]));
         match self.kind {
             Kind::OneD => self.correct_1d(m.corrected, &positions),
-            Kind::ThreeD => self.correct_3d(m.corrected, &positions),
+            Kind::ThreeD => self.correct_3d(m.corrected, self.common_den(m.raw), &positions),
         }
     }
 
+    /// Whether the three fractions have to be brought to a common denominator.
+    fn is_mixed(&self) -> bool {
+        differ_in_3d(self.kind, &self.lower, &self.upper)
+    }
+
+    /// How many parts a whole of a domain has: a thousand, or of mixed domains one, since their
+    /// widths are "in whole units".
+    fn parts(&self) -> i64 {
+        if self.is_mixed() {
+            1
+        } else {
+            BOUND_UNITS
+        }
+    }
+
+    /// The lower bound and the width of a colour's domain, in those parts.
+    fn domain(&self, colour: usize) -> (i128, i128) {
+        let in_parts = |bound: i64| i128::from(bound * self.parts() / BOUND_UNITS);
+        let (lo, up) = (in_parts(self.lower[colour]), in_parts(self.upper[colour]));
+        (lo, up - lo)
+    }
+
+    /// "the common denominator M times the three widths in whole units, and weights add up to
+    /// that; tables with equal domains keep their present weights" (document 02, Req 07).
+    fn common_den(&self, m: u16) -> i128 {
+        let widths = [0, 1, 2].map(|colour| self.domain(colour).1);
+        let width = if self.is_mixed() { widths.iter().product() } else { widths[0] };
+        i128::from(m) * width
+    }
+
     /// "D = M·w. Let a be 1000·c - lo·M, moved to 0 if less and to D if more. Let p =
-    /// a·(N-1), i the smaller of p div D and N-2, and f = p - i·D."
+    /// a·(N-1), i the smaller of p div D and N-2, and f = p - i·D." In whole units 1000 is 1.
     fn position(&self, m: u16, colour: usize, code: u16) -> Position {
         let (m, c, n) = (i128::from(m), i128::from(code), i128::from(self.n));
-        let lo = i128::from(self.lower[colour]);
-        let w = i128::from(self.upper[colour]) - lo;
+        let (lo, w) = self.domain(colour);
         let den = m * w;
-        let a = (i128::from(BOUND_UNITS) * c - lo * m).clamp(0, den);
+        let a = (i128::from(self.parts()) * c - lo * m).clamp(0, den);
         let p = a * (n - 1);
         let i = (p / den).min(n - 2);
         Position { i, f: p - i * den, den }
@@ -106,16 +140,16 @@ impl<'a> Cube<'a> {
 
     /// "3D: sort the three f, greatest first; equal ones stand red, green, blue. Start at
     /// the row of the three i; step one index up along each axis in that order. The four
-    /// rows met have weights D - f1, f1 - f2, f2 - f3, f3."
-    fn correct_3d(&self, m: u16, positions: &[Position; 3]) -> Look {
-        let den = positions[0].den;
+    /// rows met have weights D - f1, f1 - f2, f2 - f3, f3." Of each f it is asked how many parts
+    /// of the common D it is.
+    fn correct_3d(&self, m: u16, den: i128, positions: &[Position; 3]) -> Look {
         let axes = greatest_first(positions);
         let mut index = [0, 1, 2].map(|colour| positions[colour].i);
-        let mut path = vec![(self.row(&index), den - positions[axes[0]].f)];
+        let mut path = vec![(self.row(&index), den - positions[axes[0]].over(den))];
         for (step, axis) in axes.iter().enumerate() {
             index[*axis] += 1;
-            let next = axes.get(step + 1).map_or(0, |after| positions[*after].f);
-            path.push((self.row(&index), positions[*axis].f - next));
+            let next = axes.get(step + 1).map_or(0, |after| positions[*after].over(den));
+            path.push((self.row(&index), positions[*axis].over(den) - next));
         }
         let mut look = refused(number::ACCEPTED);
         look.codes = [0, 1, 2].map(|colour| nearest(self.value(&path, colour, den), m));
@@ -146,10 +180,22 @@ struct Position {
     den: i128,
 }
 
-/// The axes by falling f; a stable sort, so that "equal ones stand red, green, blue".
+impl Position {
+    /// f as so many parts of another D, into which its own goes.
+    fn over(&self, den: i128) -> i128 {
+        self.f * (den / self.den)
+    }
+
+    /// Two fractions f / D are compared crosswise, whatever each D is.
+    fn compare(&self, other: &Position) -> Ordering {
+        (self.f * other.den).cmp(&(other.f * self.den))
+    }
+}
+
+/// The axes by falling f / D; a stable sort, so that "equal ones stand red, green, blue".
 fn greatest_first(positions: &[Position; 3]) -> [usize; 3] {
     let mut axes = [0, 1, 2];
-    axes.sort_by(|one, other| positions[*other].f.cmp(&positions[*one].f));
+    axes.sort_by(|one, other| positions[*other].compare(&positions[*one]));
     axes
 }
 
@@ -232,6 +278,14 @@ mod tests {
         assert_eq!(greatest_first(&[at(1), at(2), at(2)]), [1, 2, 0]);
         assert_eq!(greatest_first(&[at(2), at(1), at(2)]), [0, 2, 1]);
         assert_eq!(greatest_first(&[at(1), at(2), at(3)]), [2, 1, 0]);
+    }
+
+    #[test]
+    fn fractions_stand_by_what_they_are_and_not_by_their_numerators() {
+        let at = |f, den| Position { i: 0, f, den };
+        assert_eq!(greatest_first(&[at(4, 20), at(3, 10), at(9, 90)]), [1, 0, 2]);
+        assert_eq!(greatest_first(&[at(6, 60), at(1, 10), at(3, 30)]), [0, 1, 2]);
+        assert_eq!(greatest_first(&[at(5, 60), at(1, 10), at(3, 30)]), [1, 2, 0]);
     }
 
     #[test]

@@ -163,8 +163,18 @@ pub fn some_too_wide(lower: &[i64; 3], upper: &[i64; 3]) -> bool {
     (0..3).any(|c| i128::from(upper[c]) - i128::from(lower[c]) > i128::from(GREATEST_WIDTH))
 }
 
-/// 12: "3D with domains that differ between colours".
+/// "3D with domains that differ between colours": by any bound, whatever the widths.
 pub fn differ_in_3d(kind: Kind, lower: &[i64; 3], upper: &[i64; 3]) -> bool {
     let alike = |bounds: &[i64; 3]| bounds[0] == bounds[1] && bounds[1] == bounds[2];
     kind == Kind::ThreeD && !(alike(lower) && alike(upper))
+}
+
+/// Of six bounds, the lower ones first, which are no whole numbers.
+pub fn not_whole(lower: &[i64; 3], upper: &[i64; 3]) -> [bool; 6] {
+    [0, 1, 2, 3, 4, 5].map(|at| [lower, upper][at / 3][at % 3] % BOUND_UNITS != 0)
+}
+
+/// 12: "only where domains differ and some bound isn't whole" (document 02, Req 07).
+pub fn differ_and_not_whole(kind: Kind, lower: &[i64; 3], upper: &[i64; 3]) -> bool {
+    differ_in_3d(kind, lower, upper) && not_whole(lower, upper).contains(&true)
 }

@@ -1,10 +1,10 @@
 //! Reading: the bytes of one .cube file to a description and samples, or a refusal.
 //!
-//! Document 01, "Lines" and "Answers by number", and document 02, Req 05. One line is
-//! taken after another; "the first refused line decides".
+//! Document 01, "Lines" and "Answers by number", and document 02, Req 05 and Req 07. One line
+//! is taken after another; "the first refused line decides".
 
 use crate::decimal::{self, Value, TEN_MILLIONTHS, THOUSANDTHS};
-use crate::paper::{differ_in_3d, some_lower_not_below, some_too_wide};
+use crate::paper::{differ_and_not_whole, some_lower_not_below, some_too_wide};
 use crate::paper::{number, place, Description, Kind};
 use crate::paper::{DEFAULT_LOWER, DEFAULT_UPPER, LONGEST_LINE, REFUSED_DESCRIPTION};
 
@@ -239,7 +239,7 @@ impl SoFar {
         if some_too_wide(&lower, &upper) {
             return Err(number::DOMAIN_TOO_WIDE);
         }
-        if differ_in_3d(kind, &lower, &upper) {
+        if differ_and_not_whole(kind, &lower, &upper) {
             return Err(number::DOMAINS_DIFFER);
         }
         let rows = kind.rows(n);
@@ -311,7 +311,7 @@ fn title(line: &[u8], first_place: usize) -> Result<Title, u32> {
 }
 
 /// "DOMAIN_MIN and DOMAIN_MAX, three numbers": 6 for all three before 8.
-fn bounds(line: &[u8]) -> Result<[i64; 3], u32> {
+pub fn bounds(line: &[u8]) -> Result<[i64; 3], u32> {
     let fields = three(words(line).skip(1)).ok_or(number::PARAMETERS_WRONG)?;
     let values = fields.map(|word| decimal::value(word, &THOUSANDTHS));
     if values.contains(&Value::NotANumber) {

@@ -2,10 +2,12 @@
 
 use crate::gen::{file_case, look_case, picture_case, FileCase, LookCase, PictureCase};
 use crate::look::{look, Look};
+use crate::met::{bound_of_12_met, bound_of_24_met, domains_met};
 use crate::met::{depth_refusals_met, halves_met, met, order_met, pair_met, points_met};
-use crate::met::{DEPTH_REFUSALS, DEPTH_REFUSALS_OF_LOOK, DIVIDED};
-use crate::met::{HALVES, JUDGED, NAMES, ORDERS, PAIRS, POINTS};
-use crate::paper::{number, Bits};
+use crate::met::{is_mixed, mixed_met, shapes_met, widths_met};
+use crate::met::{BOUNDS, DEPTH_REFUSALS, DEPTH_REFUSALS_OF_LOOK, DIVIDED, DOMAINS, HALVES};
+use crate::met::{JUDGED, MIXED, NAMES, ORDERS, PAIRS, POINTS, SHAPES, WIDTHS};
+use crate::paper::{number, Bits, Description};
 use crate::picture::picture;
 use crate::reading::Check;
 use crate::show::{list, quoted, shortened, where_not_zero};
@@ -47,11 +49,25 @@ pub struct Counts {
     picture: BTreeMap<u32, u64>,
     points: [u64; POINTS.len()],
     halves: [[u64; HALVES.len()]; JUDGED.len()],
+    domains: [u64; DOMAINS.len()],
+    bound_of_12: [u64; BOUNDS.len()],
+    accepted: Accepted,
+    accepted_mixed: Accepted,
+    mixed: [u64; MIXED.len()],
+    shapes: [u64; SHAPES.len()],
+    widths: [u64; WIDTHS.len()],
+    looks: ByDepths,
+    looks_by_domains: ByDomains,
+    pictures: ByDepths,
+    pictures_by_domains: ByDomains,
+}
+
+/// What accepted looks met, of all domains or of mixed ones.
+#[derive(Default)]
+struct Accepted {
     met: [u64; NAMES.len()],
     orders: [u64; ORDERS.len()],
     divided: [[u64; PAIRS.len()]; DIVIDED],
-    looks: ByDepths,
-    pictures: ByDepths,
 }
 
 /// What a call's two depths came to.
@@ -59,6 +75,14 @@ pub struct Counts {
 struct ByDepths {
     accepted: [u64; PAIRS.len()],
     refused: [u64; DEPTH_REFUSALS.len()],
+}
+
+/// What a call's mixed domains came to: at which depths they were accepted, and by which bound
+/// they were refused.
+#[derive(Default)]
+struct ByDomains {
+    accepted: [u64; PAIRS.len()],
+    bound_of_24: [u64; BOUNDS.len()],
 }
 
 /// What was met: a title, names, and how often each of them.
@@ -88,23 +112,25 @@ impl Counts {
         for (judged, counts) in JUDGED.iter().zip(&self.halves) {
             met.push((format!("files met {judged}"), &HALVES, counts));
         }
+        met.push(("files met in 3D".to_string(), &DOMAINS, &self.domains));
+        met.push(("files refused with 12 by one bound".to_string(), &BOUNDS, &self.bound_of_12));
         met
     }
 
     fn looks_met(&self) -> Vec<Met<'_>> {
-        let mut met: Vec<Met> = vec![
-            ("looks met".to_string(), &NAMES, &self.met),
-            ("looks met in 3D".to_string(), &ORDERS, &self.orders),
-        ];
-        for (name, counts) in NAMES.iter().zip(&self.divided) {
-            met.push((format!("looks met {name}"), &PAIRS, counts));
-        }
+        let mut met = self.accepted.met("");
+        met.extend(self.accepted_mixed.met(" with mixed domains"));
+        met.push(("looks met by mixed domains".to_string(), &MIXED, &self.mixed));
+        met.push(("looks met with mixed domains that have".to_string(), &SHAPES, &self.shapes));
+        met.push(("looks met with mixed domains of width".to_string(), &WIDTHS, &self.widths));
         met.extend(self.looks.met("looks", &DEPTH_REFUSALS[..DEPTH_REFUSALS_OF_LOOK]));
+        met.extend(self.looks_by_domains.met("looks"));
         met
     }
 
     fn pictures_met(&self) -> Vec<Met<'_>> {
-        self.pictures.met("pictures", &DEPTH_REFUSALS).to_vec()
+        let by_depths = self.pictures.met("pictures", &DEPTH_REFUSALS);
+        by_depths.into_iter().chain(self.pictures_by_domains.met("pictures")).collect()
     }
 
     fn note_file(&mut self, case: &FileCase, answer: &ReadAnswer) {
@@ -113,25 +139,32 @@ impl Counts {
         for (counts, met) in self.halves.iter_mut().zip(halves_met(case, answer)) {
             add_met(counts, &met);
         }
+        add_met(&mut self.domains, &domains_met(case, answer));
+        add_met(&mut self.bound_of_12, &bound_of_12_met(case, answer));
     }
 
     fn note_look(&mut self, case: &LookCase, answer: &Look) {
         *self.look.entry(answer.number).or_default() += 1;
+        let (description, table) = (&case.description, &case.table);
+        self.looks_by_domains.note(description, table, case.bits, &case.pixel, answer.number);
         self.looks.note(case.bits, &case.pixel, answer.number, |bits| {
             look(&case.description, &case.table, bits, case.pixel).number
         });
         if answer.number == number::ACCEPTED {
-            let met = met(case, answer);
-            add_met(&mut self.met, &met);
-            add_met(&mut self.orders, &order_met(case, answer));
-            for (counts, _) in self.divided.iter_mut().zip(met).filter(|(_, on)| *on) {
-                add_met(counts, &pair_met(case.bits));
+            self.accepted.note(case, answer);
+            if is_mixed(&case.description) {
+                self.accepted_mixed.note(case, answer);
+                add_met(&mut self.mixed, &mixed_met(case, answer));
+                add_met(&mut self.shapes, &shapes_met(&case.description));
+                add_met(&mut self.widths, &widths_met(&case.description));
             }
         }
     }
 
     fn note_picture(&mut self, case: &PictureCase, number: u32) {
         *self.picture.entry(number).or_default() += 1;
+        let (description, table) = (&case.description, &case.table);
+        self.pictures_by_domains.note(description, table, case.bits, &case.source, number);
         self.pictures.note(case.bits, &case.source, number, |bits| {
             let output = &mut vec![0; case.output_len];
             picture(&case.description, &case.table, bits, &case.source, output)
@@ -158,6 +191,29 @@ impl Counts {
     }
 }
 
+impl Accepted {
+    fn note(&mut self, case: &LookCase, look: &Look) {
+        let met = met(case, look);
+        add_met(&mut self.met, &met);
+        add_met(&mut self.orders, &order_met(case, look));
+        for (counts, _) in self.divided.iter_mut().zip(met).filter(|(_, on)| *on) {
+            add_met(counts, &pair_met(case.bits));
+        }
+    }
+
+    /// What these looks met, behind titles that say of which domains they are.
+    fn met(&self, domains: &str) -> Vec<Met<'_>> {
+        let mut met: Vec<Met> = vec![
+            (format!("looks met{domains}"), &NAMES, &self.met),
+            (format!("looks met in 3D{domains}"), &ORDERS, &self.orders),
+        ];
+        for (name, counts) in NAMES.iter().zip(&self.divided) {
+            met.push((format!("looks met {name}{domains}"), &PAIRS, counts));
+        }
+        met
+    }
+}
+
 impl ByDepths {
     /// Adds a call with these depths and codes that answered the number. An accepted picture
     /// without a pixel shows nothing.
@@ -171,6 +227,29 @@ impl ByDepths {
     fn met(&self, calls: &str, refusals: &'static [&'static str]) -> [Met<'_>; 2] {
         let accepted = (format!("{calls} accepted"), &PAIRS[..], &self.accepted[..]);
         [accepted, (format!("{calls} refused"), refusals, &self.refused)]
+    }
+}
+
+impl ByDomains {
+    /// Adds a call that answered the number.
+    fn note(
+        &mut self,
+        description: &Description,
+        table: &[i64],
+        bits: Bits,
+        codes: &[u16],
+        number: u32,
+    ) {
+        if number == number::ACCEPTED && !codes.is_empty() && is_mixed(description) {
+            add_met(&mut self.accepted, &pair_met(bits));
+        }
+        add_met(&mut self.bound_of_24, &bound_of_24_met(description, table, number));
+    }
+
+    fn met(&self, calls: &str) -> [Met<'_>; 2] {
+        let accepted = format!("{calls} accepted with mixed domains");
+        let refused = format!("{calls} refused with 24 by one bound");
+        [(accepted, &PAIRS, &self.accepted), (refused, &BOUNDS, &self.bound_of_24)]
     }
 }
 
@@ -359,10 +438,11 @@ fn two<T>(own: Result<T, String>, other: Result<T, String>, show: impl Fn(&T) ->
 #[cfg(test)]
 mod tests {
     use super::*;
+    use crate::paper::{place, BOUND_UNITS};
 
     #[test]
     fn every_number_is_seen() {
-        let wanted = Wanted { seed: 1, tables: 10_000, looks: 4_000, pictures: 4_000 };
+        let wanted = Wanted { seed: 1, tables: 10_000, looks: 20_000, pictures: 4_000 };
         let counts = run(&wanted, None).unwrap_or_default();
         assert_eq!(counts.missing(&wanted), Vec::<String>::new(), "{}", counts.shown());
     }
@@ -381,6 +461,18 @@ mod tests {
         }
         for title in ["looks accepted", "pictures accepted", "looks met two codes equally near"] {
             said(title, &PAIRS);
+        }
+        said("files met in 3D", &DOMAINS);
+        said("files refused with 12 by one bound", &BOUNDS);
+        said("looks met with mixed domains", &NAMES);
+        said("looks met in 3D with mixed domains", &ORDERS);
+        said("looks met a value above 1 with mixed domains", &PAIRS);
+        said("looks met by mixed domains", &MIXED);
+        said("looks met with mixed domains that have", &SHAPES);
+        said("looks met with mixed domains of width", &WIDTHS);
+        for calls in ["looks", "pictures"] {
+            said(&format!("{calls} accepted with mixed domains"), &PAIRS);
+            said(&format!("{calls} refused with 24 by one bound"), &BOUNDS);
         }
         said("looks refused", &DEPTH_REFUSALS[..DEPTH_REFUSALS_OF_LOOK]);
         said("pictures refused", &DEPTH_REFUSALS);
@@ -511,6 +603,67 @@ mod tests {
                 let told = run(&wanted, Some(&OtherDepths(mistake))).err().unwrap_or_default();
                 assert!(told.contains(" to "), "{told}");
             }
+        }
+    }
+
+    /// A side that goes by another description than it is given or has read.
+    struct OtherDomains(fn(Description) -> Description);
+
+    impl Side for OtherDomains {
+        fn read(&self, case: &FileCase) -> Result<ReadAnswer, String> {
+            let answer = Second.read(case)?;
+            Ok(ReadAnswer { description: self.0(answer.description), ..answer })
+        }
+
+        fn check(&self, case: &FileCase) -> Result<Check, String> {
+            Second.check(case)
+        }
+
+        fn look(&self, case: &LookCase) -> Result<Look, String> {
+            Second.look(&LookCase { description: self.0(case.description), ..case.clone() })
+        }
+
+        fn picture(&self, case: &PictureCase) -> Result<PictureAnswer, String> {
+            Second.picture(&PictureCase { description: self.0(case.description), ..case.clone() })
+        }
+    }
+
+    /// A mixed description with other numbers, and any other as it is.
+    fn if_mixed(description: Description, other: Description) -> Description {
+        if is_mixed(&description) {
+            other
+        } else {
+            description
+        }
+    }
+
+    #[test]
+    fn other_domains_are_found() {
+        let mistakes: [fn(Description) -> Description; 3] = [
+            // mixed domains are refused, as before document 02
+            |d| if_mixed(d, [0; 11]),
+            // red's domain is that of all colours
+            |d| if_mixed(d, [d[0], d[1], d[2], d[2], d[2], d[5], d[5], d[5], d[8], d[9], d[10]]),
+            // a bound of mixed domains is cut to a whole number
+            |d| if_mixed(d, [0, 1, 2, 3, 4, 5, 6, 7, 8, 9, 10].map(|at| cut(&d, at))),
+        ];
+        for mistake in mistakes {
+            for (looks, pictures) in [(1_000, 0), (0, 1_000)] {
+                let wanted = Wanted { seed: 1, tables: 0, looks, pictures };
+                assert!(run(&wanted, Some(&OtherDomains(mistake))).is_err());
+            }
+        }
+        for mistake in &mistakes[..2] {
+            let wanted = Wanted { seed: 1, tables: 1_000, looks: 0, pictures: 0 };
+            assert!(run(&wanted, Some(&OtherDomains(*mistake))).is_err());
+        }
+    }
+
+    fn cut(description: &Description, at: usize) -> i64 {
+        if (place::LOWER..place::TITLE).contains(&at) {
+            description[at] / BOUND_UNITS * BOUND_UNITS
+        } else {
+            description[at]
         }
     }
 }

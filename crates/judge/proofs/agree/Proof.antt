@@ -1,4 +1,4 @@
--- Green's domain against red's, then blue's, as in the definition.
+-- One domain, or else whole bounds, as in the definition.
 use mathlib.Core.Path.{sym, _∙_}
 use borrow.Author.Needs.{needs}
 use Rattle.rules.specs.Descriptions.{agree}
@@ -11,17 +11,15 @@ enum-told c = search needs
 enum-told-2 : tie.Need-enum-told-2
 enum-told-2 c = search needs
 
-same-domain-requires : tie.Need-same-domain-requires
-same-domain-requires c κs = search needs
-
-same-domain-requires-2 : tie.Need-same-domain-requires-2
-same-domain-requires-2 c κs = search needs
+one-domain-requires : tie.Need-one-domain-requires
+one-domain-requires c κs = search needs
 
 returns : tie.Need-returns
 unfolding agree
-returns c =
-    let asked = c .before .before in
-    rw (asked .before .enum-told2 .given .1, sym (asked .same-domain .ensures) ∙ c .before .if1 .taken) (c .same-domain2 .ensures)
+returns c = let asked = c .before in rw (asked .before .enum-told2 .given .1, sym (asked .one-domain .ensures) ∙ c .if1 .taken)
+
+domains-keep-requires : tie.Need-domains-keep-requires
+domains-keep-requires c κs = search needs
 
 returns-2 : tie.Need-returns-2
 unfolding agree
@@ -29,7 +27,18 @@ returns-2 c = rw (c .enum-told .given .1)
 
 returns-3 : tie.Need-returns-3
 unfolding agree
-returns-3 c = let asked = c .before in rw (asked .before .enum-told2 .given .1, sym (asked .same-domain .ensures) ∙ c .if1 .left)
+returns-3 c =
+    let asked = c .before .before in
+    rw (asked .before .enum-told2 .given .1, sym (asked .one-domain .ensures) ∙ c .before .if1 .left) (c .domains-keep .ensures)
 
 pub agree-spec : {M : Type 1} → statement M
-agree-spec = tie.close (tie.spec enum-told enum-told-2 same-domain-requires same-domain-requires-2 returns returns-2 returns-3)
+agree-spec =
+    tie.close
+    (tie.spec
+    enum-told
+    enum-told-2
+    one-domain-requires
+    returns
+    domains-keep-requires
+    returns-2
+    returns-3)

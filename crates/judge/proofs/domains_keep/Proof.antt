@@ -8,7 +8,7 @@ use Rattle.rules.specs.declared.Description.{Description}
 use Rattle.rules.proofs.Sound.{every-each}
 use Rattle.judge.specs.Rules.{Asked}
 use Rattle.judge.specs.declared.Rule.{Rule}
-use Rattle.judge.specs.declared.Rule.the-variants.{Within, Ordered, Narrow}
+use Rattle.judge.specs.declared.Rule.the-variants.{Within, Ordered, Narrow, Whole}
 use Rattle.judge.proofs.domains_keep.Statement.{statement}
 use Rattle.judge.proofs.domains_keep.Tie as tie
 
@@ -16,6 +16,7 @@ each-asked : (r : Rule) (d : Description) → Asked r (everyColour boundsFit d) 
 each-asked Within d h c = tt
 each-asked Ordered d h c = tt
 each-asked Narrow d h c = every-each boundsFit d h c
+each-asked Whole d h c = tt
 
 domain-keeps-requires : tie.Need-domain-keeps-requires
 domain-keeps-requires c κs = let s = c .before .before .before in each-asked (s .args .rule) (s .args .d) (s .pre) Red

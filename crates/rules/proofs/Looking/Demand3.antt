@@ -14,8 +14,8 @@ use Rattle.whole.proofs.Halves as H
 use Rattle.whole.proofs.NearestLaws.{code-nearest}
 use Rattle.whole.proofs.Between.{codes-below, codes-above}
 use Rattle.rules.specs.Units.{rawM, correctedM, rowsOf, rowAt, sampleAt, codeIn}
-use Rattle.rules.specs.Descriptions.{domain, width, couldBeRead, Sound}
-use Rattle.rules.specs.Looking.Interpolation.{denOf, positionOf, indexOf, fractionOf, order, pairBy, pathBy, climb, pair, path, sharesFor, weighed, total, denominator, codeBy, rowCode}
+use Rattle.rules.specs.Descriptions.{domain, commonSpan, spanIn, couldBeRead, Sound}
+use Rattle.rules.specs.Looking.Interpolation.{den, denOf, positionOf, indexOf, fractionOf, order, pairBy, pathBy, climb, pair, path, sharesFor, weighed, total, denominator, codeBy, rowCode}
 use Rattle.rules.specs.Looking.{shown, codeOf, correct}
 use Rattle.rules.specs.Answers.{lookNumber}
 use Rattle.rules.specs.Promises.{Looks}
@@ -27,7 +27,6 @@ use Rattle.rules.specs.declared.Colour.{Colour}
 use Rattle.rules.specs.declared.Colour.the-variants.{Red, Green, Blue}
 use Rattle.rules.specs.declared.Depths.{Depths}
 use Rattle.rules.specs.declared.Description.{Description}
-use Rattle.rules.specs.declared.Domain.{Domain}
 use Rattle.rules.specs.declared.Kind.{Kind}
 use Rattle.rules.specs.declared.Kind.the-variants.{OneD, ThreeD}
 use Rattle.rules.specs.declared.Look.{Look}
@@ -37,6 +36,8 @@ use Rattle.rules.proofs.KnownDepths.{depths-bounds}
 use Rattle.rules.proofs.Looking.Layers.{level, level-own, Stairs, layered, layered-own, stairs-total}
 use Rattle.rules.proofs.Looking.EitherReading.{rowIn, line-stairs, cube-stairs}
 use Rattle.rules.proofs.Looking.Rule.{rule-reads}
+use Rattle.rules.proofs.Looking.Spans.{span-some}
+use Rattle.rules.proofs.Looking.Brought.{brought-reading}
 use Rattle.rules.proofs.Looking.Chart.{order-rule}
 use Rattle.rules.proofs.Looking.RowsAndWeights.{weights-not-negative, weights-unsigned, weights-add-up, pair-rows, path-rows}
 use Rattle.rules.proofs.Answers.{looks-is}
@@ -55,23 +56,26 @@ layerRow d m pixel OneD c = level (positionOf d m pixel c) (denOf d m c)
 layerRow d m pixel ThreeD c = rowIn (d .n) (denOf d m c) (positionOf d m pixel)
 
 -- 3D has one D
-pub one-den : (d : Description) (table : List ℤ) (raw : ℕ) → couldBeRead d table ≡ true → d .kind ≡ ThreeD → (c k : Colour) → denOf d raw c ≡ denOf d raw k
-one-den d table raw could e c k = let one = sound-of d table could .one-domain e in ap (λ (x : Domain). raw * width x) (one c ∙ sym (one k))
+pub one-den : (d : Description) (raw : ℕ) → d .kind ≡ ThreeD → (c k : Colour) → denOf d raw c ≡ denOf d raw k
+one-den d raw e c k = let one : (c : Colour) → denOf d raw c ≡ raw * commonSpan d = λ c. ap (λ x. raw * spanIn x d c) e in one c ∙ sym (one k)
 
 module _ (d : Description) (table : List ℤ) (raw : ℕ) (pixel : Codes) (could : couldBeRead d table ≡ true) (deep : 0 < raw) where
   abbrev g : Sound d table
   g = sound-of d table could
 
   pub den-above-0 : (c : Colour) → 0 < denOf d raw c
-  den-above-0 c = NatL.mul-pos deep (wide-enough (g .domains c))
+  den-above-0 c = NatL.mul-pos deep (span-some d g c)
 
+  -- over the D of the weights, from the colour's own domain
   pub reads : (c : Colour) → Reading (d .n) (denOf d raw c) (positionOf d raw pixel c) (indexOf d raw pixel c) (fractionOf d raw pixel c)
-  reads c = rule-reads raw (domain d c) (d .n) (codeIn pixel c) (den-above-0 c) (g .least)
+  reads c =
+      let own : 0 < den raw (domain d c) = NatL.mul-pos deep (wide-enough (g .domains c)) in
+      brought-reading (den raw (domain d c)) (denOf d raw c) own (rule-reads raw (domain d c) (d .n) (codeIn pixel c) own (g .least))
 
   -- readings over each colour's D, over one
   over-one : d .kind ≡ ThreeD → (c : Colour) (i f : Colour → ℕ) → ((k : Colour) → Reading (d .n) (denOf d raw k) (positionOf d raw pixel k) (i k) (f k))
       → (k : Colour) → Reading (d .n) (denOf d raw c) (positionOf d raw pixel k) (i k) (f k)
-  over-one e c i f r k = subst (λ x. Reading (d .n) x (positionOf d raw pixel k) (i k) (f k)) (one-den d table raw could e k c) (r k)
+  over-one e c i f r k = subst (λ x. Reading (d .n) x (positionOf d raw pixel k) (i k) (f k)) (one-den d raw e k c) (r k)
 
   pub rule-stairs : (k : Kind) → d .kind ≡ k → (c : Colour) → Stairs (layerRow d raw pixel k c) (denOf d raw c) (sharesFor d raw pixel k c)
   unfolding layerRow pair path
@@ -79,7 +83,7 @@ module _ (d : Description) (table : List ℤ) (raw : ℕ) (pixel : Codes) (could
   rule-stairs ThreeD e c =
       let f = fractionOf d raw pixel in
       let i = indexOf d raw pixel in
-      subst (λ x. Stairs (rowIn (d .n) x (positionOf d raw pixel)) x (path d raw pixel)) (one-den d table raw could e Red c)
+      subst (λ x. Stairs (rowIn (d .n) x (positionOf d raw pixel)) x (path d raw pixel)) (one-den d raw e Red c)
       (cube-stairs (over-one e Red i f reads) (order-rule f .descends))
 
   pub reading-layers : (k : Kind) → d .kind ≡ k → (c : Colour) (t : ℤ) → ByReading d table raw pixel c k t → t ≡ layered table c (layerRow d raw pixel k c) (denOf d raw c)
@@ -94,7 +98,7 @@ module _ (d : Description) (table : List ℤ) (raw : ℕ) (pixel : Codes) (could
   rule-reading ThreeD e c =
       let f = fractionOf d raw pixel in
       let i = indexOf d raw pixel in
-      subst (λ x. ByReading d table raw pixel c ThreeD (total table c (pathBy (d .n) x i f (order f)))) (one-den d table raw could e c Red)
+      subst (λ x. ByReading d table raw pixel c ThreeD (total table c (pathBy (d .n) x i f (order f)))) (one-den d raw e c Red)
       (cube i f (order f) reads (order-rule f .descends))
 
   -- and every other gives the same
@@ -115,7 +119,7 @@ module _ (d : Description) (table : List ℤ) (raw : ℕ) (pixel : Codes) (could
       in-own : (k : Kind) → d .kind ≡ k → (t : ℕ) → t < denOf d raw c → layerRow d raw pixel k c t ≡ rowOwn k (d .n) j c
       in-own OneD e t l = level-at (denOf d raw c) c t refl l
       in-own ThreeD e t l =
-          let one : (k : Colour) → level (positionOf d raw pixel k) (denOf d raw c) t ≡ j k = λ k. level-at (denOf d raw c) k t (one-den d table raw could e k c) l in
+          let one : (k : Colour) → level (positionOf d raw pixel k) (denOf d raw c) t ≡ j k = λ k. level-at (denOf d raw c) k t (one-den d raw e k c) l in
           rw (one Red, one Green, one Blue)
 
   -- in 1D each colour by itself

@@ -1,14 +1,12 @@
--- What the paper's rule gives is an admissible reading of each position; and the other readings are those that the paper names.
+-- What the paper's rule gives is an admissible reading of each position.
 use Prim.Native.Nat.{ℕ, _+_, _-_, _*_, _/_, _≤_, _<_, min}
-use mathlib.Core.Path.{_≡_, sym, ap}
-use mathlib.Core.Logic.{_⊎_, inl, inr}
+use mathlib.Core.Path.{_≡_}
 use native.Mathlib.Nat as NatL
 use native.Mathlib.Decide.{decLe, decLt}
 use native.Mathlib.Omega.{arith}
 use Rattle.rules.specs.Looking.Interpolation.{den, offset, position, index, fraction}
 use Rattle.rules.specs.Looking.Readings.{Reading}
 use Rattle.rules.specs.declared.Domain.{Domain}
-use Rattle.rules.proofs.Looking.EitherReading.{only-these}
 
 -- ---- the cell and the fraction of the rule
 
@@ -51,7 +49,7 @@ module _ (m : ℕ) (dom : Domain) (n c : ℕ) (d : 0 < den m dom) (h : 2 ≤ n) 
   rule-reads = record { cell = cell; part = omega (arith, above, below); place = omega (arith, below) }
 
   -- the rule's f reaches D in the last cell alone
-  full-last : den m dom ≤ f → n ≤ i + 2
+  pub full-last : den m dom ≤ f → n ≤ i + 2
   unfolding index fraction
   full-last k = by (decLt (p / den m dom) (n - 2)) k
     where
@@ -60,16 +58,3 @@ module _ (m : ℕ) (dom : Domain) (n c : ℕ) (d : 0 < den m dom) (h : 2 ≤ n) 
           let e : min (p / den m dom) (n - 2) ≡ p / den m dom = omega arith in
           absurd (omega (arith, rw e at k, NatL.lt-div-mul-add {a = p} {b = den m dom} d))
       by (no l) k = omega arith
-
-  -- the readings of the position are the paper's two and no others: the rule's, and where its f is 0 and i is above 0 the cell i − 1 with f = D
-  pub paper-readings : {j g : ℕ} → Reading n (den m dom) p j g → ((j ≡ i) × (g ≡ f)) ⊎ ((f ≡ 0) × ((j + 1 ≡ i) × (g ≡ den m dom)))
-  paper-readings {j} {g} q = by (decLt j i) (decLt i j)
-    where
-      by : Dec (j < i) → Dec (i < j) → ((j ≡ i) × (g ≡ f)) ⊎ ((f ≡ 0) × ((j + 1 ≡ i) × (g ≡ den m dom)))
-      by (yes l) k = let (next, ends) = only-these d q rule-reads l in inr (ends .1, (sym next, ends .0))
-      by (no l) (yes k) =
-          let (next, ends) = only-these d rule-reads q k in
-          absurd (omega (arith, full-last (NatL.le-of-eq (sym (ends .0))), q .cell))
-      by (no l) (no k) =
-          let e : j ≡ i = omega arith in
-          inl (e, omega (arith, ap (λ x. x * den m dom) e, q .place, rule-reads .place))

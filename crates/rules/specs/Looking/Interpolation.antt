@@ -7,7 +7,7 @@ use lib.IntN.{ℤ, pos, _-ℤ_, _*ℤ_}
 use Rattle.whole.specs.Integers.{up}
 use Rattle.whole.specs.Nearest.{code, weighedSum}
 use Rattle.rules.specs.Units.{sampleOne, boundOne, rowAt, stride, sampleAt, codeIn}
-use Rattle.rules.specs.Descriptions.{domain, width}
+use Rattle.rules.specs.Descriptions.{domain, width, span}
 use Rattle.rules.specs.declared.Codes.{Codes}
 use Rattle.rules.specs.declared.Colour.{Colour}
 use Rattle.rules.specs.declared.Colour.the-variants.{Red, Green, Blue}
@@ -17,7 +17,7 @@ use Rattle.rules.specs.declared.Kind.{Kind}
 use Rattle.rules.specs.declared.Kind.the-variants.{OneD, ThreeD}
 use Rattle.rules.specs.declared.Share.{Share}
 
--- ---- the position of one colour with code c; m is M, den is D
+-- ---- the position of one colour with code c, by its own domain; m is M, den is the D of that domain
 
 module _ (m : ℕ) (dom : Domain) where
   -- D = M·w
@@ -120,29 +120,45 @@ pathBy n den i f o =
 
 -- ---- what a pixel has by this rule; m is the M of the pixel's own codes
 
--- the D of a colour, over which its fraction is
+-- D, what the weights of a colour add up to: M times its span
 abbrev pub denOf : Description → ℕ → Colour → ℕ
-denOf d m c = den m (domain d c)
+denOf d m c = m * span d c
 
--- 1D: the two rows of a colour with a code
-abbrev pub pairAt : Description → ℕ → Colour → ℕ → List Share
-pairAt d m c code = pairBy (denOf d m c) (index m (domain d c) (d .n) code) (fraction m (domain d c) (d .n) code)
+-- Document 02, Req 07: so many parts of one D, brought to another. What is brought here goes in without a rest (`position-exact`, `fraction-exact`), and
+-- where the two D are one it is what it was (`brought-same`).
+unfoldable pub brought : ℕ → ℕ → ℕ → ℕ
+brought own common x = x * common / own
+
+-- of one colour with a code: each comes from the colour's own domain, and stands over the D of the weights
+module _ (d : Description) (m : ℕ) (c : Colour) (code : ℕ) where
+  abbrev pub positionAt : ℕ
+  positionAt = brought (den m (domain d c)) (denOf d m c) (position m (domain d c) (d .n) code)
+
+  abbrev pub indexAt : ℕ
+  indexAt = index m (domain d c) (d .n) code
+
+  abbrev pub fractionAt : ℕ
+  fractionAt = brought (den m (domain d c)) (denOf d m c) (fraction m (domain d c) (d .n) code)
+
+  -- 1D: the two rows
+  abbrev pub pairAt : List Share
+  pairAt = pairBy (denOf d m c) indexAt fractionAt
 
 module _ (d : Description) (m : ℕ) (pixel : Codes) where
   abbrev pub positionOf : Colour → ℕ
-  positionOf c = position m (domain d c) (d .n) (codeIn pixel c)
+  positionOf c = positionAt d m c (codeIn pixel c)
 
   abbrev pub indexOf : Colour → ℕ
-  indexOf c = index m (domain d c) (d .n) (codeIn pixel c)
+  indexOf c = indexAt d m c (codeIn pixel c)
 
   abbrev pub fractionOf : Colour → ℕ
-  fractionOf c = fraction m (domain d c) (d .n) (codeIn pixel c)
+  fractionOf c = fractionAt d m c (codeIn pixel c)
 
   -- 1D: each colour has its own D, and is a matter of its own code alone
   unfoldable pub pair : Colour → List Share
   pair c = pairAt d m c (codeIn pixel c)
 
-  -- 3D: along the axes in an order; the three colours have one domain, so one D
+  -- 3D: along the axes in an order; the three colours have one span, so one D
   abbrev pub pathIn : Order → List Share
   pathIn o = pathBy (d .n) (denOf d m Red) indexOf fractionOf o
 

@@ -2,6 +2,7 @@
 use Prim.Native.Nat.{ℕ, _*_, _≤_, _<_}
 use mathlib.Core.Path.{_≡_, refl, sym, ap, _∙_}
 use mathlib.Core.Logic.{_↔_, _⊎_, inl, inr}
+use mathlib.Core.Bool.{false}
 use mathlib.Core.List.{List, _∷_}
 use native.Mathlib.Omega.{arith}
 use lib.IntN.{ℤ, pos}
@@ -19,7 +20,9 @@ use Rattle.rules.specs.declared.Read.{Read}
 use Rattle.rules.specs.declared.Read.the-variants as R
 use Rattle.rules.proofs.Answers.{checks-is, is-checks, refused-not-0}
 use Rattle.signature.specs.HalfDomains.{HalfAt}
+use Rattle.signature.specs.MixedDomains.{DifferAt}
 use Rattle.signature.proofs.Reading.HalfDomains.{numbers-half}
+use Rattle.signature.proofs.Reading.MixedDomains.{numbers-differ}
 use Rattle.signature.proofs.Reading.Checking.{check-keeps, check-places, checked-then-read, lent-enough, lent-too-few, long-enough, read-accepts, refused-alike}
 use Rattle.signature.proofs.Boundary.Reads.{ReadLaid, read-laid}
 
@@ -153,3 +156,9 @@ pub checks-c-half : {file : List ℕ} {eleven′ : List ℤ} {number line′ pla
     → ((number ≡ 19) × (line′ ≡ n)) ↔ HalfAt file placeLimit n
 unfolding check
 checks-c-half {file} h n = numbers-half placeLimit file n (h .number-so) (h .line-so)
+
+-- 12 exactly where it is checked with domains that differ, in 3D, and a bound that is not whole
+pub checks-c-differ : {file : List ℕ} {eleven′ : List ℤ} {number line′ places′ : ℕ} → ChecksC file number eleven′ line′ places′ → (n : ℕ)
+    → ((number ≡ 12) × (line′ ≡ n)) ↔ DifferAt false file placeLimit n
+unfolding check
+checks-c-differ {file} h n = numbers-differ placeLimit file n (h .number-so) (h .line-so)

@@ -1,7 +1,7 @@
 -- The demands, of `erythmoda_read` itself: what its number says of the memory that it was lent.
 use Prim.Native.Nat.{ℕ}
 use mathlib.Core.Path.{_≡_, refl, sym, ap, _∙_}
-use mathlib.Core.Bool.{true}
+use mathlib.Core.Bool.{true, false}
 use mathlib.Core.Logic.{_↔_}
 use mathlib.Core.List.{List, _∷_}
 use mathlib.Core.Option.{some}
@@ -23,9 +23,11 @@ use Rattle.rules.proofs.Answers.{refused-not-0, reads-is, is-reads}
 use Rattle.rules.proofs.Reading.Bridge.{refused-unchanged, reads-bridge}
 use Rattle.signature.proofs.Reading.Promised.{reads-accepted}
 use Rattle.signature.proofs.Reading.HalfDomains.{numbers-half}
+use Rattle.signature.proofs.Reading.MixedDomains.{numbers-differ}
 use Rattle.signature.proofs.Reading.Order.{numbers-order}
 use Rattle.signature.proofs.Boundary.Crossing.{crosses}
 use Rattle.signature.specs.HalfDomains.{HalfAt}
+use Rattle.signature.specs.MixedDomains.{DifferAt}
 use Rattle.signature.specs.Order.{FailsFirst}
 
 -- a reading with its answer laid out as numbers
@@ -95,6 +97,11 @@ reads-c-order {file} {table} h r n = numbers-order file (length table) r n (h .n
 pub reads-c-half : {file : List ℕ} {table table′ eleven′ : List ℤ} {number line′ : ℕ} → ReadsC file table number table′ eleven′ line′ → (n : ℕ)
     → ((number ≡ 19) × (line′ ≡ n)) ↔ HalfAt file (length table) n
 reads-c-half {file} {table} h n = numbers-half (length table) file n (h .number-so) (h .line-so)
+
+-- 12 exactly where it is checked with domains that differ, in 3D, and a bound that is not whole
+pub reads-c-differ : {file : List ℕ} {table table′ eleven′ : List ℤ} {number line′ : ℕ} → ReadsC file table number table′ eleven′ line′ → (n : ℕ)
+    → ((number ≡ 12) × (line′ ≡ n)) ↔ DifferAt false file (length table) n
+reads-c-differ {file} {table} h n = numbers-differ (length table) file n (h .number-so) (h .line-so)
 
 -- what acceptance wrote gives the description back, and is not 24
 pub read-bridge : {file : List ℕ} {table table′ eleven′ : List ℤ} {line′ : ℕ} (a : ReadAccepted file table table′ eleven′ line′)

@@ -1,5 +1,5 @@
--- The promise of `erythmoda_look` refutes wrong calls: document 01's wrong programs, those that two depths invite (document 02, Req 06), and those that only a
--- boundary can have. A call is given its input and the lent memory as it was, and answers a number and that memory as it is afterwards. What a wrong call does is
+-- The promise of `erythmoda_look` refutes wrong calls: document 01's wrong programs, those that two depths and domains that differ invite (document 02, Req 06
+-- and 07), and those that only a boundary can have. A call is given its input and the lent memory as it was, and answers a number and that memory as it is afterwards. What a wrong call does is
 -- said of any call at all; that it keeps the promise is then absurd, at an input that the theorem holds.
 use Prim.Native.Nat.{ℕ}
 use mathlib.Core.Path.{_≡_, sym, ap, _∙_}
@@ -8,10 +8,12 @@ use native.Mathlib.Omega.{arith}
 use lib.IntN.{ℤ, pos}
 use lib.ListN.{getD, replicate}
 use Rattle.rules.specs.Units.{bitsOf}
-use Rattle.rules.specs.Answers.{lookCodes}
-use Rattle.rules.specs.Boundary.{describedIn, pixelIn, lookIn, LooksC}
+use Rattle.rules.specs.Answers.{codesOf, lookCodes}
+use Rattle.rules.specs.Boundary.{elevenOf, describedIn, pixelIn, lookIn, LooksC}
+use Rattle.rules.specs.declared.Description.{Description}
 use Rattle.signature.proofs.Boundary.Looks.{look-refused}
-use Rattle.signature.specs.Cases.{untouched, tableFrom, corner, oddTitle}
+use Rattle.signature.specs.Cases.{untouched, describedBy, tableFrom, corner, oddTitle}
+use Rattle.signature.specs.OneDomain.{redWider, greenFirst, cubeTo}
 use Rattle.signature.proofs.Cases.{opened}
 
 abbrev at : ℕ → List ℕ → ℕ
@@ -120,3 +122,26 @@ module _ (call : LookCall) (keeps : LooksCAll call) where
   pub judges-by-the-corrected-m : seen 3 8 16 (replicate 3 256) .0 ≡ 0 → ⊥
   unfolding opened describedIn
   judges-by-the-corrected-m e = let z : _≡_ {A = ℕ} 23 0 = sym (kept 3 8 16 (replicate 3 256) .number-so) ∙ e in omega arith
+
+  -- ---- domains that differ: of a table with red from 0 to 2 and the others from 0 to 1
+
+  abbrev seen-in : Description → ℕ × LookLent
+  seen-in d = call (elevenOf d) (tableFrom redWider) 8 8 (codesOf greenFirst) sevens
+
+  abbrev kept-in : (d : Description) → let after = seen-in d in
+      LooksC (elevenOf d) (tableFrom redWider) (bitsOf 8 8) (codesOf greenFirst) (after .0) (after .1 .codes) (after .1 .rows) (after .1 .weights)
+  kept-in d = keeps (elevenOf d) (tableFrom redWider) 8 8 (codesOf greenFirst) sevens
+
+  -- by their own numerators red would stand before green: rows 0, 1, 3, 7 in place of 0, 2, 3, 7
+  pub orders-by-own-numerators : seen-in (describedBy redWider) .1 .rows ≡ 0 ∷ 1 ∷ 3 ∷ 7 ∷ 0 ∷ 0 ∷ [] → ⊥
+  unfolding opened describedIn
+  orders-by-own-numerators e = let z : _≡_ {A = ℕ} 2 1 = ap (at 1) (sym (kept-in (describedBy redWider) .rows-so) ∙ e) in omega arith
+
+  pub refuses-mixed-domains : seen-in (describedBy redWider) .0 ≡ 24 → ⊥
+  unfolding opened describedIn
+  refuses-mixed-domains e = let z : _≡_ {A = ℕ} 0 24 = sym (kept-in (describedBy redWider) .number-so) ∙ e in omega arith
+
+  -- blue from 0 to 1.5, beside 0 to 2 and 0 to 1
+  pub takes-an-uneven-bound : seen-in (cubeTo 2000 1000 1500) .0 ≡ 0 → ⊥
+  unfolding opened describedIn
+  takes-an-uneven-bound e = let z : _≡_ {A = ℕ} 24 0 = sym (kept-in (cubeTo 2000 1000 1500) .number-so) ∙ e in omega arith

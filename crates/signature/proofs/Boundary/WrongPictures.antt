@@ -1,5 +1,5 @@
--- The promise of `erythmoda_picture` refutes wrong calls: document 01's wrong programs, those that two depths invite (document 02, Req 06), and those that only a
--- boundary can have. A call is given its input and the lent memory as it was, and answers a number and that memory as it is afterwards. What a wrong call does is
+-- The promise of `erythmoda_picture` refutes wrong calls: document 01's wrong programs, those that two depths and domains that differ invite (document 02, Req 06
+-- and 07), and those that only a boundary can have. A call is given its input and the lent memory as it was, and answers a number and that memory as it is afterwards. What a wrong call does is
 -- said of any call at all; that it keeps the promise is then absurd, at an input that the theorem holds.
 use Prim.Native.Nat.{ℕ}
 use mathlib.Core.Path.{_≡_, sym, ap, _∙_}
@@ -8,8 +8,11 @@ use native.Mathlib.Omega.{arith}
 use lib.IntN.{ℤ}
 use lib.ListN.{getD, replicate}
 use Rattle.rules.specs.Units.{bitsOf}
-use Rattle.rules.specs.Boundary.{describedIn, outputIn, PicturesC}
-use Rattle.signature.specs.Cases.{tableFrom, corner, oddTitle}
+use Rattle.rules.specs.Answers.{codesOf}
+use Rattle.rules.specs.Boundary.{elevenOf, describedIn, outputIn, PicturesC}
+use Rattle.rules.specs.declared.Description.{Description}
+use Rattle.signature.specs.Cases.{describedBy, tableFrom, corner, oddTitle}
+use Rattle.signature.specs.OneDomain.{redWider, greenFirst, cubeTo}
 use Rattle.signature.proofs.Cases.{opened}
 
 abbrev at : ℕ → List ℕ → ℕ
@@ -91,3 +94,26 @@ module _ (call : PictureCall) (keeps : PicturesCAll call) where
   pub judges-by-the-corrected-m : between 8 16 (replicate 3 256) .0 ≡ 0 → ⊥
   unfolding opened describedIn
   judges-by-the-corrected-m e = let z : _≡_ {A = ℕ} 23 0 = sym (kept-between 8 16 (replicate 3 256) .number-so) ∙ e in omega arith
+
+  -- ---- domains that differ: one pixel, of a table with red from 0 to 2 and the others from 0 to 1
+
+  abbrev painted-in : Description → ℕ × List ℕ
+  painted-in d = call (elevenOf d) (tableFrom redWider) 8 8 (codesOf greenFirst) dst
+
+  abbrev kept-in : (d : Description)
+      → PicturesC (elevenOf d) (tableFrom redWider) (bitsOf 8 8) (codesOf greenFirst) dst (painted-in d .0) (painted-in d .1)
+  kept-in d = keeps (elevenOf d) (tableFrom redWider) 8 8 (codesOf greenFirst) dst
+
+  -- by their own numerators red would stand before green: 51 in place of 102
+  pub orders-by-own-numerators : at 0 (painted-in (describedBy redWider) .1) ≡ 51 → ⊥
+  unfolding opened describedIn
+  orders-by-own-numerators e = let z : _≡_ {A = ℕ} 102 51 = sym (ap (at 0) (kept-in (describedBy redWider) .memory)) ∙ e in omega arith
+
+  pub refuses-mixed-domains : painted-in (describedBy redWider) .0 ≡ 24 → ⊥
+  unfolding opened describedIn
+  refuses-mixed-domains e = let z : _≡_ {A = ℕ} 0 24 = sym (kept-in (describedBy redWider) .number-so) ∙ e in omega arith
+
+  -- blue from 0 to 1.5, beside 0 to 2 and 0 to 1
+  pub takes-an-uneven-bound : painted-in (cubeTo 2000 1000 1500) .0 ≡ 0 → ⊥
+  unfolding opened describedIn
+  takes-an-uneven-bound e = let z : _≡_ {A = ℕ} 24 0 = sym (kept-in (cubeTo 2000 1000 1500) .number-so) ∙ e in omega arith

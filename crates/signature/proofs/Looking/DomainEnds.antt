@@ -10,7 +10,7 @@ use lib.IntN.{ℤ, pos, negℤ, _-ℤ_, _*ℤ_}
 use Rattle.whole.proofs.Halves as H
 use Rattle.rules.specs.Units.{boundOne, codeIn, depthsOf, rawM, rowsOf, sampleAt}
 use Rattle.rules.specs.Descriptions.{couldBeRead, domain, rows}
-use Rattle.rules.specs.Looking.Interpolation.{den, denOf, offset, position, index, fraction, sharesFor, total}
+use Rattle.rules.specs.Looking.Interpolation.{den, denOf, offset, position, index, fraction, brought, positionOf, sharesFor, total}
 use Rattle.rules.specs.Looking.{lookAt, look}
 use Rattle.rules.specs.Promises.{Looks}
 use Rattle.rules.specs.declared.Bits.{Bits}
@@ -27,9 +27,11 @@ use Rattle.rules.specs.declared.Look.the-variants.{Refused}
 use Rattle.rules.specs.declared.Refusal.the-variants.{CouldNotBeRead}
 use Rattle.rules.proofs.Answers.{looks-is}
 use Rattle.rules.proofs.Sound.{sound-of}
+use Rattle.rules.proofs.Looking.Brought.{brought-row}
 use Rattle.rules.proofs.Looking.Demand3.{own-line, own-point, rowOwn}
 use Rattle.signature.specs.Beyond.{Alike, AlikePixels, AtLower, AtUpper, high, low, same}
 use Rattle.signature.proofs.Looking.SamePlaces.{SamePlaces, same-look}
+use Rattle.signature.proofs.Looking.OneDomain.{own-some}
 
 -- ---- a code at an end
 
@@ -105,7 +107,7 @@ alike-places {m} {d} h = record {
   inside = h .a-within ∙ sym (h .b-within);
   dens = λ c. refl;
   indices = λ c. alike-index m (domain d c) (d .n) (h .alike c);
-  fractions = λ c. alike-fraction m (domain d c) (d .n) (h .alike c);
+  fractions = λ c. ap (brought (den m (domain d c)) (denOf d m c)) (alike-fraction m (domain d c) (d .n) (h .alike c));
 }
 
 module _ (d : Description) (table : List ℤ) (bits : Bits) {depths : Depths} (known : depthsOf bits ≡ Both depths) {a b : Codes}
@@ -138,18 +140,29 @@ first-own ThreeD n c = omega (arith, NatL.mul-zero n, NatL.mul-zero (n * n))
 
 -- for whatever could have been read; the M of every known depth is above 0
 module _ (d : Description) (table : List ℤ) (m : ℕ) (pixel : Codes) (could : couldBeRead d table ≡ true) (deep : 0 < m) where
+  own-row : (j : ℕ) (k : Colour) → position m (domain d k) (d .n) (codeIn pixel k) ≡ j * den m (domain d k) → positionOf d m pixel k ≡ j * denOf d m k
+  own-row j k e =
+      let own = den m (domain d k) in
+      ap (brought own (denOf d m k)) e ∙ brought-row own (denOf d m k) (own-some d table m could deep k) j
+
+  lower-row : (k : Colour) → AtLower m (domain d k) (codeIn pixel k) → positionOf d m pixel k ≡ 0 * denOf d m k
+  lower-row k h = own-row 0 k (lower-position m (domain d k) (codeIn pixel k) (d .n) h ∙ sym (NatL.zero-mul (den m (domain d k))))
+
+  upper-row : (k : Colour) → AtUpper m (domain d k) (codeIn pixel k) → positionOf d m pixel k ≡ (d .n - 1) * denOf d m k
+  upper-row k h = own-row (d .n - 1) k (upper-position m (domain d k) (codeIn pixel k) (d .n) h)
+
   -- a pixel each of whose codes is at its colour's lower bound or below has the first row's samples
   pub first-row : ((k : Colour) → AtLower m (domain d k) (codeIn pixel k)) → (c : Colour)
       → total table c (sharesFor d m pixel (d .kind) c) ≡ pos (denOf d m c) *ℤ sampleAt table 0 c
   first-row h c =
-      own-point d table m pixel could deep (λ _. 0) (λ k. lower-position m (domain d k) (codeIn pixel k) (d .n) (h k) ∙ sym (NatL.zero-mul (denOf d m k))) c
+      own-point d table m pixel could deep (λ _. 0) (λ k. lower-row k (h k)) c
       ∙ ap (λ r. pos (denOf d m c) *ℤ sampleAt table r c) (first-own (d .kind) (d .n) c)
 
   -- and one each of whose codes is at the upper bound or above has the last row's
   pub last-row : ((k : Colour) → AtUpper m (domain d k) (codeIn pixel k)) → (c : Colour)
       → total table c (sharesFor d m pixel (d .kind) c) ≡ pos (denOf d m c) *ℤ sampleAt table (rows d - 1) c
   last-row h c =
-      own-point d table m pixel could deep (λ _. d .n - 1) (λ k. upper-position m (domain d k) (codeIn pixel k) (d .n) (h k)) c
+      own-point d table m pixel could deep (λ _. d .n - 1) (λ k. upper-row k (h k)) c
       ∙ ap (λ r. pos (denOf d m c) *ℤ sampleAt table r c) (last-own (d .kind) (d .n) c (sound-of d table could .least))
 
   -- ---- in 1D each colour by itself, whatever the others are
@@ -157,9 +170,8 @@ module _ (d : Description) (table : List ℤ) (m : ℕ) (pixel : Codes) (could :
   module _ (line : d .kind ≡ OneD) (c : Colour) where
     -- at the lower bound or below, the sample of row 0
     pub first-row-1d : AtLower m (domain d c) (codeIn pixel c) → total table c (sharesFor d m pixel (d .kind) c) ≡ pos (denOf d m c) *ℤ sampleAt table 0 c
-    first-row-1d h =
-        own-line d table m pixel could deep line 0 c (lower-position m (domain d c) (codeIn pixel c) (d .n) h ∙ sym (NatL.zero-mul (denOf d m c)))
+    first-row-1d h = own-line d table m pixel could deep line 0 c (lower-row c h)
 
     -- at the upper bound or above, the sample of row N − 1
     pub last-row-1d : AtUpper m (domain d c) (codeIn pixel c) → total table c (sharesFor d m pixel (d .kind) c) ≡ pos (denOf d m c) *ℤ sampleAt table (d .n - 1) c
-    last-row-1d h = own-line d table m pixel could deep line (d .n - 1) c (upper-position m (domain d c) (codeIn pixel c) (d .n) h)
+    last-row-1d h = own-line d table m pixel could deep line (d .n - 1) c (upper-row c h)

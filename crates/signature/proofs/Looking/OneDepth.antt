@@ -5,7 +5,7 @@ use mathlib.Core.Bool.{cond}
 use mathlib.Core.List.{List}
 use lib.IntN.{ℤ}
 use Rattle.rules.specs.Units.{depthOf, together, sameBits, sameDepth}
-use Rattle.rules.specs.Descriptions.{domain, width, couldBeRead}
+use Rattle.rules.specs.Descriptions.{span, couldBeRead}
 use Rattle.rules.specs.Looking.Interpolation.{sharesFor}
 use Rattle.rules.specs.Looking.{within, shown, codeOf, correct, lookAt, look}
 use Rattle.rules.specs.Promises.{Looks}
@@ -28,7 +28,7 @@ use Rattle.signature.proofs.Looking.ShortDivision.{short-division}
 
 module _ (d : Description) (table : List ℤ) (depth : Depth) (pixel : Codes) (deep : 0 < depth .greatest) where
   code-one : (c : Colour) → codeOf d table (sameDepth depth) pixel c ≡ codeOne d table (depth .greatest) pixel c
-  code-one c = short-division table (depth .greatest) (width (domain d c)) c (sharesFor d (depth .greatest) pixel (d .kind) c) deep
+  code-one c = short-division table (depth .greatest) (span d c) c (sharesFor d (depth .greatest) pixel (d .kind) c) deep
 
   correct-one : correct d table (sameDepth depth) pixel ≡ correctOne d table (depth .greatest) pixel
   correct-one i = record { red = code-one Red i; green = code-one Green i; blue = code-one Blue i }

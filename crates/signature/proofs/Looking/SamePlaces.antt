@@ -1,13 +1,13 @@
 -- Past 24, a look knows a description and a pixel by the kind, N, each colour's D, index and fraction, and whether the codes are within the depth: where two have
 -- the same, it answers the same.
 use Prim.Native.Nat.{ℕ}
-use mathlib.Core.Path.{_≡_, ap, ap₂, _∙_}
+use mathlib.Core.Path.{_≡_, refl, sym, _∙_}
 use mathlib.Core.Bool.{cond}
-use mathlib.Core.List.{List, _++_}
+use mathlib.Core.List.{List}
 use lib.IntN.{ℤ}
 use Rattle.rules.specs.Units.{rawM, correctedM}
-use Rattle.rules.specs.Looking.Interpolation.{denOf, indexOf, fractionOf, order, pairBy, pathBy, pair, path, sharesFor, codeBy}
-use Rattle.rules.specs.Looking.{within, shown, six, codeOf, correct, lookAt}
+use Rattle.rules.specs.Looking.Interpolation.{denOf, indexOf, fractionOf, pair, path, sharesFor, codeBy}
+use Rattle.rules.specs.Looking.{within, shown, lookAt}
 use Rattle.rules.specs.declared.Codes.{Codes}
 use Rattle.rules.specs.declared.Colour.{Colour}
 use Rattle.rules.specs.declared.Colour.the-variants.{Red, Green, Blue}
@@ -18,8 +18,31 @@ use Rattle.rules.specs.declared.Kind.{Kind}
 use Rattle.rules.specs.declared.Kind.the-variants.{OneD, ThreeD}
 use Rattle.rules.specs.declared.Look.the-variants.{Accepted, Refused}
 use Rattle.rules.specs.declared.Refusal.the-variants.{CodeTooGreat}
+use Rattle.signature.specs.OneDomain.{sharesWith, shownWith, lookWith}
 
--- m is the M of raw codes
+-- ---- what it is made of; m is the M of raw codes
+
+module _ (d : Description) (m : ℕ) (pixel : Codes) where
+  shares-with : (k : Kind) (c : Colour) → sharesFor d m pixel k c ≡ sharesWith (d .n) (denOf d m) (indexOf d m pixel) (fractionOf d m pixel) k c
+  unfolding pair path
+  shares-with OneD c = refl
+  shares-with ThreeD c = refl
+
+  shown-with : (k : Kind) → shown d m pixel k ≡ shownWith (d .n) (denOf d m) (indexOf d m pixel) (fractionOf d m pixel) k
+  unfolding shown pair path
+  shown-with OneD = refl
+  shown-with ThreeD = refl
+
+pub look-with : (d : Description) (table : List ℤ) (depths : Depths) (pixel : Codes) → let m = rawM depths in
+    lookAt d table pixel (Both depths) ≡ lookWith (d .n) (denOf d m) (indexOf d m pixel) (fractionOf d m pixel) (within m pixel) (d .kind) table (correctedM depths)
+unfolding lookAt
+look-with d table depths pixel i =
+    let m = rawM depths in
+    let code : Colour → ℕ = λ c. codeBy (correctedM depths) (denOf d m c) table c (shares-with d m pixel (d .kind) c i) in
+    cond (within m pixel) (Accepted (record { red = code Red; green = code Green; blue = code Blue }) (shown-with d m pixel (d .kind) i)) (Refused CodeTooGreat)
+
+-- ---- two that have the same
+
 pub record SamePlaces (m : ℕ) (d e : Description) (a b : Codes) : Type 0 where
   pub kind : d .kind ≡ e .kind
   pub n : d .n ≡ e .n
@@ -28,35 +51,9 @@ pub record SamePlaces (m : ℕ) (d e : Description) (a b : Codes) : Type 0 where
   pub indices : (c : Colour) → indexOf d m a c ≡ indexOf e m b c
   pub fractions : (c : Colour) → fractionOf d m a c ≡ fractionOf e m b c
 
-module _ {m : ℕ} {d e : Description} {a b : Codes} (s : SamePlaces m d e a b) where
-  same-pair : (c : Colour) → pair d m a c ≡ pair e m b c
-  unfolding pair
-  same-pair c i = pairBy (s .dens c i) (s .indices c i) (s .fractions c i)
-
-  same-path : path d m a ≡ path e m b
-  unfolding path
-  same-path i = pathBy (s .n i) (s .dens Red i) (λ c. s .indices c i) (λ c. s .fractions c i) (order (λ c. s .fractions c i))
-
-  same-shares : (k : Kind) (c : Colour) → sharesFor d m a k c ≡ sharesFor e m b k c
-  same-shares OneD c = same-pair c
-  same-shares ThreeD c = same-path
-
-  same-shown : (k : Kind) → shown d m a k ≡ shown e m b k
-  unfolding shown
-  same-shown OneD = λ i. six (same-pair Red i ++ (same-pair Green i ++ same-pair Blue i))
-  same-shown ThreeD = ap six same-path
-
-module _ (table : List ℤ) (depths : Depths) {d e : Description} {a b : Codes} (s : SamePlaces (rawM depths) d e a b) where
-  same-code : (c : Colour) → codeOf d table depths a c ≡ codeOf e table depths b c
-  same-code c =
-      ap₂ (λ den ss. codeBy (correctedM depths) den table c ss) (s .dens c)
-      (same-shares s (d .kind) c ∙ ap (λ k. sharesFor e (rawM depths) b k c) (s .kind))
-
-  same-correct : correct d table depths a ≡ correct e table depths b
-  same-correct i = record { red = same-code Red i; green = same-code Green i; blue = same-code Blue i }
-
-  pub same-look : lookAt d table a (Both depths) ≡ lookAt e table b (Both depths)
-  unfolding lookAt
-  same-look =
-      let shares = same-shown s (d .kind) ∙ ap (shown e (rawM depths) b) (s .kind) in
-      λ i. cond (s .inside i) (Accepted (same-correct i) (shares i)) (Refused CodeTooGreat)
+pub same-look : (table : List ℤ) (depths : Depths) {d e : Description} {a b : Codes} → SamePlaces (rawM depths) d e a b
+    → lookAt d table a (Both depths) ≡ lookAt e table b (Both depths)
+same-look table depths {d} {e} {a} {b} s =
+    look-with d table depths a
+    ∙ (λ i. lookWith (s .n i) (λ c. s .dens c i) (λ c. s .indices c i) (λ c. s .fractions c i) (s .inside i) (s .kind i) table (correctedM depths))
+    ∙ sym (look-with e table depths b)

@@ -1,23 +1,29 @@
--- The promise of look refutes wrong programs, those that document 01 names under "What the signature covers", those that two depths invite
--- (document 02, Req 06), and some of our own. What such a program does is said of any program at all; that it keeps the promise is then absurd, at an input that
+-- The promise of look refutes wrong programs, those that document 01 names under "What the signature covers", those that two depths and domains that differ
+-- invite (document 02, Req 06 and 07), and some of our own. What such a program does is said of any program at all; that it keeps the promise is then absurd, at an input that
 -- the theorem holds.
 use Prim.Native.Nat.{ℕ, _*_}
 use Prim.Native.String.{String}
-use mathlib.Core.Path.{_≡_, sym, ap, _∙_}
-use mathlib.Core.List.{List, [], _∷_}
+use mathlib.Core.Path.{_≡_, refl, sym, ap, _∙_}
+use mathlib.Core.Bool.{false}
+use mathlib.Core.List.{List, [], _∷_, map}
 use native.Mathlib.Omega.{arith}
-use lib.IntN.{ℤ, pos}
+use lib.IntN.{ℤ, pos, natAbs}
 use lib.ListN.{getD}
 use Rattle.whole.specs.Nearest.{code}
-use Rattle.rules.specs.Units.{bitsOf, sameBits}
-use Rattle.rules.specs.Looking.{look}
-use Rattle.rules.specs.Answers.{lookNumber, lookCodes, lookRows, lookWeights}
+use Rattle.rules.specs.Units.{bitsOf, sameBits, depthsOf}
+use Rattle.rules.specs.Descriptions.{everyColour, oneDomain, wholeBounds}
+use Rattle.rules.specs.Looking.Interpolation.{order, pathIn}
+use Rattle.rules.specs.Looking.{six, look}
+use Rattle.rules.specs.Answers.{lookNumber, sharesOf, lookCodes, lookRows, lookWeights}
 use Rattle.rules.specs.Promises.{Looks}
 use Rattle.rules.specs.declared.Bits.{Bits}
 use Rattle.rules.specs.declared.Codes.{Codes}
 use Rattle.rules.specs.declared.Description.{Description}
+use Rattle.rules.specs.declared.Kind.the-variants.{ThreeD}
 use Rattle.rules.specs.declared.Look.{Look}
+use Rattle.rules.specs.declared.Share.{Share}
 use Rattle.signature.specs.Cases.{describedBy, tableFrom, grey, zeroAndHalf, minusAndPlusHalf, corner, cornerPixel}
+use Rattle.signature.specs.OneDomain.{ownFraction, lookBeforeAt, redWider, greenHigher, allWider, greenFirst, cubeTo}
 use Rattle.signature.proofs.Cases.{opened}
 
 abbrev pub Looker : Type 0
@@ -28,6 +34,12 @@ LooksAll f = (d : Description) (table : List ℤ) (bits : Bits) (pixel : Codes) 
 
 abbrev first : List ℕ → ℕ
 first xs = getD xs 0 0
+
+abbrev second : List ℕ → ℕ
+second xs = getD xs 1 0
+
+abbrev firstWeight : List ℤ → ℕ
+firstWeight ws = natAbs (getD ws 0 (pos 0))
 
 -- a code of a depth with greatest code m, as the nearest of one with greatest code n
 abbrev pub rescaled : ℕ → ℕ → ℕ → ℕ
@@ -118,3 +130,58 @@ module _ (f : Looker) (keeps : LooksAll f) where
   pub judges-by-the-corrected-m : lookNumber (between 8 16 (grey 256)) ≡ 0 → ⊥
   unfolding opened
   judges-by-the-corrected-m e = let z : _≡_ {A = ℕ} 23 0 = sym (kept-between 8 16 (grey 256) .number) ∙ e in omega arith
+
+  -- ---- domains that differ
+
+  -- red from 0 to 2, the others from 0 to 1: rows 0, 2, 3, 7 and weights 204, 102, 102, 102, which add up to 510
+  green-first : second (lookRows (seen redWider greenFirst)) ≡ 2
+  unfolding opened
+  green-first = ap second (kept redWider greenFirst .rows)
+
+  -- the order of the fractions' own numerators, each over a D of its own: rows 0, 1, 3, 7
+  pub orders-by-own-numerators : let d = describedBy redWider in
+      lookRows (seen redWider greenFirst) ≡ map (λ (s : Share). s .row) (sharesOf (six (pathIn d 255 greenFirst (order (ownFraction d 255 greenFirst))))) → ⊥
+  unfolding opened
+  orders-by-own-numerators e = let z : _≡_ {A = ℕ} 2 1 = sym green-first ∙ ap second e in omega arith
+
+  -- the weights of a look that brings nothing to a common D: 306,000 first, of 510,000
+  abbrev weightsBefore : String → List ℤ
+  weightsBefore file = lookWeights (lookBeforeAt (describedBy file) (tableFrom file) greenFirst (depthsOf (sameBits 8)))
+
+  pub brings-nothing : lookWeights (seen redWider greenFirst) ≡ weightsBefore redWider → ⊥
+  unfolding opened lookBeforeAt
+  brings-nothing e = let z : _≡_ {A = ℕ} 204 306_000 = sym (ap firstWeight (kept redWider greenFirst .weights)) ∙ ap firstWeight e in omega arith
+
+  -- widths compared in place of domains: green from 1 to 2 beside 0 to 1 differs, and the weights add up to 255, not to 255,000
+  pub compares-widths : lookWeights (seen greenHigher greenFirst) ≡ weightsBefore greenHigher → ⊥
+  unfolding opened lookBeforeAt
+  compares-widths e = let z : _≡_ {A = ℕ} 51 51_000 = sym (ap firstWeight (kept greenHigher greenFirst .weights)) ∙ ap firstWeight e in omega arith
+
+  -- the common D also where the domains are one, from 0 to 2: the weights add up to 510,000 there, not to 2,040
+  pub common-d-for-one-domain : lookWeights (seen allWider greenFirst) ≡ pos 1_224 ∷ pos 204 ∷ pos 408 ∷ pos 204 ∷ pos 0 ∷ pos 0 ∷ [] → ⊥
+  unfolding opened
+  common-d-for-one-domain e = let z : _≡_ {A = ℕ} 306_000 1_224 = sym (ap firstWeight (kept allWider greenFirst .weights)) ∙ ap firstWeight e in omega arith
+
+  pub refuses-mixed-domains : ((d : Description) (table : List ℤ) (bits : Bits) (pixel : Codes) → d .kind ≡ ThreeD → oneDomain d ≡ false
+      → lookNumber (f d table bits pixel) ≡ 24) → ⊥
+  unfolding opened
+  refuses-mixed-domains always =
+      let e = always (describedBy redWider) (tableFrom redWider) (sameBits 8) greenFirst refl refl in
+      let z : _≡_ {A = ℕ} 0 24 = sym (kept redWider greenFirst .number) ∙ e in
+      omega arith
+
+  -- blue from 0 to 1.5, beside 0 to 2 and 0 to 1
+  pub takes-an-uneven-bound : lookNumber (f (cubeTo 2000 1000 1500) (tableFrom redWider) (sameBits 8) greenFirst) ≡ 0 → ⊥
+  unfolding opened
+  takes-an-uneven-bound e =
+      let z : _≡_ {A = ℕ} 24 0 = sym (keeps (cubeTo 2000 1000 1500) (tableFrom redWider) (sameBits 8) greenFirst .number) ∙ e in
+      omega arith
+
+  -- all three from 0 to 1.5
+  pub asks-one-domain-to-be-whole : ((d : Description) (table : List ℤ) (bits : Bits) (pixel : Codes) → d .kind ≡ ThreeD → everyColour wholeBounds d ≡ false
+      → lookNumber (f d table bits pixel) ≡ 24) → ⊥
+  unfolding opened
+  asks-one-domain-to-be-whole always =
+      let e = always (cubeTo 1500 1500 1500) (tableFrom redWider) (sameBits 8) greenFirst refl refl in
+      let z : _≡_ {A = ℕ} 0 24 = sym (keeps (cubeTo 1500 1500 1500) (tableFrom redWider) (sameBits 8) greenFirst .number) ∙ e in
+      omega arith

@@ -1,20 +1,26 @@
--- The promise of picture refutes wrong programs, those that document 01 names under "What the signature covers", those that two depths invite
--- (document 02, Req 06), and some of our own. What such a program does is said of any program at all; that it keeps the promise is then absurd, at an input that
+-- The promise of picture refutes wrong programs, those that document 01 names under "What the signature covers", those that two depths and domains that differ
+-- invite (document 02, Req 06 and 07), and some of our own. What such a program does is said of any program at all; that it keeps the promise is then absurd, at an input that
 -- the theorem holds.
 use Prim.Native.Nat.{ℕ}
-use mathlib.Core.Path.{_≡_, sym, ap, _∙_}
+use mathlib.Core.Path.{_≡_, refl, sym, ap, _∙_}
+use mathlib.Core.Bool.{false}
 use mathlib.Core.List.{List, [], _∷_}
 use native.Mathlib.Omega.{arith}
 use lib.IntN.{ℤ}
 use lib.ListN.{getD, replicate}
-use Rattle.rules.specs.Units.{bitsOf, sameBits}
+use Rattle.rules.specs.Units.{bitsOf, sameBits, depthsOf}
+use Rattle.rules.specs.Descriptions.{oneDomain}
+use Rattle.rules.specs.Looking.Interpolation.{denOf, order, pathIn, codeBy}
 use Rattle.rules.specs.Picturing.{corrected}
-use Rattle.rules.specs.Answers.{pictureNumber}
+use Rattle.rules.specs.Answers.{codesOf, lookCodes, pictureNumber}
 use Rattle.rules.specs.Promises.{Pictures}
 use Rattle.rules.specs.declared.Bits.{Bits}
+use Rattle.rules.specs.declared.Colour.the-variants.{Red}
 use Rattle.rules.specs.declared.Description.{Description}
+use Rattle.rules.specs.declared.Kind.the-variants.{ThreeD}
 use Rattle.rules.specs.declared.Picture.{Picture}
 use Rattle.signature.specs.Cases.{describedBy, tableFrom, zeroAndHalf}
+use Rattle.signature.specs.OneDomain.{ownFraction, lookBeforeAt, redWider, greenFirst, cubeTo}
 use Rattle.signature.proofs.Cases.{opened}
 use Rattle.signature.proofs.Looking.WrongPrograms.{rescaled}
 
@@ -99,3 +105,40 @@ module _ (f : Painter) (keeps : PicturesAll f) where
   pub judges-by-the-corrected-m : pictureNumber (between 8 16 (1 ∷ 3 ∷ 256 ∷ []) .0) ≡ 0 → ⊥
   unfolding opened
   judges-by-the-corrected-m e = let z : _≡_ {A = ℕ} 23 0 = sym (kept-between 8 16 (1 ∷ 3 ∷ 256 ∷ []) .number) ∙ e in omega arith
+
+  -- ---- domains that differ: one pixel, of a table with red from 0 to 2 and the others from 0 to 1
+
+  abbrev painted-in : Description → Picture × List ℕ
+  painted-in d = f d (tableFrom redWider) (sameBits 8) (codesOf greenFirst) output
+
+  abbrev kept-in : (d : Description) → Pictures d (tableFrom redWider) (sameBits 8) (codesOf greenFirst) output (painted-in d .0) (painted-in d .1)
+  kept-in d = keeps d (tableFrom redWider) (sameBits 8) (codesOf greenFirst) output
+
+  green-first : at 0 (painted-in (describedBy redWider) .1) ≡ 102
+  unfolding opened
+  green-first = ap (at 0) (kept-in (describedBy redWider) .memory)
+
+  -- the order of the fractions' own numerators, each over a D of its own: 51
+  pub orders-by-own-numerators : let d = describedBy redWider in
+      at 0 (painted-in d .1) ≡ codeBy 255 (denOf d 255 Red) (tableFrom redWider) Red (pathIn d 255 greenFirst (order (ownFraction d 255 greenFirst))) → ⊥
+  unfolding opened
+  orders-by-own-numerators e = let z : _≡_ {A = ℕ} 102 51 = sym green-first ∙ e in omega arith
+
+  -- nothing brought to a common D: 26
+  pub brings-nothing : let d = describedBy redWider in
+      at 0 (painted-in d .1) ≡ at 0 (lookCodes (lookBeforeAt d (tableFrom redWider) greenFirst (depthsOf (sameBits 8)))) → ⊥
+  unfolding opened lookBeforeAt
+  brings-nothing e = let z : _≡_ {A = ℕ} 102 26 = sym green-first ∙ e in omega arith
+
+  pub refuses-mixed-domains : ((d : Description) (table : List ℤ) (bits : Bits) (src dst : List ℕ) → d .kind ≡ ThreeD → oneDomain d ≡ false
+      → pictureNumber (f d table bits src dst .0) ≡ 24) → ⊥
+  unfolding opened
+  refuses-mixed-domains always =
+      let e = always (describedBy redWider) (tableFrom redWider) (sameBits 8) (codesOf greenFirst) output refl refl in
+      let z : _≡_ {A = ℕ} 0 24 = sym (kept-in (describedBy redWider) .number) ∙ e in
+      omega arith
+
+  -- blue from 0 to 1.5, beside 0 to 2 and 0 to 1
+  pub takes-an-uneven-bound : pictureNumber (painted-in (cubeTo 2000 1000 1500) .0) ≡ 0 → ⊥
+  unfolding opened
+  takes-an-uneven-bound e = let z : _≡_ {A = ℕ} 24 0 = sym (kept-in (cubeTo 2000 1000 1500) .number) ∙ e in omega arith

@@ -41,9 +41,9 @@ use Rattle.signature.specs.Before.{endBy, judgeBy, judgesBy, orderBy, re
 use Rattle.signature.proofs.Reading.Parts.{read-is}
 use Rattle.signature.proofs.Reading.Room.{Bounded, line-bounded, no-room, start-bounded}
 
--- 1 to 18 but for 13
+-- 1 to 18 but for 12 and 13
 abbrev pub plain : Refusal → Bool
-plain r = leb (refusalNumber r) 18 && not (eqb (refusalNumber r) 13)
+plain r = leb (refusalNumber r) 18 && (not (eqb (refusalNumber r) 12) && not (eqb (refusalNumber r) 13))
 
 -- what is said of refusals, of all that can hold one
 module _ (Low : Refusal → Type 0) where
@@ -86,12 +86,13 @@ module _ (Low : Refusal → Type 0) where
   -- where it holds of these
   module _ (other : (r : Refusal) → plain r ≡ true → Low r) where
     -- 10 to 13
-    pub domain-low : (places : ℕ) (d : Description) → (roomy places d ≡ false → Low TableTooShort) → LowFault (domainFault places d)
+    pub domain-low : (places : ℕ) (d : Description) → (agree (d .kind) d ≡ false → Low DomainsDiffer) → (roomy places d ≡ false → Low TableTooShort)
+        → LowFault (domainFault places d)
     unfolding domainFault refusalNumber
-    domain-low places d short =
+    domain-low places d differ short =
         need-low (everyColour ordered d) LowerNotBelowUpper _ (λ _. other LowerNotBelowUpper refl)
         (need-low (everyColour narrow d) DomainTooWide _ (λ _. other DomainTooWide refl)
-        (need-low (agree (d .kind) d) DomainsDiffer _ (λ _. other DomainsDiffer refl) (need-low (roomy places d) TableTooShort none short tt)))
+        (need-low (agree (d .kind) d) DomainsDiffer _ differ (need-low (roomy places d) TableTooShort none short tt)))
 
     -- 1 and 2
     byte-low : (l : List ℕ) → LowFault (byteFault l)
@@ -202,7 +203,8 @@ Answered places r = (refusalNumber r ≤ 19) × (refusalNumber r ≡ 13 → plac
 
 plain-answered : (places : ℕ) (r : Refusal) → plain r ≡ true → Answered places r
 plain-answered places r e =
-    let (low, not-13) = and-both (leb (refusalNumber r) 18) _ e in
+    let (low, others) = and-both (leb (refusalNumber r) 18) _ e in
+    let (not-12, not-13) = and-both (not (eqb (refusalNumber r) 12)) _ others in
     (omega (arith, leb-true (refusalNumber r) 18 low), λ q. absurd (eqb-false _ _ (not-true _ not-13) q))
 
 module _ (places : ℕ) where
@@ -214,7 +216,7 @@ module _ (places : ℕ) where
       either (LowFault (Answered places)) (eqb (st .rows) 0) _ none
       (need-low (Answered places) (given (st .size)) NoSize _ (λ _. plainly NoSize refl)
       (need-low (Answered places) (together (st .lower) (st .upper)) HalfADomain _ (λ _. (omega arith, λ e. absurd (omega (arith, e))))
-      (domain-low (Answered places) plainly places (describe st) (λ short. (omega arith, λ _. no-room places (describe st) small short)))))
+      (domain-low (Answered places) plainly places (describe st) (λ _. (omega arith, λ e. absurd (omega (arith, e)))) (λ short. (omega arith, λ _. no-room places (describe st) small short)))))
       tt
 
   answered : (file : List ℕ) → LowAnswer (Answered places) (read file places)

@@ -204,6 +204,14 @@ by-number r n (Refused s k) e m =
     let p : s ≡ r = cc in
     ap₂ Refused p m
 
+-- so whoever gives the number and line of an answer gives r's number and line n exactly where the answer is that refusal
+pub numbers-so : {A : Type 0} {a : Read} (r : Refusal) (n : ℕ) → (a ≡ Refused r n) ↔ A → {number line : ℕ} → number ≡ readNumber a → line ≡ readLine a
+    → ((number ≡ refusalNumber r) × (line ≡ n)) ↔ A
+numbers-so {a = a} r n exactly e m = (
+  λ h. exactly .0 (by-number r n a (sym e ∙ h .0) (sym m ∙ h .1)),
+  λ h. let so = exactly .1 h in (e ∙ ap readNumber so, m ∙ ap readLine so),
+)
+
 module _ (file : List ℕ) (places : ℕ) (r : Refusal) (n : ℕ) where
   -- reading refuses with r on line n exactly where, on the first line that does not pass, the first check that fails has r
   pub read-order : (read file places ≡ Refused r n) ↔ FailsFirst file places r n
@@ -239,10 +247,7 @@ module _ (file : List ℕ) (places : ℕ) (r : Refusal) (n : ℕ) where
   -- so whoever gives reading's number and line gives r's number and line n exactly there
   pub numbers-order : {number line : ℕ} → number ≡ readNumber (read file places) → line ≡ readLine (read file places)
       → ((number ≡ refusalNumber r) × (line ≡ n)) ↔ FailsFirst file places r n
-  numbers-order e m = (
-    λ h. read-order .0 (by-number r n (read file places) (sym e ∙ h .0) (sym m ∙ h .1)),
-    λ f. let so = read-order .1 f in (e ∙ ap readNumber so, m ∙ ap readLine so),
-  )
+  numbers-order = numbers-so r n read-order
 
 -- every reader that keeps the promise
 pub reads-order : {file : List ℕ} {table table′ : List ℤ} {a : Read} → Reads file table a table′ → (r : Refusal) (n : ℕ)

@@ -24,7 +24,8 @@ use Rattle.rules.proofs.Tests.{need-none, no-true, none-or}
 use Rattle.rules.proofs.Reading.Order.{formFor}
 use Rattle.rules.proofs.Reading.Walk.{no-refused}
 use Rattle.signature.specs.Before.{judgeBy, judgesBy, orderBy, readLinesBy}
-use Rattle.signature.specs.HalfDomains.{AtHead, HalfDomain, among, dataLine, lower-alone, lowerLine, sizeLine, upper-alone, upperLine}
+use Rattle.signature.specs.HalfDomains.{HalfDomain, lower-alone, lowerLine, sizeLine, upper-alone, upperLine}
+use Rattle.signature.specs.Heads.{AtHead, among, dataLine}
 use Rattle.signature.specs.Order.{Leads}
 use Rattle.signature.proofs.Reading.Parts.{passes-by}
 

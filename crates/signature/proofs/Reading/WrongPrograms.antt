@@ -11,7 +11,8 @@ use Rattle.rules.specs.Reading.Lines.{bytes}
 use Rattle.rules.specs.Answers.{readNumber, readLine}
 use Rattle.rules.specs.Promises.{Reads}
 use Rattle.rules.specs.declared.Read.{Read}
-use Rattle.signature.specs.Cases.{noUpper, untouched, sampleA3, threeRows, zeroAndHalf}
+use Rattle.signature.specs.Cases.{noUpper, oneUneven, unevenBesideWhole, untouched, sampleA3, threeRows, zeroAndHalf}
+use Rattle.signature.specs.OneDomain.{redWider}
 use Rattle.signature.proofs.Cases.{opened}
 
 abbrev pub Reader : Type 0
@@ -131,3 +132,18 @@ module _ (f : Reader) (keeps : ReadsAll f) where
   pub asks-for-a-domain : readNumber (answered zeroAndHalf) ≡ 19 → ⊥
   unfolding opened
   asks-for-a-domain e = let z : _≡_ {A = ℕ} 0 19 = sym (keeps (bytes zeroAndHalf) sevens .number) ∙ e in omega arith
+
+  -- domains that differ refused, whole or not, as it was before document 02's Req 07
+  pub refuses-mixed-domains : readNumber (answered redWider) ≡ 12 → ⊥
+  unfolding opened
+  refuses-mixed-domains e = let z : _≡_ {A = ℕ} 0 12 = sym (keeps (bytes redWider) sevens .number) ∙ e in omega arith
+
+  -- widths compared in place of domains
+  pub compares-widths : readNumber (answered unevenBesideWhole) ≡ 18 → ⊥
+  unfolding opened
+  compares-widths e = let z : _≡_ {A = ℕ} 12 18 = sym (keeps (bytes unevenBesideWhole) sevens .number) ∙ e in omega arith
+
+  -- whole bounds asked for where the domains are one
+  pub asks-one-domain-to-be-whole : readNumber (answered oneUneven) ≡ 12 → ⊥
+  unfolding opened
+  asks-one-domain-to-be-whole e = let z : _≡_ {A = ℕ} 0 12 = sym (keeps (bytes oneUneven) sevens .number) ∙ e in omega arith

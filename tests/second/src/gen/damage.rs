@@ -5,7 +5,8 @@
 
 use super::draws::Draws;
 use super::files::{bounds_line, comment, domain_line, finished, kept, line_of, size_line};
-use super::files::{Draft, Line, Part};
+use super::files::{one_bound_not_whole, two_colours_not_whole};
+use super::files::{Bounds, Draft, Line, Part};
 use super::words;
 use super::FileCase;
 use crate::paper::{Kind, DEFAULT_LOWER, DEFAULT_UPPER, LONGEST_LINE};
@@ -70,6 +71,8 @@ const DAMAGES: &[(&str, Change)] = &[
     ("10: bounds not in order", bounds_not_in_order),
     ("11: a domain about 10 wide", domain_wide),
     ("12: domains that differ", domains_differ),
+    ("12: one bound of mixed domains not whole", mixed_but_for_one),
+    ("12: bounds of two colours not whole", mixed_but_for_two),
     ("13: the table one place short", table_one_short),
     ("13: a table of any length", table_any_length),
     ("14: a row too many", row_too_many),
@@ -449,8 +452,10 @@ fn one_domain_line(draft: &mut Draft, draws: &mut Draws) {
 /// default of the lower bounds is 0, no upper bounds alone make a domain too wide.
 fn bounds_alone(draws: &mut Draws, part: Part) -> [i64; 3] {
     let bound = match part {
-        Part::Lower => draws.pick(&[0, -1_000, 999, 1_000, 2_000, -9_000, -9_001, -10_000]),
-        _ => draws.pick(&[1_000, 2_000, 10_000, 1, 0, -1_000]),
+        Part::Lower => {
+            draws.pick(&[0, -1_000, 999, -1, -8_999, 1_000, 2_000, -9_000, -9_001, -10_000])
+        }
+        _ => draws.pick(&[1_000, 2_000, 10_000, 1, 1_001, 9_999, 0, -1_000]),
     };
     if draws.one_in(3) {
         return [bound; 3];
@@ -473,7 +478,7 @@ fn one_domain_line_no_size(draft: &mut Draft, draws: &mut Draws) {
     }
 }
 
-fn set_bounds(draft: &mut Draft, draws: &mut Draws, lower: [i64; 3], upper: [i64; 3]) {
+fn set_bounds(draft: &mut Draft, draws: &mut Draws, (lower, upper): Bounds) {
     let line = bounds_line(draws, Part::Lower, &lower);
     exchange(draft, draws, line);
     let line = bounds_line(draws, Part::Upper, &upper);
@@ -492,7 +497,7 @@ fn bounds_not_in_order(draft: &mut Draft, draws: &mut Draws) {
     if draws.one_in(2) {
         (lower, upper) = ([lower[colour]; 3], [upper[colour]; 3]);
     }
-    set_bounds(draft, draws, lower, upper);
+    set_bounds(draft, draws, (lower, upper));
 }
 
 fn domain_wide(draft: &mut Draft, draws: &mut Draws) {
@@ -504,7 +509,7 @@ fn domain_wide(draft: &mut Draft, draws: &mut Draws) {
     if draws.one_in(2) {
         (lower, upper) = ([lower[colour]; 3], [upper[colour]; 3]);
     }
-    set_bounds(draft, draws, lower, upper);
+    set_bounds(draft, draws, (lower, upper));
 }
 
 fn domains_differ(draft: &mut Draft, draws: &mut Draws) {
@@ -516,7 +521,17 @@ fn domains_differ(draft: &mut Draft, draws: &mut Draws) {
     } else {
         upper[colour] += by;
     }
-    set_bounds(draft, draws, lower, upper);
+    set_bounds(draft, draws, (lower, upper));
+}
+
+fn mixed_but_for_one(draft: &mut Draft, draws: &mut Draws) {
+    let bounds = one_bound_not_whole(draws);
+    set_bounds(draft, draws, bounds);
+}
+
+fn mixed_but_for_two(draft: &mut Draft, draws: &mut Draws) {
+    let bounds = two_colours_not_whole(draws);
+    set_bounds(draft, draws, bounds);
 }
 
 fn table_one_short(draft: &mut Draft, _: &mut Draws) {

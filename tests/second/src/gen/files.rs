@@ -4,8 +4,8 @@ use super::damage;
 use super::draws::Draws;
 use super::words;
 use super::FileCase;
-use crate::paper::{Kind, DEFAULT_LOWER, DEFAULT_UPPER, GREATEST_BOUND, GREATEST_SAMPLE};
-use crate::paper::{GREATEST_WIDTH, LONGEST_LINE};
+use crate::paper::{Kind, BOUND_UNITS, DEFAULT_LOWER, DEFAULT_UPPER, GREATEST_BOUND};
+use crate::paper::{GREATEST_SAMPLE, GREATEST_WIDTH, LONGEST_LINE};
 
 /// What a line of a draft is there for.
 #[derive(Clone, Copy, PartialEq, Eq, Debug)]
@@ -94,14 +94,76 @@ fn keyword_lines(draws: &mut Draws, kind: Kind, n: i64) -> Vec<Line> {
     lines
 }
 
-/// Bounds in thousandths that keep 8, 10, 11 and 12.
-pub fn some_bounds(draws: &mut Draws, kind: Kind) -> ([i64; 3], [i64; 3]) {
-    let first = some_domain(draws);
-    let domains = match kind {
-        Kind::OneD => [first, some_domain(draws), some_domain(draws)],
-        Kind::ThreeD => [first; 3],
-    };
+/// Lower and upper bounds of the three colours, in thousandths.
+pub type Bounds = ([i64; 3], [i64; 3]);
+
+fn bounds_of(domains: [(i64, i64); 3]) -> Bounds {
     (domains.map(|domain| domain.0), domains.map(|domain| domain.1))
+}
+
+/// Bounds that keep 8, 10, 11 and 12.
+pub fn some_bounds(draws: &mut Draws, kind: Kind) -> Bounds {
+    let first = some_domain(draws);
+    bounds_of(match kind {
+        Kind::OneD => [first, some_domain(draws), some_domain(draws)],
+        Kind::ThreeD if draws.one_in(2) => mixed_domains(draws),
+        Kind::ThreeD => [first; 3],
+    })
+}
+
+/// Domains of whole bounds that differ. At times all widths are alike, all lower bounds are 0, or
+/// two colours have one domain.
+fn mixed_domains(draws: &mut Draws) -> [(i64, i64); 3] {
+    let mut domains = [(0, 0); 3];
+    while domains[0] == domains[1] && domains[1] == domains[2] {
+        let alike = draws.pick(&[1, 2, 3, 10]);
+        let same_width = draws.one_in(4);
+        let from_0 = draws.one_in(3);
+        domains = [0; 3].map(|_| {
+            let width = if same_width { alike } else { draws.between(1, 10) };
+            let lower = if from_0 { 0 } else { whole_lower(draws, width) };
+            (lower * BOUND_UNITS, (lower + width) * BOUND_UNITS)
+        });
+        if draws.one_in(5) {
+            domains[draws.below(3)] = domains[draws.below(3)];
+        }
+    }
+    domains
+}
+
+/// A lower bound in whole units: mostly one with which some raw code, from 0 to 1, is within the
+/// domain or at its end.
+fn whole_lower(draws: &mut Draws, width: i64) -> i64 {
+    let greatest = 10 - width;
+    if draws.one_in(4) {
+        draws.between(-10, greatest)
+    } else {
+        draws.between(-width, greatest.min(1))
+    }
+}
+
+/// Mixed domains with one bound that is not whole: it is moved inwards, by as little as can be or
+/// by nearly a whole.
+pub fn one_bound_not_whole(draws: &mut Draws) -> Bounds {
+    let mut domains = mixed_domains(draws);
+    let (lower, upper) = &mut domains[draws.below(3)];
+    let by = draws.pick(&[1, 500, BOUND_UNITS - 1]);
+    if draws.one_in(2) {
+        *lower += by;
+    } else {
+        *upper -= by;
+    }
+    bounds_of(domains)
+}
+
+/// A domain that two colours have and that is not whole, and a whole one, at times as wide.
+pub fn two_colours_not_whole(draws: &mut Draws) -> Bounds {
+    let shared = draws.pick(&[(0, 1_500), (500, 1_000), (500, 1_500), (-1, 999), (-2_001, 9)]);
+    let whole = mixed_domains(draws)[0];
+    let whole = draws.pick(&[(0, 1_000), whole]);
+    let mut domains = [shared; 3];
+    domains[draws.below(3)] = whole;
+    bounds_of(domains)
 }
 
 fn some_domain(draws: &mut Draws) -> (i64, i64) {

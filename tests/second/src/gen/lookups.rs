@@ -1,13 +1,14 @@
 //! Looks and pictures: descriptions and tables that reading could and could not have
-//! given, pixels on the borders of cells, values on and beside the ties of two codes, and every
-//! pair of depths.
+//! given, pixels on the borders of cells and with equal fractions, values on and beside the ties
+//! of two codes, and every pair of depths.
 
 use super::draws::Draws;
-use super::files::{some_bounds, some_sample};
+use super::files::{one_bound_not_whole, some_bounds, some_sample, two_colours_not_whole, Bounds};
 use super::{LookCase, PictureCase};
-use crate::look::look as looked;
+use crate::look::{look as looked, Look};
 use crate::paper::{greatest_code, number, place, Bits, Description, Greatest, Kind};
-use crate::paper::{DEPTHS, GREATEST_BOUND, GREATEST_SAMPLE, SAMPLE_UNITS};
+use crate::paper::{BOUND_UNITS, DEPTHS, GREATEST_BOUND, GREATEST_SAMPLE, SAMPLE_UNITS};
+use std::cmp::Reverse;
 
 /// A description and a table.
 struct Lent {
@@ -30,6 +31,9 @@ const BREAKS: &[(&str, Break)] = &[
     ("a lower bound about its upper", lower_about_upper),
     ("a domain about 10 wide", domain_wide),
     ("domains that differ", domains_differ),
+    ("a bound a whole away", bound_a_whole_away),
+    ("one bound of mixed domains not whole", mixed_but_for_one),
+    ("bounds of two colours not whole", mixed_but_for_two),
     ("the table one place short", table_one_short),
     ("the table empty", table_empty),
     ("the table shorter", table_shorter),
@@ -141,36 +145,54 @@ fn above(draws: &mut Draws, m: u16) -> u16 {
     }
 }
 
-/// Now and then the two samples that a 1D look weighs for a colour are set so that its value is
-/// that of a tie of two corrected codes, or as near to one as the weights allow, from below or
-/// from above.
+/// Now and then the two samples that weigh most for a colour are set so that its value is that of
+/// a tie of two corrected codes, or as near to one as the weights allow, from below or from above.
+/// Its other samples are set from 0 to 1, so that these two can make up for them.
 fn aim(draws: &mut Draws, lent: &mut Lent, bits: Bits, pixel: [u16; 3]) {
     let seen = looked(&lent.description, &lent.table, bits, pixel);
     let (Some(m), number::ACCEPTED) = (bits.greatest(), seen.number) else {
         return;
     };
-    if lent.description[place::KIND] != Kind::OneD.mark() || !draws.one_in(4) {
+    if !draws.one_in(4) {
         return;
     }
     let colour = draws.below(3);
-    let shares = [2 * colour, 2 * colour + 1];
-    let weights = shares.map(|share| i128::from(seen.weights[share]));
-    let samples = weighing(weights, sum_near_tie(draws, m, weights));
-    for (share, sample) in shares.into_iter().zip(samples) {
-        lent.table[3 * seen.rows[share] as usize + colour] = sample as i64;
+    let shares = heaviest_first(&lent.description, &seen, colour);
+    let at = |share: &usize| 3 * seen.rows[*share] as usize + colour;
+    let weight = |share: &usize| i128::from(seen.weights[*share]);
+    let (heavy, light) = shares.split_at(2);
+    let mut rest = 0;
+    for share in light {
+        lent.table[at(share)] = some_sample(draws, 1);
+        rest += weight(share) * i128::from(lent.table[at(share)]);
+    }
+    let weights = [weight(&heavy[0]), weight(&heavy[1])];
+    let sum = sum_near_tie(draws, m, shares.iter().map(weight).sum(), weights, rest);
+    for (share, sample) in heavy.iter().zip(weighing(weights, sum)) {
+        lent.table[at(share)] = sample as i64;
     }
 }
 
-/// Of the sums that can be made with the weights, the one at the half between two corrected codes,
-/// or the next below or above it. Half of the ties are those that a whole sum can meet.
-fn sum_near_tie(draws: &mut Draws, m: Greatest, weights: [i128; 2]) -> i128 {
+/// The places of a colour's rows among those that a look shows, the greatest weight first.
+fn heaviest_first(description: &Description, seen: &Look, colour: usize) -> Vec<usize> {
+    let one_d = description[place::KIND] == Kind::OneD.mark();
+    let mut shares = if one_d { vec![2 * colour, 2 * colour + 1] } else { vec![0, 1, 2, 3] };
+    shares.sort_by_key(|share| Reverse(seen.weights[*share]));
+    shares
+}
+
+/// Of the sums that can be made with the weights, the one that makes with the rest the half
+/// between two corrected codes, or the next below or above it. Half of the ties are those that a
+/// whole sum can meet. `den` is what all weights add up to.
+fn sum_near_tie(draws: &mut Draws, m: Greatest, den: i128, weights: [i128; 2], rest: i128) -> i128 {
     let (common, _) = common_divisor(m.corrected.into(), m.raw.into());
     let (step, _) = common_divisor(weights[0], weights[1]);
     let m = i64::from(m.corrected);
     let unit = if draws.one_in(2) { m / common as i64 } else { 1 };
     let halves = unit * (2 * draws.between(0, m / unit - 1) + 1);
-    let one = (weights[0] + weights[1]) * i128::from(SAMPLE_UNITS);
-    let steps = i128::from(halves) * one / (i128::from(2 * m) * step);
+    let twice = i128::from(2 * m);
+    let wanted = i128::from(halves) * den * i128::from(SAMPLE_UNITS) - rest * twice;
+    let steps = wanted.div_euclid(twice * step);
     step * (steps + i128::from(draws.between(0, 1)))
 }
 
@@ -196,12 +218,10 @@ pub fn common_divisor(one: i128, other: i128) -> (i128, i128) {
 
 /// A description and table that reading could have given.
 fn kept(draws: &mut Draws) -> Lent {
-    let kind = draws.pick(&[Kind::OneD, Kind::OneD, Kind::ThreeD]);
+    let kind = draws.pick(&[Kind::OneD, Kind::ThreeD]);
     let n = some_n(draws, kind);
-    let (lower, upper) = some_bounds(draws, kind);
     let mut description = [kind.mark(), n, 0, 0, 0, 0, 0, 0, 0, 0, 0];
-    description[place::LOWER..place::LOWER + 3].copy_from_slice(&lower);
-    description[place::UPPER..place::UPPER + 3].copy_from_slice(&upper);
+    set_bounds(&mut description, some_bounds(draws, kind));
     if draws.one_in(4) {
         description[place::TITLE] = 1;
         description[place::TITLE_PLACE] = draws.between(7, 5_000);
@@ -211,6 +231,11 @@ fn kept(draws: &mut Draws) -> Lent {
     let spare = draws.pick(&[0, 0, 0, 1, 3, 10]);
     let length = 3 * kind.rows(n) + spare;
     Lent { description, table: (0..length).map(|_| some_sample(draws, style)).collect() }
+}
+
+fn set_bounds(description: &mut Description, (lower, upper): Bounds) {
+    description[place::LOWER..place::LOWER + 3].copy_from_slice(&lower);
+    description[place::UPPER..place::UPPER + 3].copy_from_slice(&upper);
 }
 
 /// N, mostly small; often one more than a divisor of M, so that borders fall on codes.
@@ -228,10 +253,10 @@ fn some_n(draws: &mut Draws, kind: Kind) -> i64 {
     }
 }
 
-/// Three codes: apart, all alike, two alike, or whole cells apart.
+/// Three codes: apart, all alike, two alike, whole cells apart, or equally far along their domains.
 fn some_pixel(draws: &mut Draws, description: &Description, m: u16) -> [u16; 3] {
     let mut pixel = [0, 1, 2].map(|colour| some_code(draws, description, colour, m));
-    match draws.below(5) {
+    match draws.below(6) {
         0 => pixel = [pixel[0]; 3],
         1 => pixel[draws.below(3)] = pixel[draws.below(3)],
         2 => {
@@ -239,9 +264,33 @@ fn some_pixel(draws: &mut Draws, description: &Description, m: u16) -> [u16; 3] 
             let moved = i64::from(pixel[0]) + cell * draws.between(-3, 3);
             pixel[1 + draws.below(2)] = moved.clamp(0, i64::from(m)) as u16;
         }
+        3 => equally_far(draws, description, m, &mut pixel),
         _ => {}
     }
     pixel
+}
+
+/// Moves codes as far along their domains as one of them is, by whole parts of M, or a whole cell
+/// further or less far: then their fractions are equal, whatever the widths. Some stay, and so
+/// does one for which there is no such code.
+fn equally_far(draws: &mut Draws, description: &Description, m: u16, pixel: &mut [u16; 3]) {
+    let wide = |index: usize| i128::from(description[index]);
+    let (m, whole) = (i128::from(m), i128::from(BOUND_UNITS));
+    let domains = [0, 1, 2].map(|colour| {
+        let lo = wide(place::LOWER + colour);
+        (lo * m, (wide(place::UPPER + colour) - lo).max(1))
+    });
+    let one = draws.below(3);
+    let (start, width) = domains[one];
+    let along = ((whole * i128::from(pixel[one]) - start) / width).clamp(0, m);
+    let cells = wide(place::N).clamp(2, 65_536) - 1;
+    let cell = if m % cells == 0 { m / cells } else { 0 };
+    for (code, (start, width)) in pixel.iter_mut().zip(domains) {
+        let there = start + width * (along + cell * i128::from(draws.between(-1, 1)));
+        if there % whole == 0 && (0..=whole * m).contains(&there) && !draws.one_in(4) {
+            *code = (there / whole) as u16;
+        }
+    }
 }
 
 /// A code from 0 to M: an end, any, or one at or beside the border of a cell.
@@ -353,6 +402,20 @@ fn domain_wide(lent: &mut Lent, draws: &mut Draws) {
 fn domains_differ(lent: &mut Lent, draws: &mut Draws) {
     let at = any_bound(draws);
     lent.description[at] = lent.description[at].saturating_add(draws.pick(&[-1, 1]));
+}
+
+fn bound_a_whole_away(lent: &mut Lent, draws: &mut Draws) {
+    let at = any_bound(draws);
+    let by = draws.pick(&[-BOUND_UNITS, BOUND_UNITS]);
+    lent.description[at] = lent.description[at].saturating_add(by);
+}
+
+fn mixed_but_for_one(lent: &mut Lent, draws: &mut Draws) {
+    set_bounds(&mut lent.description, one_bound_not_whole(draws));
+}
+
+fn mixed_but_for_two(lent: &mut Lent, draws: &mut Draws) {
+    set_bounds(&mut lent.description, two_colours_not_whole(draws));
 }
 
 /// The places that the description asks for, if they are within what is there.

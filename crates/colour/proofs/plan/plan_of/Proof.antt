@@ -4,6 +4,7 @@ use mathlib.Core.Path.{_≡_, ap, ap₂, sym, subst, _∙_}
 use native.Mathlib.Nat.{mul-le-mul}
 use native.Mathlib.Omega.{arith}
 use borrow.Author.Needs.{needs}
+use Rattle.rules.specs.Descriptions.{span}
 use Rattle.rules.specs.declared.Colour.the-variants.{Red, Green, Blue}
 use Rattle.rules.specs.declared.Kind.{Kind}
 use Rattle.colour.specs.Limits.{bottomLimit}
@@ -43,14 +44,14 @@ ratio-of-requires c κs = c .before .before .pre .1
 sub-t10 : tie.Need-sub-t10
 sub-t10 c = omega (arith, sound _ (entry c .pre .0) .least)
 
-axis-of-requires : tie.Need-axis-of-requires
-axis-of-requires c κs = (sound _ (entry c .pre .0) .domains Red, bottom-fits c)
+colour-axis-requires : tie.Need-colour-axis-requires
+colour-axis-requires c κs = (entry c .pre .0, bottom-fits c)
 
-axis-of-requires-2 : tie.Need-axis-of-requires-2
-axis-of-requires-2 c κs = let r = c .before in (sound _ (entry r .pre .0) .domains Green, bottom-fits r)
+colour-axis-requires-2 : tie.Need-colour-axis-requires-2
+colour-axis-requires-2 c κs = let r = c .before in (entry r .pre .0, bottom-fits r)
 
-axis-of-requires-3 : tie.Need-axis-of-requires-3
-axis-of-requires-3 c κs = let r = c .before .before in (sound _ (entry r .pre .0) .domains Blue, bottom-fits r)
+colour-axis-requires-3 : tie.Need-colour-axis-requires-3
+colour-axis-requires-3 c κs = let r = c .before .before in (entry r .pre .0, bottom-fits r)
 
 returns : tie.Need-returns
 returns c =
@@ -59,9 +60,9 @@ returns c =
     let m = r .before .greatest .ensures in
     let ratio = r .ratio-of .ensures in
     let q = ap (λ (x : Ratio). x .bottom) ratio in
-    let red = c .before .before .axis-of .ensures ∙ ap₂ (λ m q. axisOf (a .d .red) m q 1) m q in
-    let green = c .before .axis-of2 .ensures ∙ ap₂ (λ m q. axisOf (a .d .green) m q (a .d .n)) m q in
-    let blue = c .axis-of3 .ensures ∙ ap₂ (λ m q. axisOf (a .d .blue) m q (a .d .n * a .d .n)) m q in
+    let red = c .before .before .colour-axis .ensures ∙ ap₂ (λ m q. axisOf (a .d .red) (span (a .d) Red) m q 1) m q in
+    let green = c .before .colour-axis2 .ensures ∙ ap₂ (λ m q. axisOf (a .d .green) (span (a .d) Green) m q (a .d .n)) m q in
+    let blue = c .colour-axis3 .ensures ∙ ap₂ (λ m q. axisOf (a .d .blue) (span (a .d) Blue) m q (a .d .n * a .d .n)) m q in
     same-plan red green blue (ap (λ (x : Ratio). x .top) ratio)
 
 pub plan-of-spec : {M : Type 1} → statement M
@@ -72,7 +73,7 @@ plan-of-spec =
     greatest-requires
     ratio-of-requires
     sub-t10
-    axis-of-requires
-    axis-of-requires-2
-    axis-of-requires-3
+    colour-axis-requires
+    colour-axis-requires-2
+    colour-axis-requires-3
     returns)

@@ -9,8 +9,8 @@ use Rattle.whole.proofs.Halves as H
 use Rattle.whole.proofs.Held.{Held, of, sub, sub-ok, as-u64, as-u64-ok}
 use Rattle.rules.specs.declared.Domain.{Domain}
 use Rattle.rules.specs.Descriptions.{DomainFits}
-use Rattle.colour.proofs.plan.width_of.Statement.{statement}
-use Rattle.colour.proofs.plan.width_of.Tie as tie
+use Rattle.colour.proofs.span.width_of.Statement.{statement}
+use Rattle.colour.proofs.span.width_of.Tie as tie
 
 module _ (dom : Domain) (f : DomainFits dom) where
   lower : Held (ofZ w64 (dom .lower .0)) (dom .lower .0) 10_000
