@@ -1,6 +1,6 @@
 -- The promise of `erythmoda_look` refutes wrong calls: document 01's wrong programs, those that two depths and domains that differ invite (document 02, Req 06
--- and 07), and those that only a boundary can have. A call is given its input and the lent memory as it was, and answers a number and that memory as it is afterwards. What a wrong call does is
--- said of any call at all; that it keeps the promise is then absurd, at an input that the theorem holds.
+-- and 07), and those that only a boundary can have. A call is given its input and the lent memory as it was, and answers a number and that memory as it is
+-- afterwards. What a wrong call does is said of any call at all; that it keeps the promise is then absurd, at an input that the theorem holds.
 use Prim.Native.Nat.{ℕ}
 use mathlib.Core.Path.{_≡_, sym, ap, _∙_}
 use mathlib.Core.List.{List, [], _∷_}

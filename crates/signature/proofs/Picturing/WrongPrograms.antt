@@ -1,6 +1,6 @@
 -- The promise of picture refutes wrong programs, those that document 01 names under "What the signature covers", those that two depths and domains that differ
--- invite (document 02, Req 06 and 07), and some of our own. What such a program does is said of any program at all; that it keeps the promise is then absurd, at an input that
--- the theorem holds.
+-- invite (document 02, Req 06 and 07), and some of our own. What such a program does is said of any program at all; that it keeps the promise is then absurd,
+-- at an input that the theorem holds.
 use Prim.Native.Nat.{ℕ}
 use mathlib.Core.Path.{_≡_, refl, sym, ap, _∙_}
 use mathlib.Core.Bool.{false}

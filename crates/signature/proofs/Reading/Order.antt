@@ -197,7 +197,7 @@ items-of places p st (l ∷ ls) st′ (next, e, more) =
     (a .item ∷ is, (k, kept), (rw (found p l (a .item) k .form) at (a .placed), admitted), so)
 
 -- a refusal is its number and its line
-pub by-number : (r : Refusal) (n : ℕ) (a : Read) → readNumber a ≡ refusalNumber r → readLine a ≡ n → a ≡ Refused r n
+by-number : (r : Refusal) (n : ℕ) (a : Read) → readNumber a ≡ refusalNumber r → readLine a ≡ n → a ≡ Refused r n
 by-number r n (Accepted d) e m = absurd (refused-not-0 r (sym e))
 by-number r n (Refused s k) e m =
     let so : _≡_ {A = Fault} (some s) (some r) = sym (refusal-of-number s) ∙ ap refusalOf e ∙ refusal-of-number r in
