@@ -59,7 +59,7 @@ pub record HalfGiven (before : List (List ℕ)) (st : State) : Type 0 where
   pub sized : among sizeLine before ≡ true
   pub half : HalfDomain before
 
--- the first refusal comes where the head is checked, and so were the lines before
+-- the first refusal comes where the head is checked, after such lines
 abbrev pub HalfAt : List ℕ → ℕ → ℕ → Type 0
 HalfAt = HeadAt HalfGiven
 

@@ -92,13 +92,13 @@ whole-width dom w =
       NatL.mod-lt (width dom) {m = boundOne} (omega arith),
     )
 
--- from 1 to 10 of them
-module _ (dom : Domain) (fits : DomainFits dom) (w : WholeBounds dom) where
-  units-some : 0 < units dom
-  units-some = omega (arith, whole-width dom w, wide-enough fits)
+-- of them at least one
+units-some : (dom : Domain) → DomainFits dom → WholeBounds dom → 0 < units dom
+units-some dom fits w = omega (arith, whole-width dom w, wide-enough fits)
 
-  units-most : units dom ≤ 10
-  units-most = omega (arith, whole-width dom w, fits .narrow)
+-- and of any domain at most 10
+pub units-most : (dom : Domain) → DomainFits dom → units dom ≤ 10
+units-most dom fits = omega (arith, fits .narrow)
 
 -- ---- how great a span is
 
@@ -120,7 +120,7 @@ module _ (d : Description) {table : List ℤ} (s : Sound d table) (c : Colour) w
       by : Spanned d c → span d c ≤ widthLimit
       by (own e) = rw e (s .domains c .narrow)
       by (common w e) =
-          let most : (k : Colour) → units (domain d k) ≤ 10 = λ k. units-most (domain d k) (s .domains k) (w k) in
+          let most : (k : Colour) → units (domain d k) ≤ 10 = λ k. units-most (domain d k) (s .domains k) in
           omega (arith, e, NatL.mul-le-mul (NatL.mul-le-mul (most Red) (most Green)) (most Blue))
 
 -- ---- a domain in parts of a span

@@ -31,7 +31,7 @@ use Rattle.rules.specs.declared.Refusal.the-variants.{CouldNotBeRead}
 use Rattle.rules.specs.declared.Shares.{Shares}
 use Rattle.rules.proofs.Tests.{no-true, or-none, none-or}
 use Rattle.rules.proofs.Sound.{domain-one, agreed-agree, sound-of, unsound}
-use Rattle.rules.proofs.Looking.Spans.{span-common, span-most, whole-width, in-parts}
+use Rattle.rules.proofs.Looking.Spans.{span-common, span-most, units-most, whole-width, in-parts}
 use Rattle.rules.proofs.Looking.Brought.{paper-readings, position-exact, fraction-exact}
 use Rattle.rules.proofs.Looking.Checks.{look-24}
 use Rattle.rules.proofs.Looking.Demand3.{one-den, den-above-0}
@@ -162,7 +162,7 @@ module _ (d : Description) where
       -- at most 65,535,000
       pub den-common-most : m ≤ 65_535 → (c : Colour) → denOf d m c ≤ 65_535_000
       den-common-most h c =
-          let most : (k : Colour) → units (domain d k) ≤ 10 = λ k. omega (arith, sound .domains k .narrow) in
+          let most : (k : Colour) → units (domain d k) ≤ 10 = λ k. units-most (domain d k) (sound .domains k) in
           rw (den-common m c) (NatL.mul-le-mul h (NatL.mul-le-mul (NatL.mul-le-mul (most Red) (most Green)) (most Blue)))
 
       -- each fraction, before it is brought to D, is a multiple of 1000

@@ -52,7 +52,7 @@ oneAgreed d = agreeBefore (d .kind) d
 abbrev agreed : Description → Bool
 agreed d = agree (d .kind) d
 
--- what fails, of a table with one domain or 1D, of one whose bounds are whole and of any other
+-- what failed before is of a 3D table whose domains differ, and the rule as it is asks that its bounds be whole
 agree-kinds : (d : Description) (k : Kind) (whole : Bool) → everyColour wholeBounds d ≡ whole → agreeBefore k d ≡ false → (k ≡ ThreeD) × (oneDomain d ≡ false) × (agree k d ≡ whole)
 unfolding agree agreeBefore
 agree-kinds d OneD whole w e = absurd (no-true e)
@@ -115,16 +115,17 @@ module _ (places : ℕ) (A B : Description → Bool) (weaker : (d : Description)
 fails-uneven : (places : ℕ) (st : State) → Between places agreed anyDomains (λ d e. refl) st → Differing false st
 fails-uneven places st b = let (cube, differ, uneven) = disagree (describe st) (describe st .kind) .0 (b .fails) in record { passed = b .passed; cube = cube; differ = differ; whole-so = uneven }
 
+-- and what was asked before fails, where the rules are content, of one whose bounds are whole
+fails-whole : (places : ℕ) (st : State) → Between places oneAgreed agreed (λ d. before-agreed d (d .kind)) st → Differing true st
+fails-whole places st b =
+    let (cube, differ, so) = agree-kinds (describe st) (describe st .kind) _ refl (b .fails) in
+    record { passed = b .passed; cube = cube; differ = differ; whole-so = sym so ∙ b .holds }
+
 module _ (places : ℕ) where
   -- the rules' own head, and one that asks nothing of domains
   head-moved : (st : State) → (headFault places st ≡ headAgreed anyDomains places st) ⊎ ((headFault places st ≡ some DomainsDiffer) × Differing false st)
   unfolding headAgreed headFault givenFault domainFault
-  head-moved st = by (rule-moved places agreed anyDomains (λ d e. refl) st)
-    where
-      by : (headAgreed agreed places st ≡ headAgreed anyDomains places st) ⊎ ((headAgreed agreed places st ≡ some DomainsDiffer) × Between places agreed anyDomains (λ d e. refl) st)
-          → (headFault places st ≡ headAgreed anyDomains places st) ⊎ ((headFault places st ≡ some DomainsDiffer) × Differing false st)
-      by (inl same) = inl same
-      by (inr (e, b)) = inr (e, fails-uneven places st b)
+  head-moved st = ⊎-elim inl (λ stops. inr (stops .0, fails-uneven places st (stops .1))) (rule-moved places agreed anyDomains (λ d e. refl) st)
 
   head-uneven : (st : State) → Differing false st → headFault places st ≡ some DomainsDiffer
   unfolding headAgreed headFault givenFault domainFault
@@ -136,7 +137,7 @@ module _ (places : ℕ) where
 
   plain-not-12 : (r : Refusal) → plain r ≡ true → Not12 r
   plain-not-12 r e q =
-      let (low, others) = and-both (leb (refusalNumber r) 18) _ e in
+      let others = and-both (leb (refusalNumber r) 18) _ e .1 in
       eqb-false (refusalNumber r) 12 (not-true _ (and-both (not (eqb (refusalNumber r) 12)) _ others .0)) q
 
   any-not-12 : (st : State) → Bounded (describe st) → LowFault Not12 (headAgreed anyDomains places st)
@@ -173,14 +174,7 @@ module _ (places : ℕ) where
   -- the head as it was, and as it is
   before-moved : (st : State) → (headOne places st ≡ headFault places st) ⊎ ((headOne places st ≡ some DomainsDiffer) × Differing true st)
   unfolding headAgreed headFault givenFault domainFault
-  before-moved st = by (rule-moved places oneAgreed agreed (λ d. before-agreed d (d .kind)) st)
-    where
-      by : (headOne places st ≡ headAgreed agreed places st) ⊎ ((headOne places st ≡ some DomainsDiffer) × Between places oneAgreed agreed (λ d. before-agreed d (d .kind)) st)
-          → (headOne places st ≡ headFault places st) ⊎ ((headOne places st ≡ some DomainsDiffer) × Differing true st)
-      by (inl same) = inl same
-      by (inr (e, b)) =
-          let (cube, differ, so) = agree-kinds (describe st) (describe st .kind) _ refl (b .fails) in
-          inr (e, record { passed = b .passed; cube = cube; differ = differ; whole-so = sym so ∙ b .holds })
+  before-moved st = ⊎-elim inl (λ stops. inr (stops .0, fails-whole places st (stops .1))) (rule-moved places oneAgreed agreed (λ d. before-agreed d (d .kind)) st)
 
   abbrev Stopped : List ℕ → Type 0
   Stopped = H.Stopped headOne headFault places DomainsDiffer (Differing true) before-moved

@@ -1,13 +1,14 @@
--- The widths are at most 10,000, so no product wraps.
+-- Each domain has at most 10 whole units, so no product wraps.
 use Prim.Native.Nat.{ℕ, _*_, _/_, _≤_}
 use mathlib.Core.Path.{_≡_, sym, _∙_}
-use native.Mathlib.Nat.{mul-le-mul, div-le-of-le-mul}
+use native.Mathlib.Nat.{mul-le-mul}
 use native.Mathlib.Omega.{arith}
 use borrow.Author.Needs.{needs}
 use Rattle.rules.specs.Units.{boundOne}
 use Rattle.rules.specs.Descriptions.{width, commonSpan, DomainFits}
 use Rattle.rules.specs.declared.Colour.the-variants.{Red, Green, Blue}
 use Rattle.rules.specs.declared.Domain.{Domain}
+use Rattle.rules.proofs.Looking.Spans.{units-most}
 use Rattle.colour.proofs.Plans.{sound}
 use Rattle.colour.proofs.span.common_span.Statement.{statement}
 use Rattle.colour.proofs.span.common_span.Tie as tie
@@ -15,21 +16,21 @@ use Rattle.colour.proofs.span.common_span.Tie as tie
 abbrev entry : tie.After-width-of3 → tie.Start
 entry c = c .before .before .before .before .before
 
--- each has at most 10 whole units
-units-most : (dom : Domain) {w : ℕ} → w ≡ width dom → DomainFits dom → w / boundOne ≤ 10
-units-most dom e fits = div-le-of-le-mul boundOne (rw e (fits .narrow))
+-- so of the width that was found
+found-most : (dom : Domain) {w : ℕ} → w ≡ width dom → DomainFits dom → w / boundOne ≤ 10
+found-most dom e fits = rw e (units-most dom fits)
 
 two-most : (c : tie.After-width-of3) → c .before .before .before .before .width-of .result / boundOne * (c .before .width-of2 .result / boundOne) ≤ 10 * 10
 two-most c =
     let d = entry c .args .d in
     let fits = sound d (entry c .pre) .domains in
-    mul-le-mul (units-most (d .red) (c .before .before .before .before .width-of .ensures) (fits Red)) (units-most (d .green) (c .before .width-of2 .ensures) (fits Green))
+    mul-le-mul (found-most (d .red) (c .before .before .before .before .width-of .ensures) (fits Red)) (found-most (d .green) (c .before .width-of2 .ensures) (fits Green))
 
 three-most : (c : tie.After-width-of3)
     → c .before .before .before .before .width-of .result / boundOne * (c .before .width-of2 .result / boundOne) * (c .width-of3 .result / boundOne) ≤ 10 * 10 * 10
 three-most c =
     let d = entry c .args .d in
-    mul-le-mul (two-most c) (units-most (d .blue) (c .width-of3 .ensures) (sound d (entry c .pre) .domains Blue))
+    mul-le-mul (two-most c) (found-most (d .blue) (c .width-of3 .ensures) (sound d (entry c .pre) .domains Blue))
 
 width-of-requires : tie.Need-width-of-requires
 width-of-requires c κs = sound _ (c .pre) .domains Red
