@@ -30,7 +30,7 @@ install: ## puts what `make build` made, with header, manual and Python module, 
 uninstall: ## takes away what `make install` put
 	@tools/install remove
 
-demo: ## the specification's samples reported on, a pixel explained, a small picture corrected
+demo: ## the specification's samples reported on, a pixel explained, a small picture corrected, a table written anew
 	@tests/demo
 
 test: ## all proofs and all tests, from nothing; the last line counts them

@@ -14,12 +14,14 @@
 
 /* crates/command/src/lib.rt */
 uint32_t erythmoda_command(uint8_t *file, size_t file_len, int64_t *table, size_t table_len, uint8_t *bytes, size_t bytes_len,
-                           uint16_t *raw, size_t raw_len, uint16_t *corrected, size_t corrected_len);
+                           uint16_t *raw, size_t raw_len, uint16_t *corrected, size_t corrected_len, uint8_t *text,
+                           size_t text_len);
 
 enum {
-    FILE_BYTES = 1 << 30,              /* a file of the largest table has some 600 MB */
-    TABLE_PLACES = 3 * 256 * 256 * 256, /* a 3D table of N = 256 */
-    PIECE_PIXELS = 1 << 20             /* crates/correct/src/pieces.rt */
+    FILE_BYTES = 1 << 30,                    /* a file of the largest table has some 600 MB */
+    TABLE_PLACES = 3 * 256 * 256 * 256,      /* a 3D table of N = 256 */
+    PIECE_PIXELS = 1 << 20,                  /* crates/correct/src/pieces.rt */
+    TEXT_BYTES = 333 + 39 * 256 * 256 * 256  /* no text is longer: text-most in crates/rules/proofs/Writing/Lengths.antt */
 };
 
 static int word_count;
@@ -62,6 +64,7 @@ int main(int argc, char **argv) {
     uint8_t *bytes = lent(6 * (size_t)PIECE_PIXELS);
     uint16_t *raw = lent(3 * (size_t)PIECE_PIXELS * sizeof *raw);
     uint16_t *corrected = lent(3 * (size_t)PIECE_PIXELS * sizeof *corrected);
+    uint8_t *text = lent(TEXT_BYTES);
     return (int)erythmoda_command(file, FILE_BYTES, table, TABLE_PLACES, bytes, 6 * (size_t)PIECE_PIXELS,
-                                  raw, 3 * (size_t)PIECE_PIXELS, corrected, 3 * (size_t)PIECE_PIXELS);
+                                  raw, 3 * (size_t)PIECE_PIXELS, corrected, 3 * (size_t)PIECE_PIXELS, text, TEXT_BYTES);
 }

@@ -1,4 +1,4 @@
-/* Erythmoda: .cube colour tables read and applied, every answer proved. Link liberythmoda.a or liberythmoda.so.
+/* Erythmoda: .cube colour tables read, applied and written, every answer proved. Link liberythmoda.a or liberythmoda.so.
  *
  * Nothing is allocated, kept or shared between calls: all memory is lent by the caller. For each call the caller sees to it that
  *   - a pointer leads to as many places as its length says, or as its type says where there is no length, and is aligned for
@@ -24,9 +24,9 @@ extern "C" {
  * a call changes, so that a program never meets a library with other calls than it was compiled for. MINOR grows when a
  * rule changes, so that some file or pixel is answered otherwise. */
 #define ERYTHMODA_VERSION_MAJOR 1
-#define ERYTHMODA_VERSION_MINOR 1
+#define ERYTHMODA_VERSION_MINOR 2
 #define ERYTHMODA_VERSION_PATCH 0
-#define ERYTHMODA_VERSION "1.1.0"
+#define ERYTHMODA_VERSION "1.2.0"
 
 /* What a table is, in eleven numbers:
  *
@@ -54,7 +54,7 @@ extern "C" {
 
 enum erythmoda_number {
     ERYTHMODA_ACCEPTED = 0,
-    /* of a file, with the line */
+    /* of a file, with the line; 13 of a write too */
     ERYTHMODA_LINE_TOO_LONG = 1,
     ERYTHMODA_BYTE_NOT_PERMITTED = 2,
     ERYTHMODA_NEITHER_DATA_NOR_KEYWORD = 3,
@@ -67,19 +67,23 @@ enum erythmoda_number {
     ERYTHMODA_BOUNDS_NOT_IN_ORDER = 10,
     ERYTHMODA_DOMAIN_TOO_WIDE = 11,
     ERYTHMODA_DOMAINS_DIFFER = 12,
-    ERYTHMODA_TABLE_TOO_SHORT = 13,
+    ERYTHMODA_TOO_LITTLE_ROOM = 13,
+    /* its name where a table is meant */
+    ERYTHMODA_TABLE_TOO_SHORT = ERYTHMODA_TOO_LITTLE_ROOM,
     ERYTHMODA_TOO_MANY_ROWS = 14,
     ERYTHMODA_NOT_THREE_NUMBERS = 15,
     ERYTHMODA_SAMPLE_BEYOND = 16,
     ERYTHMODA_SAMPLE_TOO_FINE = 17,
     ERYTHMODA_TOO_FEW_ROWS = 18,
     ERYTHMODA_HALF_A_DOMAIN = 19,
-    /* of a look or a picture */
+    /* of a look or a picture; 24 of a write too */
     ERYTHMODA_DEPTH_UNKNOWN = 20,
     ERYTHMODA_PICTURE_LENGTH = 21,
     ERYTHMODA_OUTPUT_TOO_SHORT = 22,
     ERYTHMODA_CODE_ABOVE_M = 23,
     ERYTHMODA_COULD_NOT_BE_READ = 24,
+    /* of a write alone */
+    ERYTHMODA_TITLE_NOT_PLAIN = 27,
     /* of the report program alone */
     ERYTHMODA_REPORT_INPUT_TOO_LONG = 30
 };
@@ -100,7 +104,7 @@ static inline const char *erythmoda_words(uint32_t number) {
     case ERYTHMODA_BOUNDS_NOT_IN_ORDER: return "a lower bound is not below its upper bound";
     case ERYTHMODA_DOMAIN_TOO_WIDE: return "a domain is wider than 10";
     case ERYTHMODA_DOMAINS_DIFFER: return "3D with domains that differ between colours, and a bound that is no whole number";
-    case ERYTHMODA_TABLE_TOO_SHORT: return "the lent table has fewer places than three for each row";
+    case ERYTHMODA_TOO_LITTLE_ROOM: return "the lent table is too short for three places a row, or the output for the text";
     case ERYTHMODA_TOO_MANY_ROWS: return "there are more data lines than rows";
     case ERYTHMODA_NOT_THREE_NUMBERS: return "a data line is not three numbers";
     case ERYTHMODA_SAMPLE_BEYOND: return "a sample is beyond -1000 to 1000";
@@ -112,6 +116,7 @@ static inline const char *erythmoda_words(uint32_t number) {
     case ERYTHMODA_OUTPUT_TOO_SHORT: return "the output is shorter than the picture";
     case ERYTHMODA_CODE_ABOVE_M: return "a raw code is above the raw depth's M";
     case ERYTHMODA_COULD_NOT_BE_READ: return "reading could not have given this description and this table";
+    case ERYTHMODA_TITLE_NOT_PLAIN: return "the title has more than 242 bytes, a quote, or a byte other than 0x20 to 0x7E";
     case ERYTHMODA_REPORT_INPUT_TOO_LONG: return "the report's input has more than 65536 bytes";
     default: return "unknown number";
     }
@@ -176,6 +181,32 @@ uint32_t erythmoda_look(const int64_t description[11], const int64_t *table, siz
 uint32_t erythmoda_picture(const int64_t description[11], const int64_t *table, size_t table_len,
                            uint32_t raw_bits, uint32_t corrected_bits,
                            const uint16_t *src, size_t src_len, uint16_t *dst, size_t dst_len);
+
+/* Writes the bytes of a .cube file of a description, a table and the bytes of a title. The lines of the text, in their order:
+ *
+ *   TITLE, and the title between quotes, if place 8 of `description` is not 0
+ *   LUT_1D_SIZE or LUT_3D_SIZE, and N
+ *   DOMAIN_MIN, and the three lower bounds
+ *   DOMAIN_MAX, and the three upper bounds
+ *   the three numbers of a row, for each row
+ *
+ * One space stands between words, and one newline after each line, the last too. A number has the fewest characters that it
+ * can have without an exponent and with a 0 before the point: 0, -0.5, 1, 0.0000001, -1000.
+ *
+ * Where place 8 is 0, the title's bytes are neither written nor judged, however many there are. Places 9 and 10 of
+ * `description` change no answer, and neither do places of the table past three for each row.
+ *
+ * Accepted: `*length` is the length of the text, so many bytes of `out` from its first on are the text, and later bytes keep
+ * theirs. 333 + 39 * rows bytes are always long enough. Reading the text into a table that is long enough is accepted, with
+ * the same numbers and the same description, but for the title: places 8, 9 and 10 are then 1, 7 and `title_len`, or zeros
+ * without a title. What is read from such a text is written to the same bytes.
+ *
+ * Refused: the answer is 24, 27 or 13, tried in that order, `*length` is 0, and nothing is written. 27 is for a title of
+ * more than 242 bytes, with a quote, or with a byte other than 0x20 to 0x7E. 13 is given exactly if `out_len` is less than
+ * the length of the text; a table that is too short is 24. */
+uint32_t erythmoda_write(const int64_t description[11], const int64_t *table, size_t table_len,
+                         const uint8_t *title, size_t title_len,
+                         uint8_t *out, size_t out_len, uint64_t *length);
 
 #ifdef __cplusplus
 }

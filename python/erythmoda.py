@@ -1,9 +1,10 @@
-"""Reads .cube colour tables and corrects pictures by them, over the proved library liberythmoda.
+"""Reads and writes .cube colour tables and corrects pictures by them, over the proved library liberythmoda.
 
     table = erythmoda.read(open("look.cube", "rb").read())
     table.look(8, (51, 102, 204))       # codes, and the rows and weights that made them
     table.picture(8, array("H", [51, 102, 204, 255, 255, 255]))
     table.picture(12, array("H", [819, 1638, 3276]), corrected_bits=16)
+    open("new.cube", "wb").write(table.write())
 
 What the library refuses raises `Refused`. A wrong argument raises TypeError or ValueError before anything is called.
 
@@ -21,7 +22,7 @@ from ctypes import POINTER, byref, c_int64, c_size_t, c_uint8, c_uint16, c_uint3
 from pathlib import Path
 from typing import NamedTuple, Optional, Tuple
 
-__version__ = "1.1.0"
+__version__ = "1.2.0"
 __all__ = ["Description", "Look", "Refused", "Table", "WORDS", "check", "read"]
 
 WORDS = {
@@ -37,7 +38,7 @@ WORDS = {
     10: "a lower bound is not below its upper bound",
     11: "a domain is wider than 10",
     12: "3D with domains that differ between colours, and a bound that is no whole number",
-    13: "the lent table has fewer places than three for each row",
+    13: "the lent table is too short for three places a row, or the output for the text",
     14: "there are more data lines than rows",
     15: "a data line is not three numbers",
     16: "a sample is beyond -1000 to 1000",
@@ -49,6 +50,7 @@ WORDS = {
     22: "the output is shorter than the picture",
     23: "a raw code is above the raw depth's M",
     24: "reading could not have given this description and this table",
+    27: "the title has more than 242 bytes, a quote, or a byte other than 0x20 to 0x7E",
 }
 
 
@@ -147,11 +149,36 @@ class Table:
             raise ValueError("the output overlaps the source or the table's samples")
         return _library.erythmoda_picture(*table, *depths, src, src_count, dst, dst_count), output
 
+    def write(self):
+        """Gives the bytes of a .cube file with this table, and with its title if it has one.
+
+        The lines are the title, the size, the two of the domain, and one for each row; a number has the fewest characters
+        that it can have without an exponent. Reading these bytes gives the same table, which is written to the same bytes.
+
+        A title is at most 242 bytes from 0x20 to 0x7E, none of them a quote; another one is refused as 27.
+        """
+        number, text = self._written()
+        if number:
+            raise Refused(number)
+        return text
+
+    def _written(self):
+        # a function of its own, so that what is borrowed is given back before a refusal is raised
+        title, title_count = _borrowed(b"" if self.title is None else self.title, _BYTES, "the title")
+        table = self._lent()
+        # 333 bytes and 39 for each row are always enough, and the samples make no fewer rows than are written
+        room = bytearray(333 + 13 * table[2])
+        out, count = _borrowed(room, _BYTES, "the output", to_write=True)
+        length = c_uint64()
+        number = _library.erythmoda_write(*table, title, title_count, out, count, byref(length))
+        return number, bytes(memoryview(room)[: length.value])
+
     def _lent(self):
-        """The description, the samples and how many they are, as a call takes them. No call asks for the title."""
+        """The description, the samples and how many they are, as a call takes them. No call asks for the title's place."""
         (red, to_red), (green, to_green), (blue, to_blue) = self.domain
         try:
-            eleven = array("q", [self.kind, self.n, red, green, blue, to_red, to_green, to_blue, 0, 0, 0])
+            titled = self.title is not None
+            eleven = array("q", [self.kind, self.n, red, green, blue, to_red, to_green, to_blue, titled, 0, 0])
         except OverflowError:
             raise ValueError("a number of the description has more than 64 bits") from None
         return ((c_int64 * 11).from_buffer(eleven), *_borrowed(self.samples, _SAMPLES, "the table's samples"))
@@ -265,6 +292,7 @@ _TAKES = {
     "erythmoda_read": (POINTER(c_uint8), c_size_t, POINTER(c_int64), c_size_t, POINTER(c_int64), POINTER(c_uint64)),
     "erythmoda_look": (*_TABLE, *_DEPTHS, POINTER(c_uint16), POINTER(c_uint16), POINTER(c_uint32), POINTER(c_int64)),
     "erythmoda_picture": (*_TABLE, *_DEPTHS, POINTER(c_uint16), c_size_t, POINTER(c_uint16), c_size_t),
+    "erythmoda_write": (*_TABLE, POINTER(c_uint8), c_size_t, POINTER(c_uint8), c_size_t, POINTER(c_uint64)),
 }
 
 

@@ -1,6 +1,6 @@
-/* The four calls from C: document 01's 3D file is judged, read, looked at and applied, with one domain and with mixed ones,
- * every answer is compared, and so is everything lent that a call may not change; then the header's words and version. Prints
- * what is wrong, and exits 1 if anything is. */
+/* The five calls from C: document 01's 3D file is judged, read, looked at and applied, with one domain and with mixed ones, and
+ * written; every answer is compared, and so is everything lent that a call may not change; then the header's words and version.
+ * Prints what is wrong, and exits 1 if anything is. */
 #include <stdio.h>
 #include <stdlib.h>
 #include <string.h>
@@ -11,7 +11,8 @@
 #define ROW_PLACES 24
 #define KEPT 77 /* what lent memory holds beforehand; no call writes it here */
 
-#define CUBE_LINES "LUT_3D_SIZE 2\n0 0 0\n0 0 0\n0 0 0\n0 0 0\n0 0 0\n0 0 0\n0 0 0\n1 1 1\n"
+#define CUBE_ROWS "0 0 0\n0 0 0\n0 0 0\n0 0 0\n0 0 0\n0 0 0\n0 0 0\n1 1 1\n"
+#define CUBE_LINES "LUT_3D_SIZE 2\n" CUBE_ROWS
 static const char CUBE[] = CUBE_LINES;
 static const int64_t CUBE_DESCRIPTION[ERYTHMODA_DESCRIPTION_PLACES] = {3, 2, 0, 0, 0, 1000, 1000, 1000, 0, 0, 0};
 
@@ -323,8 +324,112 @@ static void short_table(const struct colour_table *table) {
     expect(memcmp(dst, KEPT_OUTPUT, sizeof dst) == 0, "a picture through a short table keeps the output");
 }
 
-/* Document 01 uses the numbers 0 to 18, 20 to 24 and 30, and document 02 adds 19. */
-static int is_used(uint32_t number) { return number <= 24 || number == 30; }
+#define TEXT_BYTES 360 /* a little more than the longest text here */
+#define HEAD_LINES "LUT_3D_SIZE 2\nDOMAIN_MIN 0 0 0\nDOMAIN_MAX 1 1 1\n"
+
+/* Writes into the first `out_len` bytes, and compares all of them afterwards: the text, and behind it what was there before. A
+ * refused write has no text. */
+static void expect_write(const struct colour_table *table, const char *title, size_t out_len, enum erythmoda_number number,
+                         const char *text, const char *what) {
+    uint8_t out[TEXT_BYTES], expected[TEXT_BYTES];
+    uint64_t length = KEPT;
+    uint32_t answer;
+    memset(out, KEPT, sizeof out);
+    memset(expected, KEPT, sizeof expected);
+    memcpy(expected, text, strlen(text));
+    answer = erythmoda_write(table->description, table->samples, TABLE_PLACES, (const uint8_t *)title, strlen(title), out, out_len,
+                             &length);
+    expect_number(answer, number, what);
+    expect(length == strlen(text) && memcmp(out, expected, sizeof out) == 0, what);
+}
+
+static void expect_text(const struct colour_table *table, const char *title, size_t out_len, const char *text, const char *what) {
+    expect_write(table, title, out_len, ERYTHMODA_ACCEPTED, text, what);
+}
+
+static void expect_no_text(const struct colour_table *table, const char *title, size_t out_len, enum erythmoda_number number,
+                           const char *what) {
+    expect_write(table, title, out_len, number, "", what);
+}
+
+/* The samples past three for each row are KEPT, or beyond 1000. */
+static void written(const struct colour_table *table) {
+    static const char titled[] = "TITLE \"smoke tape\"\n" HEAD_LINES CUBE_ROWS;
+    struct colour_table marked;
+    memcpy(&marked, table, sizeof marked);
+    expect_text(table, "", TEXT_BYTES, HEAD_LINES CUBE_ROWS, "writing the 3D file");
+    expect_text(table, "\n\"\x80", TEXT_BYTES, HEAD_LINES CUBE_ROWS, "writing without the mark, whatever the title");
+    marked.description[8] = 1;
+    marked.samples[TABLE_PLACES - 1] = INT64_MAX;
+    expect_text(&marked, "smoke tape", TEXT_BYTES, titled, "writing with a title");
+    expect_text(&marked, "smoke tape", sizeof titled - 1, titled, "writing into as many bytes as the text has");
+    expect_text(&marked, "", TEXT_BYTES, "TITLE \"\"\n" HEAD_LINES CUBE_ROWS, "writing with a title of no byte");
+    marked.description[8] = INT64_MIN;
+    marked.description[9] = marked.description[10] = -1;
+    expect_text(&marked, "smoke tape", TEXT_BYTES, titled, "writing with another mark, and any place and length");
+}
+
+static void written_numbers(void) {
+    static const int64_t description[ERYTHMODA_DESCRIPTION_PLACES] = {1, 2, -10000, 250, 9999, -9999, 750, 10000, 0, 0, 0};
+    static const int64_t samples[6] = {0, -5000000, 10000000, 1, -10000000000, 9999999999};
+    struct colour_table table;
+    memcpy(table.description, description, sizeof description);
+    fill(table.samples, TABLE_PLACES, INT64_MIN);
+    memcpy(table.samples, samples, sizeof samples);
+    expect_text(&table, "", TEXT_BYTES,
+                "LUT_1D_SIZE 2\nDOMAIN_MIN -10 0.25 9.999\nDOMAIN_MAX -9.999 0.75 10\n"
+                "0 -0.5 1\n0.0000001 -1000 999.9999999\n",
+                "writing numbers");
+}
+
+/* Each refusal, and those before it where several are due. */
+static void refused_write(const struct colour_table *table) {
+    static const size_t text_length = sizeof("TITLE \"t\"\n" HEAD_LINES CUBE_ROWS) - 1;
+    char long_title[244] = {0};
+    struct colour_table marked, unsound;
+    memset(long_title, 'x', sizeof long_title - 1);
+    memcpy(&marked, table, sizeof marked);
+    marked.description[8] = 1;
+    memcpy(&unsound, &marked, sizeof unsound);
+    unsound.description[0] = 2;
+    expect_no_text(&unsound, "\"", 0, ERYTHMODA_COULD_NOT_BE_READ, "writing a table of no kind");
+    expect_no_text(&marked, "\"", 0, ERYTHMODA_TITLE_NOT_PLAIN, "writing a title with a quote into no bytes");
+    expect_no_text(&marked, "a\x1F", TEXT_BYTES, ERYTHMODA_TITLE_NOT_PLAIN, "writing a title with 0x1F");
+    expect_no_text(&marked, "\x7F", TEXT_BYTES, ERYTHMODA_TITLE_NOT_PLAIN, "writing a title with 0x7F");
+    expect_no_text(&marked, long_title, TEXT_BYTES, ERYTHMODA_TITLE_NOT_PLAIN, "writing a title of 243 bytes");
+    expect_no_text(&marked, "t", text_length - 1, ERYTHMODA_TOO_LITTLE_ROOM, "writing into one byte too few");
+    expect_no_text(&marked, "t", 0, ERYTHMODA_TOO_LITTLE_ROOM, "writing into no bytes");
+    expect_no_text(table, long_title, 95, ERYTHMODA_TOO_LITTLE_ROOM, "writing 96 bytes into 95, without the mark");
+}
+
+/* A text with the longest title is read back, and what was read is written to the same bytes. */
+static void written_and_read(const struct colour_table *table) {
+    struct colour_table marked, again;
+    uint8_t text[TEXT_BYTES], same[TEXT_BYTES], title[242];
+    uint64_t length = KEPT, same_length = KEPT, line = KEPT;
+    uint32_t answer;
+    memset(title, '~', sizeof title);
+    memcpy(&marked, table, sizeof marked);
+    marked.description[8] = -1;
+    answer = erythmoda_write(marked.description, marked.samples, ROW_PLACES, title, sizeof title, text, sizeof text, &length);
+    expect_number(answer, ERYTHMODA_ACCEPTED, "writing a title of 242 bytes");
+    expect(length == 251 + 96 && text[249] == '"' && text[250] == '\n', "its line has 250 bytes");
+    if (length > sizeof text) return;
+    fill(again.samples, TABLE_PLACES, KEPT);
+    answer = erythmoda_read(text, (size_t)length, again.samples, ROW_PLACES, again.description, &line);
+    expect_number(answer, ERYTHMODA_ACCEPTED, "reading what was written");
+    marked.description[8] = 1;
+    marked.description[9] = 7;
+    marked.description[10] = sizeof title;
+    expect(memcmp(&again, &marked, sizeof marked) == 0, "what is read is what was written, with the title's new place");
+    answer = erythmoda_write(again.description, again.samples, ROW_PLACES, text + 7, sizeof title, same, sizeof same,
+                             &same_length);
+    expect_number(answer, ERYTHMODA_ACCEPTED, "writing what was read");
+    expect(same_length == length && memcmp(same, text, (size_t)length) == 0, "it is the same text");
+}
+
+/* Document 01 uses the numbers 0 to 18, 20 to 24 and 30, and document 02 adds 19 and 27. */
+static int is_used(uint32_t number) { return number <= 24 || number == 27 || number == 30; }
 
 static void words(void) {
     uint32_t number;
@@ -360,7 +465,11 @@ int main(void) {
     refused_picture(&table);
     mixed_domains();
     short_table(&table);
-    expect(memcmp(&before, &table, sizeof table) == 0, "look and picture change neither description nor table");
+    written(&table);
+    written_numbers();
+    refused_write(&table);
+    written_and_read(&table);
+    expect(memcmp(&before, &table, sizeof table) == 0, "look, picture and write change neither description nor table");
     words();
     version();
     if (!wrong) puts("every answer through C is as it should be");

@@ -20,7 +20,7 @@ fn fill(file: &mut [u8]) {
     }
 }
 
-fn once_if(same: bool) -> u64
+pub(crate) fn once_if(same: bool) -> u64
     ensures { λ r. ⌜ r ≤ 1 ⌝ }
 {
     if same { 1 } else { 0 }

@@ -8,6 +8,7 @@ mod mixed;
 mod pictures;
 mod print;
 mod reads;
+mod writes;
 
 fn main() {
     reads::words();
@@ -20,4 +21,5 @@ fn main() {
     pictures::run();
     checks::run();
     mixed::run();
+    writes::run();
 }

@@ -33,7 +33,7 @@ fn reads() {
 }
 
 // The numbers of those rows.
-fn stair() -> [i64; 24] {
+pub(crate) fn stair() -> [i64; 24] {
     let mut table = [0; 24];
     table[12] = 10_000_000;
     table[19] = 10_000_000;

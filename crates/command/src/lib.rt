@@ -9,6 +9,7 @@ use desk::write;
 use explain::answer;
 use libc::STDERR_FILENO;
 use libc::STDOUT_FILENO;
+use rewrite::rewrite;
 use verbs::Verb;
 use verbs::asks_help;
 use verbs::verb_of;
@@ -34,6 +35,7 @@ fn show_help(verb: Verb) -> Outcome {
         Verb::Report => words::report_help(STDOUT_FILENO),
         Verb::Explain => explain::help(STDOUT_FILENO),
         Verb::Correct => correct::help(STDOUT_FILENO),
+        Verb::Rewrite => rewrite::help(STDOUT_FILENO),
         Verb::Help => words::help(STDOUT_FILENO),
         Verb::Version => words::help(STDOUT_FILENO),
         Verb::Unknown => words::help(STDOUT_FILENO),
@@ -69,18 +71,20 @@ fn obey(
     bytes: &mut [u8],
     raw: &mut [u16],
     corrected: &mut [u16],
+    text: &mut [u8],
 ) -> Outcome {
     match verb {
         Verb::Report => report(),
         Verb::Explain => answer(file, table),
         Verb::Correct => correct(file, table, bytes, raw, corrected),
+        Verb::Rewrite => rewrite(file, table, text),
         Verb::Help => show_help(verb),
         Verb::Version => show_version(),
         Verb::Unknown => refuse_call(),
     }
 }
 
-// Lent: space for a .cube file, its table, and a piece of a picture as bytes, raw and corrected codes. The answer is the status.
+// Lent: space for a .cube file, its table, a piece of a picture as bytes, raw and corrected codes, and a file's new text. The answer is the status.
 #[no_mangle]
 pub extern "C" fn erythmoda_command(
     file: &mut [u8],
@@ -88,6 +92,7 @@ pub extern "C" fn erythmoda_command(
     bytes: &mut [u8],
     raw: &mut [u16],
     corrected: &mut [u16],
+    text: &mut [u8],
 ) -> u32
     ensures { λ r. ⌜ Ends r ⌝ }
 {
@@ -95,5 +100,5 @@ pub extern "C" fn erythmoda_command(
     if help_wanted() {
         return show_help(verb).status();
     }
-    obey(verb, file, table, bytes, raw, corrected).status()
+    obey(verb, file, table, bytes, raw, corrected, text).status()
 }

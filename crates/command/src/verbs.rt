@@ -7,6 +7,7 @@ pub enum Verb {
     Report,
     Explain,
     Correct,
+    Rewrite,
     Help,
     Version,
     Unknown,
@@ -17,6 +18,8 @@ const REPORT: [u8; 6] = *b"report";
 const EXPLAIN: [u8; 7] = *b"explain";
 
 const CORRECT: [u8; 7] = *b"correct";
+
+const REWRITE: [u8; 7] = *b"rewrite";
 
 const VERSION: [u8; 9] = *b"--version";
 
@@ -45,6 +48,9 @@ pub fn verb_of(word: &[u8]) -> Verb
     }
     if is_named(word, &CORRECT) {
         return Verb::Correct;
+    }
+    if is_named(word, &REWRITE) {
+        return Verb::Rewrite;
     }
     if is_named(word, &VERSION) {
         return Verb::Version;

@@ -1,16 +1,16 @@
 // What the command says of itself.
 use desk::write;
 
-// As `erythmoda 1.1.0`; tests hold it to the version of the header.
+// As `erythmoda 1.2.0`; tests hold it to the version of the header.
 pub fn version(fd: i32) -> bool {
-    write(fd, b"erythmoda 1.1.0\n")
+    write(fd, b"erythmoda 1.2.0\n")
 }
 
 // What there is, with an example of each.
 pub fn help(fd: i32) -> bool {
     write(
         fd,
-        b"erythmoda: .cube colour tables read, explained and applied, every answer proved\n\n",
+        b"erythmoda: .cube colour tables read, explained, applied and written, every answer proved\n\n",
     )
         && write(fd, b"erythmoda report < table.cube\n")
         && write(
@@ -26,6 +26,11 @@ pub fn help(fd: i32) -> bool {
         && write(
             fd,
             b"    a binary PPM picture of 8, 10, 12 or 16 bits, corrected by the table, in the same depth or another one\n",
+        )
+        && write(fd, b"erythmoda rewrite table.cube > new.cube\n")
+        && write(
+            fd,
+            b"    the table written anew in its plainest form, with its title, another one or none\n",
         )
         && write(fd, b"erythmoda VERB --help, erythmoda --version\n\n")
         && write(

@@ -40,7 +40,7 @@ pub fn number_at(place: usize, most: u64) -> Argument
 }
 
 // Whether the argument at a place is this word.
-fn is_word_at(place: usize, word: &[u8]) -> bool {
+pub fn is_word_at(place: usize, word: &[u8]) -> bool {
     let mut text = io::buffer();
     let n = os::arg(place, &mut text);
     is_named(&text[..n], word)

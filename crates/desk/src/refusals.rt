@@ -24,9 +24,9 @@ pub fn write_meaning(fd: i32, reason: Refusal) -> bool {
             fd,
             b"3D with domains that differ between colours, and a bound that is no whole number",
         ),
-        Refusal::TableTooShort => write(
+        Refusal::TooLittleRoom => write(
             fd,
-            b"table shorter than 3 * rows, so this program has too little room",
+            b"table shorter than 3 * rows, or bytes shorter than the text, so this program has too little room",
         ),
         Refusal::TooManyRows => write(fd, b"more data lines than rows"),
         Refusal::NotThreeNumbers => write(fd, b"data line is not three numbers"),
@@ -41,6 +41,10 @@ pub fn write_meaning(fd: i32, reason: Refusal) -> bool {
         Refusal::CouldNotBeRead => write(
             fd,
             b"description and table that reading could not have given",
+        ),
+        Refusal::TitleNotPlain => write(
+            fd,
+            b"title over 242 bytes, with a quote, or with a byte that is not from space to tilde",
         ),
         Refusal::InputTooLong => write(fd, b"report input over 65,536 bytes"),
     }

@@ -6,7 +6,7 @@ use mathlib.Core.Option.{Option, none, some}
 use lib.IntN.{ℤ}
 use Rattle.rules.specs.Answers.{lookNumber, lookCodes, lookRows, lookWeights, pictureNumber}
 use Rattle.rules.specs.Boundary.{describedIn, pixelIn, lookIn, LooksC, PicturesC}
-use Rattle.rules.specs.Promises.{Looks, Pictures}
+use Rattle.rules.specs.Promises.{Looks, Pictures, Writes}
 use Rattle.rules.specs.declared.Bits.{Bits}
 use Rattle.rules.specs.declared.Codes.{Codes}
 use Rattle.rules.specs.declared.Description.{Description}
@@ -15,8 +15,10 @@ use Rattle.rules.specs.declared.Look.the-variants as L
 use Rattle.rules.specs.declared.Picture.{Picture}
 use Rattle.rules.specs.declared.Picture.the-variants as P
 use Rattle.rules.specs.declared.Refusal.the-variants.{CouldNotBeRead}
+use Rattle.rules.specs.declared.Write.{Write}
+use Rattle.rules.specs.declared.Write.the-variants as W
 use Rattle.rules.proofs.Answers.{looks-is}
-use Rattle.erythmoda.specs.Layout.{crossed, LooksIn}
+use Rattle.erythmoda.specs.Layout.{crossed, LooksIn, WritesIn}
 use Rattle.erythmoda.specs.declared.layout.DescriptionFound.the-variants.{Known, Unknown}
 
 known : (o : Option Description) (d : Description) → crossed o ≡ Known d → o ≡ some d
@@ -58,3 +60,16 @@ module _ {eleven table : List ℤ} {bits : Bits} where
   picture-unknown e n =
       let missing = unknown (describedIn eleven) e in
       record { number-so = rw missing n; memory = rw missing refl }
+
+-- ---- writing
+
+module _ {eleven table : List ℤ} {title out : List ℕ} where
+  pub write-known : {d : Description} {r : Write} {out′ : List ℕ} → crossed (describedIn eleven) ≡ Known d → Writes d table title out r out′ → WritesIn eleven table title out r out′
+  write-known {d = d} e p =
+      let found = known (describedIn eleven) d e in
+      record { number = rw found (p .number); length-so = rw found (p .length-so); memory = rw found (p .memory) }
+
+  pub write-unknown : crossed (describedIn eleven) ≡ Unknown → WritesIn eleven table title out (W.Refused CouldNotBeRead) out
+  write-unknown e =
+      let missing = unknown (describedIn eleven) e in
+      record { number = rw missing; length-so = rw missing; memory = rw missing }

@@ -1,18 +1,21 @@
--- A description that was found, or none; a look at a description that crossed as eleven numbers; and an answer whose table's rows can be counted.
+-- A description that was found, or none; a look at a description that crossed as eleven numbers, and its table written; and an answer whose table's rows can be counted.
+use Prim.Native.Nat.{ℕ}
 use mathlib.Core.Path.{_≡_}
 use mathlib.Core.Bool.{true}
 use mathlib.Core.List.{List}
 use mathlib.Core.Option.{Option, none, some}
 use lib.IntN.{ℤ}
+use lib.ListN.{length}
 use Rattle.rules.specs.Units.{inRange}
-use Rattle.rules.specs.Answers.{lookNumber, lookCodes, lookRows, lookWeights}
-use Rattle.rules.specs.Boundary.{lookIn}
+use Rattle.rules.specs.Answers.{lookNumber, lookCodes, lookRows, lookWeights, writeNumber, writtenLength}
+use Rattle.rules.specs.Boundary.{lookIn, writeIn, bytesIn}
 use Rattle.rules.specs.declared.Bits.{Bits}
 use Rattle.rules.specs.declared.Codes.{Codes}
 use Rattle.rules.specs.declared.Description.{Description}
 use Rattle.rules.specs.declared.Look.{Look}
 use Rattle.rules.specs.declared.Read.{Read}
 use Rattle.rules.specs.declared.Read.the-variants as R
+use Rattle.rules.specs.declared.Write.{Write}
 use Rattle.erythmoda.specs.declared.layout.DescriptionFound.{DescriptionFound}
 use Rattle.erythmoda.specs.declared.layout.DescriptionFound.the-variants.{Known, Unknown}
 
@@ -26,6 +29,12 @@ pub record LooksIn (eleven table : List ℤ) (bits : Bits) (pixel : Codes) (r : 
   pub codes : lookCodes r ≡ lookCodes (lookIn eleven table bits pixel)
   pub rows : lookRows r ≡ lookRows (lookIn eleven table bits pixel)
   pub weights : lookWeights r ≡ lookWeights (lookIn eleven table bits pixel)
+
+-- r answers as write of eleven numbers does, and the bytes are out′ afterwards
+pub record WritesIn (eleven table : List ℤ) (title out : List ℕ) (r : Write) (out′ : List ℕ) : Type 0 where
+  pub number : writeNumber r ≡ writeNumber (writeIn eleven table title (length out))
+  pub length-so : writtenLength r ≡ writtenLength (writeIn eleven table title (length out))
+  pub memory : out′ ≡ bytesIn eleven table title out
 
 -- the N of an accepted file is in range
 abbrev pub Countable : Read → Type 0

@@ -11,11 +11,12 @@ use rules::Share;
 use rules::Shares;
 use rules::Thousandths;
 use rules::Title;
+use rules::Write;
 ghost use mathlib.Core.Path.{_≡_};
 ghost use mathlib.Core.List.{[]};
 ghost use Rattle.rules.specs.Descriptions.{zeros};
 ghost use Rattle.rules.specs.Looking.{six};
-ghost use Rattle.rules.specs.Answers.{readNumber, readLine, readDescription, placesNeeded, lookNumber, lookCodes, lookShares, codesOf, sharesOf, pictureNumber};
+ghost use Rattle.rules.specs.Answers.{readNumber, readLine, readDescription, placesNeeded, lookNumber, lookCodes, lookShares, codesOf, sharesOf, pictureNumber, writeNumber, writtenLength};
 ghost use Rattle.erythmoda.specs.Layout.{Countable};
 
 // ---- reading
@@ -142,5 +143,25 @@ pub fn picture_number(answer: Picture) -> u32
     match answer {
         Picture::Accepted => 0,
         Picture::Refused(reason) => reason.number(),
+    }
+}
+
+// ---- writing
+
+pub fn write_number(answer: Write) -> u32
+    ensures { λ r. ⌜ r ≡ writeNumber answer ⌝ }
+{
+    match answer {
+        Write::Accepted(_) => 0,
+        Write::Refused(reason) => reason.number(),
+    }
+}
+
+pub fn written_length(answer: Write) -> u64
+    ensures { λ r. ⌜ r ≡ writtenLength answer ⌝ }
+{
+    match answer {
+        Write::Accepted(length) => length as u64,
+        Write::Refused(_) => 0,
     }
 }

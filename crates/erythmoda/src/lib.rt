@@ -7,6 +7,8 @@ use answers::picture_number;
 use answers::places_needed;
 use answers::read_line;
 use answers::read_number;
+use answers::write_number;
+use answers::written_length;
 use colour::look;
 use layout::DescriptionFound;
 use layout::codes_laid;
@@ -23,9 +25,11 @@ use rules::Codes;
 use rules::Look;
 use rules::Picture;
 use rules::Refusal;
+use rules::Write;
+use writing::write;
 ghost use Rattle.rules.specs.Units.{bitsOf};
-ghost use Rattle.rules.specs.Boundary.{ReadsC, ChecksC, LooksC, PicturesC};
-ghost use Rattle.erythmoda.specs.Layout.{LooksIn};
+ghost use Rattle.rules.specs.Boundary.{ReadsC, ChecksC, LooksC, PicturesC, WritesC};
+ghost use Rattle.erythmoda.specs.Layout.{LooksIn, WritesIn};
 
 mod answers;
 mod layout;
@@ -113,4 +117,30 @@ pub extern "C" fn erythmoda_picture(
     };
     let bits = Bits { raw, corrected };
     picture_number(picture(d, table, bits, src, dst))
+}
+
+// Write, of a description as eleven numbers.
+fn write_in(description: &[i64; 11], table: &[i64], title: &[u8], out: &mut [u8]) -> Write
+    ensures { λ r. ⌜ WritesIn (now (description .entry)) (now (table .entry)) (now (title .entry)) (now (out .entry)) r (now (out .exit)) ⌝ }
+{
+    let DescriptionFound::Known(d) = described(description) else {
+        return Write::Refused(Refusal::CouldNotBeRead);
+    };
+    write(d, table, title, out)
+}
+
+// A table as the bytes of a file, and their length.
+#[no_mangle]
+pub extern "C" fn erythmoda_write(
+    description: &[i64; 11],
+    table: &[i64],
+    title: &[u8],
+    out: &mut [u8],
+    length: &mut u64,
+) -> u32
+    ensures { λ r. ⌜ WritesC (now (description .entry)) (now (table .entry)) (now (title .entry)) (now (out .entry)) r (now (out .exit)) (now (length .exit)) ⌝ }
+{
+    let answer = write_in(description, table, title, out);
+    *length = written_length(answer);
+    write_number(answer)
 }

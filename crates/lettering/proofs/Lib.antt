@@ -1,4 +1,5 @@
--- Laws that the proofs of the functions cite, here and in the crates above: texts put one after another, decimal digits, and places after a point.
+-- Laws that the proofs of the functions cite, here and in the crates above: texts put one after another, the last digits of a number, the sign, and the longest text.
 pub mod Texts
-pub mod Digits
-pub mod Places
+pub mod LastDigits
+pub mod Signed
+pub mod Longest

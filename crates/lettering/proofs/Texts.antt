@@ -84,6 +84,14 @@ module _ {out : List ℕ} {at : ℕ} {a : List ℕ} {mid : ℕ} {out′ : List �
   pub last-field : {last : ℕ} {out″ : List ℕ} → Puts out′ mid (f ++ (end ∷ [])) last out″ → Puts out at a mid out′ → Room out at (a ++ (f ++ (end ∷ more))) → Room out″ last more
   last-field q p room = last-part (f ++ (end ∷ [])) more q p (rw (append-assoc f (end ∷ []) more) room)
 
+-- a field that stands first: there is room for it, and after it for what follows
+pub first-field : {out : List ℕ} {at : ℕ} (f : List ℕ) (end : ℕ) (more : List ℕ) → Room out at (f ++ (end ∷ more)) → Room out at (f ++ (end ∷ []))
+first-field f end more room = first-room (f ++ (end ∷ [])) more (rw (append-assoc f (end ∷ []) more) room)
+
+pub after-field : {out : List ℕ} {at : ℕ} (f : List ℕ) (end : ℕ) (more : List ℕ) {mid : ℕ} {out′ : List ℕ}
+    → Puts out at (f ++ (end ∷ [])) mid out′ → Room out at (f ++ (end ∷ more)) → Room out′ mid more
+after-field f end more p room = next-room p more (rw (append-assoc f (end ∷ []) more) room)
+
 -- the field and what follows are one text
 pub field-then : {out : List ℕ} {at : ℕ} (f : List ℕ) (end : ℕ) (more : List ℕ) {mid : ℕ} {out′ : List ℕ} {r : ℕ} {out″ : List ℕ}
     → Puts out at (f ++ (end ∷ [])) mid out′ → Puts out′ mid more r out″ → Puts out at (f ++ (end ∷ more)) r out″

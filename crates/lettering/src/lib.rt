@@ -1,10 +1,16 @@
-// Text put into lent bytes from a place on: bytes, and numbers in decimal digits. Each call answers the place after what it put.
+// Text put into lent bytes from a place on: bytes, and numbers in decimal digits. Each call answers the place after what it put. How long a number's text is
+// can be asked for beforehand.
 mod decimals;
+mod digits;
+mod signs;
 
+pub use decimals::count_decimals;
 pub use decimals::put_decimals;
-use whole::Whole;
-ghost use mathlib.Core.List.{[], _∷_};
-ghost use Rattle.rules.specs.Decimals.{decimal, sign, signedDecimal};
+pub use digits::count_digits;
+use digits::put_decimal;
+pub use signs::put_signed;
+ghost use mathlib.Core.List.{[], _∷_, _++_};
+ghost use Rattle.rules.specs.Decimals.{decimal};
 ghost use Rattle.lettering.specs.Putting.{Room, Puts};
 
 // Bytes as they are; all others stay.
@@ -28,33 +34,23 @@ pub fn put_byte(out: &mut [u8], at: usize, byte: u8) -> usize
     at + 1
 }
 
-// A number, without leading zeros.
-pub fn put_decimal(out: &mut [u8], at: usize, n: u64) -> usize
-    requires { ⌜ Room (now out) at (decimal n) ⌝ }
-    ensures { λ r. ⌜ Puts (now (out .entry)) at (decimal n) r (now (out .exit)) ⌝ }
+// ---- more than one
+
+// A text between two others.
+pub fn put_between(out: &mut [u8], at: usize, start: &[u8], text: &[u8], end: &[u8]) -> usize
+    requires { ⌜ Room (now out) at (now start ++ (now text ++ now end)) ⌝ }
+    ensures { λ r. ⌜ Puts (now (out .entry)) at (now (start .entry) ++ (now (text .entry) ++ now (end .entry))) r (now (out .exit)) ⌝ }
 {
-    let mut digits = [0u8; 20];
-    let count = io::decimal(n, &mut digits);
-    put(out, at, &digits[..count])
+    let after_start = put(out, at, start);
+    let after_text = put(out, after_start, text);
+    put(out, after_text, end)
 }
 
-// The sign of a number below 0, and nothing of another.
-fn put_sign(out: &mut [u8], at: usize, n: Whole) -> usize
-    requires { ⌜ Room (now out) at (sign (n .0)) ⌝ }
-    ensures { λ r. ⌜ Puts (now (out .entry)) at (sign (n .0)) r (now (out .exit)) ⌝ }
+// A number, and the byte that ends it.
+pub fn put_count(out: &mut [u8], at: usize, n: u64, end: u8) -> usize
+    requires { ⌜ Room (now out) at (decimal n ++ (end ∷ [])) ⌝ }
+    ensures { λ r. ⌜ Puts (now (out .entry)) at (decimal n ++ (end ∷ [])) r (now (out .exit)) ⌝ }
 {
-    let z = n.0;
-    if z < 0 {
-        return put_byte(out, at, b'-');
-    }
-    at
-}
-
-// A number that may be below 0, the least of 64 bits too.
-pub fn put_signed(out: &mut [u8], at: usize, n: Whole) -> usize
-    requires { ⌜ Room (now out) at (signedDecimal (n .0)) ⌝ }
-    ensures { λ r. ⌜ Puts (now (out .entry)) at (signedDecimal (n .0)) r (now (out .exit)) ⌝ }
-{
-    let after_sign = put_sign(out, at, n);
-    put_decimal(out, after_sign, n.size())
+    let after_digits = put_decimal(out, at, n);
+    put_byte(out, after_digits, end)
 }

@@ -39,7 +39,7 @@ fn domain_fault(d: Description, places: usize) -> Checked
         return Checked::Refused(Refusal::DomainsDiffer);
     }
     if places < 3 * count_rows(kind, d.n) {
-        return Checked::Refused(Refusal::TableTooShort);
+        return Checked::Refused(Refusal::TooLittleRoom);
     }
     Checked::Passed
 }

@@ -1,8 +1,9 @@
 // What the report program prints: five lines of an accepted file, or one of a refusal.
 use judge::count_rows;
 use lettering::put;
+use lettering::put_between;
 use lettering::put_byte;
-use lettering::put_decimal;
+use lettering::put_count;
 use lettering::put_signed;
 use reading::read;
 use rules::Description;
@@ -27,16 +28,7 @@ ghost use Rattle.reporting.specs.Telling.{TitleInside, Tellable};
 // The longest input, in bytes.
 const MOST_BYTES: usize = 65_536;
 
-// ---- fields, each with the byte that ends it: a tab, or a newline after the last
-
-fn put_count(out: &mut [u8], at: usize, n: u64, end: u8) -> usize
-    requires { ⌜ Room (now out) at (decimal n ++ (end ∷ [])) ⌝ }
-    ensures { λ r. ⌜ Puts (now (out .entry)) at (decimal n ++ (end ∷ [])) r (now (out .exit)) ⌝ }
-{
-    let after_digits = put_decimal(out, at, n);
-    put_byte(out, after_digits, end)
-}
-
+// A bound with the byte that ends it: a tab, or a newline after the last.
 fn put_bound(out: &mut [u8], at: usize, bound: Thousandths, end: u8) -> usize
     requires { ⌜ Room (now out) at (signedDecimal (bound .0) ++ (end ∷ [])) ⌝ }
     ensures { λ r. ⌜ Puts (now (out .entry)) at (signedDecimal (bound .0) ++ (end ∷ [])) r (now (out .exit)) ⌝ }
@@ -82,16 +74,6 @@ fn put_cube(out: &mut [u8], at: usize, kind: Kind, n: usize) -> usize
     }
 }
 
-// One text.
-fn put_text(out: &mut [u8], at: usize, start: &[u8], text: &[u8]) -> usize
-    requires { ⌜ Room (now out) at (now start ++ (now text ++ (10 ∷ []))) ⌝ }
-    ensures { λ r. ⌜ Puts (now (out .entry)) at (now (start .entry) ++ (now (text .entry) ++ (10 ∷ []))) r (now (out .exit)) ⌝ }
-{
-    let after_start = put(out, at, start);
-    let after_text = put(out, after_start, text);
-    put_byte(out, after_text, b'\n')
-}
-
 // Yes and the text, or no.
 fn put_title(out: &mut [u8], at: usize, input: &[u8], title: Title) -> usize
     requires { ⌜ TitleInside (now input) title ⌝ }
@@ -103,7 +85,13 @@ fn put_title(out: &mut [u8], at: usize, input: &[u8], title: Title) -> usize
     }
     let first = title.place;
     let count = title.length;
-    put_text(out, at, b"title\tyes\t", &input[first..first + count])
+    put_between(
+        out,
+        at,
+        b"title\tyes\t",
+        &input[first..first + count],
+        b"\n",
+    )
 }
 
 // Number, line.

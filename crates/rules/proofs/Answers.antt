@@ -11,8 +11,9 @@ use lib.ListN.{length, getD, List·getD-eq-default}
 use Rattle.rules.specs.Reading.{read, check, tableAfter}
 use Rattle.rules.specs.Looking.{look}
 use Rattle.rules.specs.Picturing.{picture, outputAfter}
-use Rattle.rules.specs.Answers.{refusalNumber, readNumber, readLine, readDescription, lookNumber, lookCodes, lookRows, lookWeights, pictureNumber}
-use Rattle.rules.specs.Promises.{Reads, Checks, Looks, Pictures}
+use Rattle.rules.specs.Writing.{write, bytesAfter}
+use Rattle.rules.specs.Answers.{refusalNumber, readNumber, readLine, readDescription, lookNumber, lookCodes, lookRows, lookWeights, pictureNumber, writeNumber, writtenLength}
+use Rattle.rules.specs.Promises.{Reads, Checks, Looks, Pictures, Writes}
 use Rattle.rules.specs.declared.Bits.{Bits}
 use Rattle.rules.specs.declared.Codes.{Codes}
 use Rattle.rules.specs.declared.Description.{Description}
@@ -23,9 +24,11 @@ use Rattle.rules.specs.declared.Picture.the-variants as P
 use Rattle.rules.specs.declared.Read.{Read}
 use Rattle.rules.specs.declared.Read.the-variants as R
 use Rattle.rules.specs.declared.Refusal.{Refusal}
-use Rattle.rules.specs.declared.Refusal.the-variants.{LineTooLong, ByteNotPermitted, NeitherDataNorKeyword, KeywordAfterData, KeywordRepeated, ParametersWrong, SizeOutOfRange, DomainNumberWrong, NoSize, LowerNotBelowUpper, DomainTooWide, DomainsDiffer, TableTooShort, TooManyRows, NotThreeNumbers, SampleBeyond, SampleTooFine, TooFewRows, HalfADomain, DepthUnknown, PictureNotPixels, OutputTooShort, CodeTooGreat, CouldNotBeRead, InputTooLong}
+use Rattle.rules.specs.declared.Refusal.the-variants.{LineTooLong, ByteNotPermitted, NeitherDataNorKeyword, KeywordAfterData, KeywordRepeated, ParametersWrong, SizeOutOfRange, DomainNumberWrong, NoSize, LowerNotBelowUpper, DomainTooWide, DomainsDiffer, TooLittleRoom, TooManyRows, NotThreeNumbers, SampleBeyond, SampleTooFine, TooFewRows, HalfADomain, DepthUnknown, PictureNotPixels, OutputTooShort, CodeTooGreat, CouldNotBeRead, TitleNotPlain, InputTooLong}
 use Rattle.rules.specs.declared.Share.{Share}
 use Rattle.rules.specs.declared.Shares.{Shares}
+use Rattle.rules.specs.declared.Write.{Write}
+use Rattle.rules.specs.declared.Write.the-variants as W
 use Rattle.rules.proofs.Tests.{no-some}
 
 -- ---- a refusal by its number
@@ -46,7 +49,7 @@ numbered =
     ∷ some LowerNotBelowUpper
     ∷ some DomainTooWide
     ∷ some DomainsDiffer
-    ∷ some TableTooShort
+    ∷ some TooLittleRoom
     ∷ some TooManyRows
     ∷ some NotThreeNumbers
     ∷ some SampleBeyond
@@ -60,7 +63,7 @@ numbered =
     ∷ some CouldNotBeRead
     ∷ none
     ∷ none
-    ∷ none
+    ∷ some TitleNotPlain
     ∷ none
     ∷ none
     ∷ some InputTooLong
@@ -83,7 +86,7 @@ refusal-of-number NoSize = refl
 refusal-of-number LowerNotBelowUpper = refl
 refusal-of-number DomainTooWide = refl
 refusal-of-number DomainsDiffer = refl
-refusal-of-number TableTooShort = refl
+refusal-of-number TooLittleRoom = refl
 refusal-of-number TooManyRows = refl
 refusal-of-number NotThreeNumbers = refl
 refusal-of-number SampleBeyond = refl
@@ -95,6 +98,7 @@ refusal-of-number PictureNotPixels = refl
 refusal-of-number OutputTooShort = refl
 refusal-of-number CodeTooGreat = refl
 refusal-of-number CouldNotBeRead = refl
+refusal-of-number TitleNotPlain = refl
 refusal-of-number InputTooLong = refl
 
 -- no refusal has the number of acceptance
@@ -164,6 +168,27 @@ module _ {d : Description} {table : List ℤ} {bits : Bits} {src dst : List ℕ}
   pub is-pictures : {r : Picture} {dst′ : List ℕ} → r ≡ picture d table bits src (length dst)
       → dst′ ≡ outputAfter d table bits src dst (picture d table bits src (length dst)) → Pictures d table bits src dst r dst′
   is-pictures e m = record { number = ap pictureNumber e; memory = m }
+
+-- ---- writing
+
+abbrev writeFrom : Option Refusal → ℕ → Write
+writeFrom none n = W.Accepted n
+writeFrom (some r) n = W.Refused r
+
+write-again : (r : Write) → writeFrom (refusalOf (writeNumber r)) (writtenLength r) ≡ r
+write-again (W.Accepted n) = refl
+write-again (W.Refused r) = rw (refusal-of-number r)
+
+module _ {d : Description} {table : List ℤ} {title out : List ℕ} where
+  pub writes-is : {r : Write} {out′ : List ℕ} → Writes d table title out r out′
+      → (r ≡ write d table title (length out)) × (out′ ≡ bytesAfter d table title out (write d table title (length out)))
+  writes-is {r} p =
+      let again : writeFrom (refusalOf (writeNumber r)) (writtenLength r) ≡ _ = λ i. writeFrom (refusalOf (p .number i)) (p .length-so i) in
+      (sym (write-again r) ∙ again ∙ write-again (write d table title (length out)), p .memory)
+
+  pub is-writes : {r : Write} {out′ : List ℕ} → r ≡ write d table title (length out)
+      → out′ ≡ bytesAfter d table title out (write d table title (length out)) → Writes d table title out r out′
+  is-writes e m = record { number = ap writeNumber e; length-so = ap writtenLength e; memory = m }
 
 -- ---- reading
 

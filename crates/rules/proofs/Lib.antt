@@ -14,6 +14,8 @@ pub mod Reading
 pub mod Looking
 -- a picture by its checks and its pixels
 pub mod Picturing
+-- a written file: its lines and their lengths
+pub mod Writing
 -- answers put together again from the paper's numbers and values
 pub mod Answers
 -- what crosses the C boundary fits the numbers that it crosses in

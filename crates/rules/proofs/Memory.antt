@@ -7,7 +7,7 @@ use native.Mathlib.Nat.{add-zero}
 use native.Mathlib.Numerals.{add-one}
 use native.Mathlib.Omega.{arith}
 use lib.ListN.{length, take, drop, getD, set, length-append, length-drop, take-append-drop}
-use lib.Seq.{take-at, drop-at, drop-drop, take-append-seam, take-suc, length-take-le, set-split, sets, sets-eq}
+use lib.Seq.{take-at, drop-at, drop-drop, take-append-seam, take-suc, take-take, length-take-le, set-split, sets, sets-eq}
 use Rattle.rules.specs.Memory.{spliced}
 
 module _ {A : Type 0} where
@@ -81,3 +81,14 @@ module _ {A : Type 0} where
       ap (λ n. set (spliced old at (take i new)) (at + n) (getD new i d)) (sym i-long)
       ∙ splice-store old at (take i new) (getD new i d) (omega (arith, i-long))
       ∙ ap (spliced old at) (sym (take-suc new i d h) ∙ ap (λ n. take n new) (sym (add-one i)))
+
+  -- a store just before what was replaced is one value more in front
+  pub store-before : (old : List A) (at : ℕ) (new : List A) (x : A) → at + 1 + length new ≤ length old → set (spliced old (at + 1) new) at x ≡ spliced old at (x ∷ new)
+  store-before old at new x fits =
+      let now : List A = spliced old (at + 1) new in
+      let kept : take at now ≡ take at old =
+      sym (take-take at (at + 1) now (omega arith)) ∙ ap (take at) (splice-before old (at + 1) new fits) ∙ take-take at (at + 1) old (omega arith) in
+      let past : at + 1 + length new ≡ at + length (x ∷ new) = omega arith in
+      let rest : drop (at + 1) now ≡ new ++ drop (at + length (x ∷ new)) old =
+      drop-at (take (at + 1) old) _ (at + 1) (length-take-le (at + 1) old (omega arith)) ∙ ap (λ n. new ++ drop n old) past in
+      store-splice now at x (omega (arith, splice-length old (at + 1) new fits)) ∙ ap₂ (λ a b. a ++ (x ∷ b)) kept rest

@@ -13,9 +13,11 @@ use Rattle.rules.specs.declared.Picture.the-variants as P
 use Rattle.rules.specs.declared.Read.{Read}
 use Rattle.rules.specs.declared.Read.the-variants as R
 use Rattle.rules.specs.declared.Refusal.{Refusal}
-use Rattle.rules.specs.declared.Refusal.the-variants.{LineTooLong, ByteNotPermitted, NeitherDataNorKeyword, KeywordAfterData, KeywordRepeated, ParametersWrong, SizeOutOfRange, DomainNumberWrong, NoSize, LowerNotBelowUpper, DomainTooWide, DomainsDiffer, TableTooShort, TooManyRows, NotThreeNumbers, SampleBeyond, SampleTooFine, TooFewRows, HalfADomain, DepthUnknown, PictureNotPixels, OutputTooShort, CodeTooGreat, CouldNotBeRead, InputTooLong}
+use Rattle.rules.specs.declared.Refusal.the-variants.{LineTooLong, ByteNotPermitted, NeitherDataNorKeyword, KeywordAfterData, KeywordRepeated, ParametersWrong, SizeOutOfRange, DomainNumberWrong, NoSize, LowerNotBelowUpper, DomainTooWide, DomainsDiffer, TooLittleRoom, TooManyRows, NotThreeNumbers, SampleBeyond, SampleTooFine, TooFewRows, HalfADomain, DepthUnknown, PictureNotPixels, OutputTooShort, CodeTooGreat, CouldNotBeRead, TitleNotPlain, InputTooLong}
 use Rattle.rules.specs.declared.Share.{Share}
 use Rattle.rules.specs.declared.Shares.{Shares}
+use Rattle.rules.specs.declared.Write.{Write}
+use Rattle.rules.specs.declared.Write.the-variants as W
 
 unfoldable pub refusalNumber : Refusal → ℕ
 refusalNumber LineTooLong = 1
@@ -30,7 +32,7 @@ refusalNumber NoSize = 9
 refusalNumber LowerNotBelowUpper = 10
 refusalNumber DomainTooWide = 11
 refusalNumber DomainsDiffer = 12
-refusalNumber TableTooShort = 13
+refusalNumber TooLittleRoom = 13
 refusalNumber TooManyRows = 14
 refusalNumber NotThreeNumbers = 15
 refusalNumber SampleBeyond = 16
@@ -42,6 +44,7 @@ refusalNumber PictureNotPixels = 21
 refusalNumber OutputTooShort = 22
 refusalNumber CodeTooGreat = 23
 refusalNumber CouldNotBeRead = 24
+refusalNumber TitleNotPlain = 27
 refusalNumber InputTooLong = 30
 
 -- ---- reading: number, line, description; and, of a file that is judged with no table, the places that one needs
@@ -97,3 +100,13 @@ lookWeights a = map (λ (s : Share). s .weight) (lookShares a)
 abbrev pub pictureNumber : Picture → ℕ
 pictureNumber P.Accepted = 0
 pictureNumber (P.Refused r) = refusalNumber r
+
+-- ---- writing: number, and the text's length; a refusal gives 0
+
+abbrev pub writeNumber : Write → ℕ
+writeNumber (W.Accepted n) = 0
+writeNumber (W.Refused r) = refusalNumber r
+
+abbrev pub writtenLength : Write → ℕ
+writtenLength (W.Accepted n) = n
+writtenLength (W.Refused r) = 0

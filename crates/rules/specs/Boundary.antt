@@ -11,7 +11,8 @@ use Rattle.whole.specs.Integers.{up}
 use Rattle.rules.specs.Reading.{read, check, tableAfter}
 use Rattle.rules.specs.Looking.{look}
 use Rattle.rules.specs.Picturing.{pixelOf, picture, outputAfter}
-use Rattle.rules.specs.Answers.{readNumber, readLine, readDescription, placesNeeded, lookNumber, lookCodes, lookRows, lookWeights, pictureNumber}
+use Rattle.rules.specs.Writing.{write, bytesAfter}
+use Rattle.rules.specs.Answers.{readNumber, readLine, readDescription, placesNeeded, lookNumber, lookCodes, lookRows, lookWeights, pictureNumber, writeNumber, writtenLength}
 use Rattle.rules.specs.declared.Bits.{Bits}
 use Rattle.rules.specs.declared.Codes.{Codes}
 use Rattle.rules.specs.declared.Description.{Description}
@@ -24,6 +25,8 @@ use Rattle.rules.specs.declared.Picture.{Picture}
 use Rattle.rules.specs.declared.Picture.the-variants as P
 use Rattle.rules.specs.declared.Refusal.the-variants.{CouldNotBeRead}
 use Rattle.rules.specs.declared.Title.{Title}
+use Rattle.rules.specs.declared.Write.{Write}
+use Rattle.rules.specs.declared.Write.the-variants as W
 
 -- ---- a description as eleven numbers
 
@@ -127,6 +130,13 @@ pictureIn eleven table bits src places = called (P.Refused CouldNotBeRead) (λ d
 abbrev pub outputIn : List ℤ → List ℤ → Bits → List ℕ → List ℕ → List ℕ
 outputIn eleven table bits src dst = called dst (λ d. outputAfter d table bits src dst (picture d table bits src (length dst))) eleven
 
+abbrev pub writeIn : List ℤ → List ℤ → List ℕ → ℕ → Write
+writeIn eleven table title places = called (W.Refused CouldNotBeRead) (λ d. write d table title places) eleven
+
+-- the lent bytes afterwards
+abbrev pub bytesIn : List ℤ → List ℤ → List ℕ → List ℕ → List ℕ
+bytesIn eleven table title out = called out (λ d. bytesAfter d table title out (write d table title (length out))) eleven
+
 -- ---- the promises: the number that is returned, and everything that is lent, afterwards
 
 pub record ReadsC (file : List ℕ) (table : List ℤ) (number : ℕ) (table′ eleven′ : List ℤ) (line′ : ℕ) : Type 0 where
@@ -150,3 +160,8 @@ pub record LooksC (eleven table : List ℤ) (bits : Bits) (pixel : List ℕ) (nu
 pub record PicturesC (eleven table : List ℤ) (bits : Bits) (src dst : List ℕ) (number : ℕ) (dst′ : List ℕ) : Type 0 where
   pub number-so : number ≡ pictureNumber (pictureIn eleven table bits src (length dst))
   pub memory : dst′ ≡ outputIn eleven table bits src dst
+
+pub record WritesC (eleven table : List ℤ) (title out : List ℕ) (number : ℕ) (out′ : List ℕ) (length′ : ℕ) : Type 0 where
+  pub number-so : number ≡ writeNumber (writeIn eleven table title (length out))
+  pub length-so : length′ ≡ writtenLength (writeIn eleven table title (length out))
+  pub memory : out′ ≡ bytesIn eleven table title out

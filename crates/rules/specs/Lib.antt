@@ -1,15 +1,18 @@
 -- Documents 000, 01 and 02 as definitions. A reader who believes these files, and whole's, knows what is promised.
 
--- units, depths, rows and places; lent memory; numbers as text; the description, the rules on its domains, and 24
+-- units, depths, rows and places; lent memory; numbers and lines as text; the description, the rules on its domains, and 24
 pub mod Units
 pub mod Memory
 pub mod Decimals
+pub mod Fields
 pub mod Descriptions
 -- reading: bytes, lines and words; a file that keeps the specification, as a property; reading, as a function, in the order of the checks
 pub mod Reading
 -- interpolation, look and picture
 pub mod Looking
 pub mod Picturing
+-- a table as the bytes of a file
+pub mod Writing
 -- the paper's number and values of each answer, and what the calls promise
 pub mod Answers
 pub mod Promises

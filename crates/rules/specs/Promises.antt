@@ -1,4 +1,4 @@
--- Document 01, "What the signature covers": the promises of reading, look and picture, over input, answer and lent memory; and that of check, a call of ours.
+-- Document 01, "What the signature covers": the promises of reading, look, picture and, of document 02, writing, over input, answer and lent memory; and that of check, a call of ours.
 use Prim.Native.Nat.{ℕ}
 use mathlib.Core.Path.{_≡_}
 use mathlib.Core.List.{List}
@@ -7,13 +7,15 @@ use lib.IntN.{ℤ}
 use Rattle.rules.specs.Reading.{read, check, tableAfter}
 use Rattle.rules.specs.Looking.{look}
 use Rattle.rules.specs.Picturing.{picture, outputAfter}
-use Rattle.rules.specs.Answers.{readNumber, readLine, readDescription, lookNumber, lookCodes, lookRows, lookWeights, pictureNumber}
+use Rattle.rules.specs.Writing.{write, bytesAfter}
+use Rattle.rules.specs.Answers.{readNumber, readLine, readDescription, lookNumber, lookCodes, lookRows, lookWeights, pictureNumber, writeNumber, writtenLength}
 use Rattle.rules.specs.declared.Bits.{Bits}
 use Rattle.rules.specs.declared.Codes.{Codes}
 use Rattle.rules.specs.declared.Description.{Description}
 use Rattle.rules.specs.declared.Look.{Look}
 use Rattle.rules.specs.declared.Picture.{Picture}
 use Rattle.rules.specs.declared.Read.{Read}
+use Rattle.rules.specs.declared.Write.{Write}
 
 -- reading the file into the table answers r, and the table is table′ afterwards
 pub record Reads (file : List ℕ) (table : List ℤ) (r : Read) (table′ : List ℤ) : Type 0 where
@@ -39,3 +41,9 @@ pub record Looks (d : Description) (table : List ℤ) (bits : Bits) (pixel : Cod
 pub record Pictures (d : Description) (table : List ℤ) (bits : Bits) (src dst : List ℕ) (r : Picture) (dst′ : List ℕ) : Type 0 where
   pub number : pictureNumber r ≡ pictureNumber (picture d table bits src (length dst))
   pub memory : dst′ ≡ outputAfter d table bits src dst (picture d table bits src (length dst))
+
+-- writing a table with a title into out answers r, and the bytes are out′ afterwards
+pub record Writes (d : Description) (table : List ℤ) (title out : List ℕ) (r : Write) (out′ : List ℕ) : Type 0 where
+  pub number : writeNumber r ≡ writeNumber (write d table title (length out))
+  pub length-so : writtenLength r ≡ writtenLength (write d table title (length out))
+  pub memory : out′ ≡ bytesAfter d table title out (write d table title (length out))

@@ -6,6 +6,7 @@ use mathlib.Core.List.{List, [], _∷_, _++_}
 use lib.Dec.{leb}
 use lib.ListN.{length, take, drop}
 use Rattle.rules.specs.Units.{rowsOf}
+use Rattle.rules.specs.Fields.{parted}
 use Rattle.rules.specs.Decimals.{decimal, signedDecimal}
 use Rattle.rules.specs.Reading.Lines.{bytes}
 use Rattle.rules.specs.Reading.{read}
@@ -37,11 +38,9 @@ report input = cond (leb (length input) reportBytes) (read input reportPlaces) (
 
 -- ---- lines
 
--- fields parted by tabs, and a newline
-unfoldable pub lineOf : List (List ℕ) → List ℕ
-lineOf [] = 10 ∷ []
-lineOf (f ∷ []) = f ++ (10 ∷ [])
-lineOf (f ∷ g ∷ more) = f ++ (9 ∷ lineOf (g ∷ more))
+-- fields parted by tabs
+abbrev pub lineOf : List (List ℕ) → List ℕ
+lineOf fields = parted 9 fields
 
 abbrev pub kindName : Kind → List ℕ
 kindName OneD = bytes "1D"

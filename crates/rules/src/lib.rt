@@ -32,6 +32,9 @@ impl TenMillionths {
     // 1 as a sample.
     pub const ONE: u64 = 10_000_000;
 
+    // A thousandth in ten-millionths.
+    pub const THOUSANDTH: i64 = 10_000;
+
     // Samples lie from -1000 to 1000.
     pub const LEAST: i64 = -10_000_000_000;
 
@@ -303,7 +306,7 @@ pub enum Refusal {
     LowerNotBelowUpper,
     DomainTooWide,
     DomainsDiffer,
-    TableTooShort,
+    TooLittleRoom,
     TooManyRows,
     NotThreeNumbers,
     SampleBeyond,
@@ -315,6 +318,7 @@ pub enum Refusal {
     OutputTooShort,
     CodeTooGreat,
     CouldNotBeRead,
+    TitleNotPlain,
     InputTooLong,
 }
 
@@ -336,7 +340,7 @@ impl Refusal {
             Refusal::LowerNotBelowUpper => 10,
             Refusal::DomainTooWide => 11,
             Refusal::DomainsDiffer => 12,
-            Refusal::TableTooShort => 13,
+            Refusal::TooLittleRoom => 13,
             Refusal::TooManyRows => 14,
             Refusal::NotThreeNumbers => 15,
             Refusal::SampleBeyond => 16,
@@ -348,6 +352,7 @@ impl Refusal {
             Refusal::OutputTooShort => 22,
             Refusal::CodeTooGreat => 23,
             Refusal::CouldNotBeRead => 24,
+            Refusal::TitleNotPlain => 27,
             Refusal::InputTooLong => 30,
         }
     }
@@ -368,5 +373,11 @@ pub enum Look {
 // What picture answers; the corrected codes stand in the lent output.
 pub enum Picture {
     Accepted,
+    Refused(Refusal),
+}
+
+// What writing answers: the length of the text, which stands in the lent bytes.
+pub enum Write {
+    Accepted(usize),
     Refused(Refusal),
 }

@@ -7,8 +7,11 @@ pub mod Numbers
 pub mod Reads
 pub mod Looks
 pub mod Pictures
+pub mod Writes
 pub mod Together
 pub mod Checks
+-- what plays no part in writing
+pub mod NoPart
 -- what the two depths decide
 pub mod Depths
 -- with one depth they are document 01's
@@ -20,3 +23,4 @@ pub mod WrongReads
 pub mod WrongChecks
 pub mod WrongLooks
 pub mod WrongPictures
+pub mod WrongWrites

@@ -19,13 +19,16 @@ use Rattle.rules.specs.Reading.Contents.{keywordOf, wordForm, formOf, closes, q
 use Rattle.rules.specs.Reading.Judge.{add, describe, repeats, need, first, domainFault, givenFault, headFault, byteFault, orderFault, take-in, unless, judge, endFault}
 use Rattle.rules.specs.Reading.{readLines, read, samplesIn, samplesOf, tableAfter}
 use Rattle.rules.specs.Reporting.{report, reportBytes}
+use Rattle.rules.specs.Fields.{parted}
+use Rattle.rules.specs.Decimals.{decimalIn, decimal, sign, placesOf, afterPoint, decimalsOf}
+use Rattle.rules.specs.Writing.{titleText, sizeText, boundsText, rowText, rowsText, headText, fileText, titleFits, write, bytesAfter}
 use Rattle.rules.specs.Looking.Interpolation.{offset, position, index, fraction, brought, pairBy, chart, order, climb, pathBy, pair, path, codeBy}
 use Rattle.rules.specs.Looking.{within, shown, lookAt, look}
 use Rattle.rules.specs.Picturing.{eachPixel, pictureWith, picture, outputAfter}
 use Rattle.rules.specs.Answers.{refusalNumber, readNumber, readLine}
 use Rattle.rules.proofs.Tests.{and-both}
 use Rattle.rules.proofs.Reading.Wordings.{same-eq}
-use Rattle.signature.specs.Cases.{Outcome, Case, outcome, marked, numbered, halves, mixed, points, twoDepths, AllMet, ReadA3}
+use Rattle.signature.specs.Cases.{Outcome, Case, outcome, marked, numbered, halves, mixed, points, twoDepths, written, AllMet, ReadA3}
 
 -- ---- a test that antt computes over a whole table, and what it tells
 
@@ -51,7 +54,9 @@ agrees x y =
     && (sameNumbers (x .table) (y .table)
     && (same (x .codes) (y .codes)
     && (same (x .rows) (y .rows)
-    && sameNumbers (x .weights) (y .weights)))))
+    && (sameNumbers (x .weights) (y .weights)
+    && (same (x .text) (y .text)
+    && eqb (x .count) (y .count)))))))
 
 outcome-eq : (x y : Outcome) → agrees x y ≡ true → x ≡ y
 outcome-eq x y e =
@@ -60,13 +65,17 @@ outcome-eq x y e =
     let c = and-both (sameNumbers (x .table) (y .table)) _ (b .1) in
     let d = and-both (same (x .codes) (y .codes)) _ (c .1) in
     let f = and-both (same (x .rows) (y .rows)) _ (d .1) in
+    let g = and-both (sameNumbers (x .weights) (y .weights)) _ (f .1) in
+    let h = and-both (same (x .text) (y .text)) _ (g .1) in
     let number : x .number ≡ y .number = eqb-true _ _ (a .0) in
     let line : x .line ≡ y .line = eqb-true _ _ (b .0) in
     let table : x .table ≡ y .table = numbers-eq _ _ (c .0) in
     let codes : x .codes ≡ y .codes = same-eq _ _ (d .0) in
     let rows : x .rows ≡ y .rows = same-eq _ _ (f .0) in
-    let weights : x .weights ≡ y .weights = numbers-eq _ _ (f .1) in
-    λ i. record { number = number i; line = line i; table = table i; codes = codes i; rows = rows i; weights = weights i }
+    let weights : x .weights ≡ y .weights = numbers-eq _ _ (g .0) in
+    let text : x .text ≡ y .text = same-eq _ _ (h .0) in
+    let count : x .count ≡ y .count = eqb-true _ _ (h .1) in
+    λ i. record { number = number i; line = line i; table = table i; codes = codes i; rows = rows i; weights = weights i; text = text i; count = count i }
 
 abbrev test : List Case → Bool
 test [] = true
@@ -103,8 +112,12 @@ unfoldable looks-opened : ℕ
 unfolding offset position index fraction brought pairBy chart order climb pathBy pair path codeBy code within shown lookAt look
 looks-opened = 0
 
+unfoldable writes-opened : ℕ
+unfolding decimalIn decimal sign placesOf afterPoint decimalsOf parted titleText sizeText boundsText rowText rowsText headText fileText titleFits write bytesAfter
+writes-opened = 0
+
 unfoldable pub opened : ℕ
-unfolding words-opened numbers-opened contents-opened lines-opened tables-opened looks-opened eachPixel pictureWith picture outputAfter refusalNumber
+unfolding words-opened numbers-opened contents-opened lines-opened tables-opened looks-opened writes-opened eachPixel pictureWith picture outputAfter refusalNumber
 opened = 0
 
 marked-pass : test marked ≡ true
@@ -131,6 +144,10 @@ mixed-pass : test mixed ≡ true
 unfolding opened
 mixed-pass = refl
 
+written-pass : test written ≡ true
+unfolding opened
+written-pass = refl
+
 -- the cases of document 01 that are marked P
 pub marked-met : AllMet marked
 marked-met = tested marked marked-pass
@@ -154,6 +171,10 @@ two-depths-met = tested twoDepths two-depths-pass
 -- document 02's different domains in 3D
 pub mixed-met : AllMet mixed
 mixed-met = tested mixed mixed-pass
+
+-- document 02's tables that are written
+pub written-met : AllMet written
+written-met = tested written written-pass
 
 -- 30, on line 0
 pub report-30 : (input : List ℕ) → reportBytes < length input → (readNumber (report input) ≡ 30) × (readLine (report input) ≡ 0)

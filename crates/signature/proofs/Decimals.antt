@@ -61,7 +61,7 @@ decimal-leads n p = leads-in n n (omega arith) p .1
 
 -- ---- every byte but the sign and the point is a digit
 
-first-digit : (l : List ℕ) → 0 < length l → every digit l ≡ true → digits l ≡ true
+pub first-digit : (l : List ℕ) → 0 < length l → every digit l ≡ true → digits l ≡ true
 unfolding every starts digits
 first-digit [] h p = absurd (omega arith)
 first-digit (b ∷ l) h p = both-and (digit b) (every digit (b ∷ l)) (and-both (digit b) (every digit l) p .0) p
@@ -88,7 +88,7 @@ whole-digits (suc more) n h = split (ltb n 10) refl (whole-digits more (n / 10))
           omega (arith, length-append (decimalIn more (n / 10)) (digitByte (n % 10) ∷ [])),
         )
 
-decimal-digits : (n : ℕ) → digits (decimal n) ≡ true
+pub decimal-digits : (n : ℕ) → digits (decimal n) ≡ true
 unfolding decimal
 decimal-digits n = let h = whole-digits n n (omega arith) in first-digit (decimalIn n n) (h .1) (h .0)
 
@@ -225,19 +225,27 @@ module _ (places : ℕ) (z : ℤ) where
     power-so = absent refl refl;
   }
 
+  -- the places are digits, and there are some where something is left
+  pub places-digits : every digit (placesOf places rest) ≡ true
+  places-digits = rest-placed .each
+
+  pub places-some : 0 < rest → 0 < length (placesOf places rest)
+  places-some = rest-placed .some
+
   -- after the point no zero stands at the end
   pub no-zero-last : 0 < rest → 48 < getD (placesOf places rest) (length (placesOf places rest) - 1) 0
   no-zero-last = rest-placed .last
 
-  size : 10 ^ length (placesOf places rest) * natAbs z ≡ spell 0 (decimal whole ++ placesOf places rest) * 10 ^ places
+  -- what all its digits spell, times the unit
+  pub size : 10 ^ length (placesOf places rest) * natAbs z ≡ spell 0 (decimal whole ++ placesOf places rest) * 10 ^ places
   size =
       ap (λ (n : ℕ). 10 ^ length (placesOf places rest) * n) (sym (div-add-mod' (natAbs z) (10 ^ places)))
       ∙ sym (rest-placed .worth)
       ∙ ap (λ (n : ℕ). n * 10 ^ places) (sym (spell-append 0 (decimal whole) (placesOf places rest) ∙ ap (λ (m : ℕ). spell m (placesOf places rest)) (decimal-spells whole)))
 
-  equal : pos (under numeral) *ℤ z ≡ signed (isBelow z) (over places numeral)
+  pub exactly-worth : pos (under numeral) *ℤ z ≡ signed (isBelow z) (over places numeral)
   unfolding spell
-  equal = by z (rw (add-zero, add-zero) size)
+  exactly-worth = by z (rw (add-zero, add-zero) size)
     where
       by : (z′ : ℤ) → under numeral * natAbs z′ ≡ over places numeral → pos (under numeral) *ℤ z′ ≡ signed (isBelow z′) (over places numeral)
       by (pos n) e = pos-*ℤ-pos (under numeral) n ∙ ap pos e
@@ -245,7 +253,7 @@ module _ (places : ℕ) (z : ℤ) where
 
   -- it is worth exactly what it was made of, and read so
   pub decimals-exact : (limit : ℕ) → natAbs z ≤ limit → Exact places limit (decimalsOf places z) z
-  decimals-exact limit h = record { numeral = numeral; spelt = decimals-spell; equal = equal; within = h }
+  decimals-exact limit h = record { numeral = numeral; spelt = decimals-spell; equal = exactly-worth; within = h }
 
   pub decimals-read : (limit : ℕ) → natAbs z ≤ limit → numberOf places limit (decimalsOf places z) ≡ Value z
   decimals-read limit h = of-exact places limit (decimalsOf places z) z (decimals-exact limit h)
@@ -259,6 +267,18 @@ half-below-0 = refl
 pub a-thousand : decimalsOf 7 (pos 10_000_000_000) ≡ bytes "1000"
 unfolding decimalsOf decimal decimalIn sign afterPoint placesOf bytes
 a-thousand = refl
+
+pub zero-text : decimalsOf 7 (pos 0) ≡ bytes "0"
+unfolding decimalsOf decimal decimalIn sign afterPoint placesOf bytes
+zero-text = refl
+
+pub one-text : decimalsOf 7 (pos 10_000_000) ≡ bytes "1"
+unfolding decimalsOf decimal decimalIn sign afterPoint placesOf bytes
+one-text = refl
+
+pub a-thousand-below-0 : decimalsOf 7 (negsuc 9_999_999_999) ≡ bytes "-1000"
+unfolding decimalsOf decimal decimalIn sign afterPoint placesOf bytes
+a-thousand-below-0 = refl
 
 pub one-unit : decimalsOf 7 (pos 1) ≡ bytes "0.0000001"
 unfolding decimalsOf decimal decimalIn sign afterPoint placesOf bytes

@@ -3,12 +3,13 @@
 -- demand 1: each promise decides its answer; titles change no answer
 pub mod Unique
 pub mod Untitled
--- a law of tests that several of them use
+-- laws of tests that several of them use
 pub mod Either
--- the demands, of reading, look and picture, and the wrong programs that their promises rule out
+-- the demands, of reading, look, picture and writing, and the wrong programs that their promises rule out
 pub mod Reading
 pub mod Looking
 pub mod Picturing
+pub mod Writing
 pub mod Demand3
 -- the demands again, of the calls that loggers link
 pub mod Boundary

@@ -3,14 +3,15 @@ use Prim.Native.Nat.{ℕ}
 use mathlib.Core.Path.{_≡_, sym, _∙_}
 use mathlib.Core.List.{List}
 use lib.IntN.{ℤ}
-use Rattle.rules.specs.Promises.{Reads, Checks, Looks, Pictures}
+use Rattle.rules.specs.Promises.{Reads, Checks, Looks, Pictures, Writes}
 use Rattle.rules.specs.declared.Bits.{Bits}
 use Rattle.rules.specs.declared.Codes.{Codes}
 use Rattle.rules.specs.declared.Description.{Description}
 use Rattle.rules.specs.declared.Look.{Look}
 use Rattle.rules.specs.declared.Picture.{Picture}
 use Rattle.rules.specs.declared.Read.{Read}
-use Rattle.rules.proofs.Answers.{checks-is, looks-is, pictures-is, reads-is}
+use Rattle.rules.specs.declared.Write.{Write}
+use Rattle.rules.proofs.Answers.{checks-is, looks-is, pictures-is, reads-is, writes-is}
 
 module _ {d : Description} {table : List ℤ} {bits : Bits} {pixel : Codes} where
   pub looks-one : {r s : Look} → Looks d table bits pixel r → Looks d table bits pixel s → r ≡ s
@@ -19,6 +20,10 @@ module _ {d : Description} {table : List ℤ} {bits : Bits} {pixel : Codes} wher
 module _ {d : Description} {table : List ℤ} {bits : Bits} {src dst : List ℕ} where
   pub pictures-one : {r s : Picture} {dst′ dst″ : List ℕ} → Pictures d table bits src dst r dst′ → Pictures d table bits src dst s dst″ → (r ≡ s) × (dst′ ≡ dst″)
   pictures-one p q = (pictures-is p .0 ∙ sym (pictures-is q .0), p .memory ∙ sym (q .memory))
+
+module _ {d : Description} {table : List ℤ} {title out : List ℕ} where
+  pub writes-one : {r s : Write} {out′ out″ : List ℕ} → Writes d table title out r out′ → Writes d table title out s out″ → (r ≡ s) × (out′ ≡ out″)
+  writes-one p q = (writes-is p .0 ∙ sym (writes-is q .0), p .memory ∙ sym (q .memory))
 
 module _ {file : List ℕ} {table : List ℤ} where
   pub reads-one : {r s : Read} {table′ table″ : List ℤ} → Reads file table r table′ → Reads file table s table″ → (r ≡ s) × (table′ ≡ table″)

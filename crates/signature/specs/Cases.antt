@@ -1,5 +1,5 @@
 -- Document 01, "Checked by hand": the cases marked P as one table, a case for every number of "Answers by number", and sample A.3 read whole.
-use Prim.Native.Nat.{ℕ}
+use Prim.Native.Nat.{ℕ, _+_}
 use Prim.Native.String.{String}
 use mathlib.Core.Path.{_≡_}
 use mathlib.Core.Bool.{true}
@@ -11,7 +11,8 @@ use Rattle.rules.specs.Reading.Lines.{bytes, after}
 use Rattle.rules.specs.Reading.{read, tableAfter}
 use Rattle.rules.specs.Looking.{look}
 use Rattle.rules.specs.Picturing.{picture, outputAfter}
-use Rattle.rules.specs.Answers.{readNumber, readLine, readDescription, lookNumber, lookCodes, lookRows, lookWeights, pictureNumber}
+use Rattle.rules.specs.Writing.{write, bytesAfter}
+use Rattle.rules.specs.Answers.{readNumber, readLine, readDescription, lookNumber, lookCodes, lookRows, lookWeights, pictureNumber, writeNumber, writtenLength}
 use Rattle.rules.specs.declared.Bits.{Bits}
 use Rattle.rules.specs.declared.Codes.{Codes}
 use Rattle.rules.specs.declared.Description.{Description}
@@ -20,6 +21,7 @@ use Rattle.rules.specs.declared.Look.{Look}
 use Rattle.rules.specs.declared.Picture.{Picture}
 use Rattle.rules.specs.declared.Read.{Read}
 use Rattle.rules.specs.declared.Read.the-variants.{Accepted}
+use Rattle.rules.specs.declared.Write.{Write}
 use Rattle.signature.specs.OneDomain.{redWider, greenHigher, redLower, allWider, greenFirst, cubeTo}
 
 -- ---- what is asked, and what comes out
@@ -31,6 +33,8 @@ pub data Question : Type 0 where
   looking : Description → List ℤ → Bits → Codes → Question
   -- correcting a picture into an output of so many places that hold 77
   picturing : Description → List ℤ → Bits → List ℕ → ℕ → Question
+  -- writing a table with a title into so many bytes that hold 77
+  writing : Description → List ℤ → List ℕ → ℕ → Question
 
 -- in the paper's numbers; what a call does not give is empty
 pub record Outcome : Type 0 where
@@ -40,6 +44,8 @@ pub record Outcome : Type 0 where
   pub codes : List ℕ
   pub rows : List ℕ
   pub weights : List ℤ
+  pub text : List ℕ
+  pub count : ℕ
 
 pub record Case : Type 0 where
   pub asked : Question
@@ -51,13 +57,25 @@ untouched places = replicate places (pos 77)
 abbrev pub outcome : Question → Outcome
 outcome (reading file places) =
     let r : Read = read file places in
-    record { number = readNumber r; line = readLine r; table = tableAfter file (untouched places) r; codes = []; rows = []; weights = [] }
+    record { number = readNumber r; line = readLine r; table = tableAfter file (untouched places) r; codes = []; rows = []; weights = []; text = []; count = 0 }
 outcome (looking d table bits pixel) =
     let r : Look = look d table bits pixel in
-    record { number = lookNumber r; line = 0; table = []; codes = lookCodes r; rows = lookRows r; weights = lookWeights r }
+    record { number = lookNumber r; line = 0; table = []; codes = lookCodes r; rows = lookRows r; weights = lookWeights r; text = []; count = 0 }
 outcome (picturing d table bits src places) =
     let r : Picture = picture d table bits src places in
-    record { number = pictureNumber r; line = 0; table = []; codes = outputAfter d table bits src (replicate places 77) r; rows = []; weights = [] }
+    record { number = pictureNumber r; line = 0; table = []; codes = outputAfter d table bits src (replicate places 77) r; rows = []; weights = []; text = []; count = 0 }
+outcome (writing d table title places) =
+    let r : Write = write d table title places in
+    record {
+      number = writeNumber r;
+      line = 0;
+      table = [];
+      codes = [];
+      rows = [];
+      weights = [];
+      text = bytesAfter d table title (replicate places 77) r;
+      count = writtenLength r;
+    }
 
 -- ---- cases, from the text of a file on
 
@@ -74,21 +92,21 @@ grey c = record { red = c; green = c; blue = c }
 abbrev pub word : String → ℕ → ℕ → List ℤ → Case
 word w number line samples = record {
   asked = reading (bytes "LUT_1D_SIZE 2\n" ++ (bytes w ++ bytes " 0 0\n0 0 0")) 6;
-  expected = record { number = number; line = line; table = samples; codes = []; rows = []; weights = [] };
+  expected = record { number = number; line = line; table = samples; codes = []; rows = []; weights = []; text = []; count = 0 };
 }
 
 -- a file that is refused
 abbrev pub refused : List ℕ → ℕ → ℕ → ℕ → Case
 refused file places number line = record {
   asked = reading file places;
-  expected = record { number = number; line = line; table = untouched places; codes = []; rows = []; weights = [] };
+  expected = record { number = number; line = line; table = untouched places; codes = []; rows = []; weights = []; text = []; count = 0 };
 }
 
 -- a pixel that is corrected
 abbrev pub looked : String → Bits → Codes → List ℕ → List ℕ → List ℤ → Case
 looked file bits pixel codes rows weights = record {
   asked = looking (describedBy file) (tableFrom file) bits pixel;
-  expected = record { number = 0; line = 0; table = []; codes = codes; rows = rows; weights = weights };
+  expected = record { number = 0; line = 0; table = []; codes = codes; rows = rows; weights = weights; text = []; count = 0 };
 }
 
 -- 1D with N = 2, all colours alike: a code, its answer, its two weights
@@ -111,6 +129,10 @@ threeRows = "LUT_1D_SIZE 3\n0 0 0\n0.5 0.5 0.5\n1 1 1\n"
 -- document 000, sample A.3
 abbrev pub sampleA3 : String
 sampleA3 = "TITLE \"Demo\"\nLUT_1D_SIZE 3\nDOMAIN_MIN 0 0 0\nDOMAIN_MAX 1 2 3\n0 0 0\n# Comments can go anywhere\n0.5 1 1.5\n1 1 1\n"
+
+-- an empty title, and a lower bound below 0
+abbrev pub halfBelow : String
+halfBelow = "TITLE \"\"\nLUT_1D_SIZE 2\nDOMAIN_MIN -0.5 0 0\nDOMAIN_MAX 1 1 1\n0 0 0\n1 1 1\n"
 
 -- 3D, all rows zero but row 7
 abbrev pub corner : String
@@ -160,14 +182,14 @@ oneRow = record {
 abbrev pub lookRefused : Description → Bits → Codes → ℕ → Case
 lookRefused d bits pixel number = record {
   asked = looking d (tableFrom zeroAndHalf) bits pixel;
-  expected = record { number = number; line = 0; table = []; codes = replicate 3 0; rows = replicate 6 0; weights = replicate 6 (pos 0) };
+  expected = record { number = number; line = 0; table = []; codes = replicate 3 0; rows = replicate 6 0; weights = replicate 6 (pos 0); text = []; count = 0 };
 }
 
 -- a picture with its number and what the output holds afterwards
 abbrev pub pictured : Description → Bits → List ℕ → ℕ → ℕ → List ℕ → Case
 pictured d bits src places number after = record {
   asked = picturing d (tableFrom zeroAndHalf) bits src places;
-  expected = record { number = number; line = 0; table = []; codes = after; rows = []; weights = [] };
+  expected = record { number = number; line = 0; table = []; codes = after; rows = []; weights = []; text = []; count = 0 };
 }
 
 abbrev pub numbered : List Case
@@ -220,7 +242,7 @@ points =
     ∷ refused (bytes "DOMAIN_MAX 11. 1 1") 6 8 1
     ∷ record {
       asked = reading (bytes "DOMAIN_MIN -1. 0. 0\nDOMAIN_MAX 2. 2. 2.\nLUT_1D_SIZE 2\n0. 0. 0.\n1. 1.e0 1.") 6;
-      expected = record { number = 0; line = 0; table = replicate 3 (pos 0) ++ replicate 3 (pos 10_000_000); codes = []; rows = []; weights = [] };
+      expected = record { number = 0; line = 0; table = replicate 3 (pos 0) ++ replicate 3 (pos 10_000_000); codes = []; rows = []; weights = []; text = []; count = 0 };
     }
     ∷ []
 
@@ -250,7 +272,7 @@ halves =
     ∷ refused (bytes "DOMAIN_MIN 0 0 0\nDOMAIN_MIN 0 0 0\nLUT_1D_SIZE 2\n0 0 0") 6 5 2
     ∷ record {
       asked = reading (bytes "DOMAIN_MIN 0 0 0\nDOMAIN_MAX 1 1 1\nLUT_1D_SIZE 2\n0 0 0\n1 1 1") 6;
-      expected = record { number = 0; line = 0; table = replicate 3 (pos 0) ++ replicate 3 (pos 10_000_000); codes = []; rows = []; weights = [] };
+      expected = record { number = 0; line = 0; table = replicate 3 (pos 0) ++ replicate 3 (pos 10_000_000); codes = []; rows = []; weights = []; text = []; count = 0 };
     }
     ∷ []
 
@@ -289,7 +311,7 @@ unevenBesideWhole = "LUT_3D_SIZE 2\nDOMAIN_MIN 0 0.5 0.5\nDOMAIN_MAX 1 1.5 1.5\n
 abbrev pub painted : String → List ℕ → ℕ → List ℕ → Case
 painted file src places after = record {
   asked = picturing (describedBy file) (tableFrom file) (sameBits 8) src places;
-  expected = record { number = 0; line = 0; table = []; codes = after; rows = []; weights = [] };
+  expected = record { number = 0; line = 0; table = []; codes = after; rows = []; weights = []; text = []; count = 0 };
 }
 
 -- Red to 2 beside 1: D is 255·2·1·1, and a red code counts once, the others twice, so 204, 306 and 102; rows 2 and 7 are 1, so the value is 204 of 510. Red and
@@ -319,6 +341,62 @@ mixed =
     ∷ refused (bytes "LUT_3D_SIZE 2\nDOMAIN_MIN 0 0 0\nDOMAIN_MAX 2 1 1\n") 24 18 4
     ∷ []
 
+-- ---- document 02, Req 02: tables that are written
+
+-- a text, with so many bytes to spare
+abbrev pub wrote : Description → List ℤ → List ℕ → ℕ → String → Case
+wrote d table title spare text = record {
+  asked = writing d table title (length (bytes text) + spare);
+  expected = record {
+    number = 0;
+    line = 0;
+    table = [];
+    codes = [];
+    rows = [];
+    weights = [];
+    text = bytes text ++ replicate spare 77;
+    count = length (bytes text);
+  };
+}
+
+-- a refusal, with so many lent bytes
+abbrev pub notWritten : Description → List ℤ → List ℕ → ℕ → ℕ → Case
+notWritten d table title places number = record {
+  asked = writing d table title places;
+  expected = record { number = number; line = 0; table = []; codes = []; rows = []; weights = []; text = replicate places 77; count = 0 };
+}
+
+-- the file of two rows again, with both lines of its domain
+abbrev pub zeroAndHalfText : String
+zeroAndHalfText = "LUT_1D_SIZE 2\nDOMAIN_MIN 0 0 0\nDOMAIN_MAX 1 1 1\n0 0 0\n0.5 0.5 0.5\n"
+
+-- with a title
+abbrev pub titledHalf : String
+titledHalf = "TITLE \"a\"\nLUT_1D_SIZE 2\n0 0 0\n0.5 0.5 0.5\n"
+
+-- 0, -0.5 and 1; one ten-millionth, the least sample, and the greatest but one
+abbrev pub farApart : List ℤ
+farApart = pos 0 ∷ negsuc 4_999_999 ∷ pos 10_000_000 ∷ pos 1 ∷ negsuc 9_999_999_999 ∷ pos 9_999_999_999 ∷ []
+
+-- Without the mark a title is neither written nor judged. A title of two letters where the description's own had one. Two files that were written so before: an
+-- empty title and a lower bound below 0, and 3D domains that differ. Room for the text to the byte, and one byte less. 24 before 27 before 13; 27 for a quote, a
+-- tab and 243 bytes, and not for 242.
+abbrev pub written : List Case
+written =
+    wrote (describedBy zeroAndHalf) (tableFrom zeroAndHalf) (bytes "a \"quote\"") 2 zeroAndHalfText
+    ∷ wrote (describedBy zeroAndHalf) farApart [] 0 "LUT_1D_SIZE 2\nDOMAIN_MIN 0 0 0\nDOMAIN_MAX 1 1 1\n0 -0.5 1\n0.0000001 -1000 999.9999999\n"
+    ∷ wrote (describedBy titledHalf) (tableFrom titledHalf) (bytes "Hi") 1 "TITLE \"Hi\"\nLUT_1D_SIZE 2\nDOMAIN_MIN 0 0 0\nDOMAIN_MAX 1 1 1\n0 0 0\n0.5 0.5 0.5\n"
+    ∷ wrote (describedBy halfBelow) (tableFrom halfBelow) [] 0 halfBelow
+    ∷ wrote (describedBy redWider) (tableFrom redWider) [] 0 redWider
+    ∷ wrote (describedBy zeroAndHalf) (tableFrom zeroAndHalf) [] 0 zeroAndHalfText
+    ∷ notWritten (describedBy zeroAndHalf) (tableFrom zeroAndHalf) [] 65 13
+    ∷ notWritten (describedBy titledHalf) (replicate 5 (pos 0)) (bytes "\"") 3 24
+    ∷ notWritten (describedBy titledHalf) (tableFrom titledHalf) (bytes "a\"b") 3 27
+    ∷ notWritten (describedBy titledHalf) (tableFrom titledHalf) (bytes "a\tb") 100 27
+    ∷ notWritten (describedBy titledHalf) (tableFrom titledHalf) (replicate 243 65) 3 27
+    ∷ notWritten (describedBy titledHalf) (tableFrom titledHalf) (replicate 242 65) 3 13
+    ∷ []
+
 -- ---- what the report program prints
 
 -- of document 01's 3D file
@@ -329,10 +407,7 @@ cornerReport = "cube\t3D\t2\t8\ndomain\tred\t0\t1000\ndomain\tgreen\t0\t1000\ndo
 abbrev pub reportA3 : String
 reportA3 = "cube\t1D\t3\t3\ndomain\tred\t0\t1000\ndomain\tgreen\t0\t2000\ndomain\tblue\t0\t3000\ntitle\tyes\tDemo\n"
 
--- an empty title, and a lower bound below 0
-abbrev pub halfBelow : String
-halfBelow = "TITLE \"\"\nLUT_1D_SIZE 2\nDOMAIN_MIN -0.5 0 0\nDOMAIN_MAX 1 1 1\n0 0 0\n1 1 1\n"
-
+-- of the file with an empty title, and a lower bound below 0
 abbrev pub halfBelowReport : String
 halfBelowReport = "cube\t1D\t2\t2\ndomain\tred\t-500\t1000\ndomain\tgreen\t0\t1000\ndomain\tblue\t0\t1000\ntitle\tyes\t\n"
 

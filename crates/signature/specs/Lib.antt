@@ -1,5 +1,6 @@
 -- What the theorems speak of beside the rules: reading by its parts, and what the requests of document 02 changed of it; the wall chart; look and picture with
--- one depth, and with one domain; codes beyond a domain; document 01's cases; a number that is one of some; the order of reading's checks.
+-- one depth, and with one domain; codes beyond a domain; document 01's cases; a number that is one of some; the order of reading's checks; the fewest
+-- characters for a number.
 pub mod Before
 pub mod BarePoints
 pub mod Heads
@@ -12,3 +13,4 @@ pub mod Beyond
 pub mod Cases
 pub mod Numbers
 pub mod Order
+pub mod Fewest

@@ -14,7 +14,7 @@ use Rattle.rules.specs.declared.Kind.the-variants.{ThreeD}
 use Rattle.rules.specs.declared.Read.{Read}
 use Rattle.rules.specs.declared.Read.the-variants.{Refused}
 use Rattle.rules.specs.declared.Refusal.{Refusal}
-use Rattle.rules.specs.declared.Refusal.the-variants.{DomainTooWide, DomainsDiffer, HalfADomain, LowerNotBelowUpper, NoSize, TableTooShort}
+use Rattle.rules.specs.declared.Refusal.the-variants.{DomainTooWide, DomainsDiffer, HalfADomain, LowerNotBelowUpper, NoSize, TooLittleRoom}
 use Rattle.signature.specs.Before.{readBy}
 use Rattle.signature.specs.Heads.{HeadAt}
 use Rattle.signature.specs.OneDomain.{agreeBefore}
@@ -53,7 +53,7 @@ module _ (agreed : Description → Bool) where
       (need (everyColour ordered d) LowerNotBelowUpper
       (need (everyColour narrow d) DomainTooWide
       (need (agreed d) DomainsDiffer
-      (need (roomy places d) TableTooShort none))))))
+      (need (roomy places d) TooLittleRoom none))))))
       none
 
 -- before: in 3D one domain for all colours

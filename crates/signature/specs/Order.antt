@@ -21,7 +21,7 @@ use Rattle.rules.specs.declared.Keyword.{Keyword}
 use Rattle.rules.specs.declared.Keyword.the-variants.{ATitle, ALower, AnUpper, ASize}
 use Rattle.rules.specs.declared.Kind.{Kind}
 use Rattle.rules.specs.declared.Refusal.{Refusal}
-use Rattle.rules.specs.declared.Refusal.the-variants.{LineTooLong, ByteNotPermitted, NeitherDataNorKeyword, KeywordAfterData, KeywordRepeated, ParametersWrong, SizeOutOfRange, DomainNumberWrong, NoSize, HalfADomain, LowerNotBelowUpper, DomainTooWide, DomainsDiffer, TableTooShort, TooManyRows, NotThreeNumbers, SampleBeyond, SampleTooFine, TooFewRows}
+use Rattle.rules.specs.declared.Refusal.the-variants.{LineTooLong, ByteNotPermitted, NeitherDataNorKeyword, KeywordAfterData, KeywordRepeated, ParametersWrong, SizeOutOfRange, DomainNumberWrong, NoSize, HalfADomain, LowerNotBelowUpper, DomainTooWide, DomainsDiffer, TooLittleRoom, TooManyRows, NotThreeNumbers, SampleBeyond, SampleTooFine, TooFewRows}
 
 -- ---- checks
 
@@ -126,7 +126,7 @@ headChecks places st =
     ∷ (everyColour ordered (describe st), LowerNotBelowUpper)
     ∷ (everyColour narrow (describe st), DomainTooWide)
     ∷ (agree (describe st .kind) (describe st), DomainsDiffer)
-    ∷ (roomy places (describe st), TableTooShort)
+    ∷ (roomy places (describe st), TooLittleRoom)
     ∷ [])
     []
 

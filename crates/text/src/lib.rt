@@ -14,6 +14,7 @@ pub use keywords::keyword_of;
 pub use lines::Checked;
 pub use lines::byte_fault;
 pub use lines::form_of;
+pub use runs::every;
 pub use title::title_of;
 pub use words::Word;
 pub use words::next_word;

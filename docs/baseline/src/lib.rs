@@ -3,6 +3,7 @@
 
 pub mod picture;
 pub mod reading;
+pub mod writing;
 
 /// Red, green and blue, each with a lower and an upper bound in thousandths.
 pub type Domains = [[i64; 2]; 3];
@@ -44,6 +45,15 @@ impl Description {
         (2..=most).contains(&self.n)
             && self.domains.into_iter().all(domain_keeps)
             && (!self.is_mixed() || self.domains.iter().flatten().all(|bound| bound % 1000 == 0))
+    }
+
+    /// The three samples of each row, if reading could have given this description and table.
+    pub fn samples_of<'a>(&self, table: &'a [i64]) -> Option<&'a [i64]> {
+        let beyond = |sample: &i64| !(-GREATEST_SAMPLE..=GREATEST_SAMPLE).contains(sample);
+        if !self.keeps_limits() {
+            return None;
+        }
+        table.get(..3 * self.rows()).filter(|samples| !samples.iter().any(beyond))
     }
 }
 

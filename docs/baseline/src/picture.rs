@@ -1,6 +1,6 @@
 //! A run of pixels: judged once, then corrected pixel by pixel.
 
-use crate::{Description, Kind, GREATEST_SAMPLE};
+use crate::{Description, Kind};
 
 /// One in ten-millionths, the unit of samples.
 const ONE: u64 = 10_000_000;
@@ -65,14 +65,7 @@ fn judge(
     src: &[u16],
     places: usize,
 ) -> Result<[u16; 2], Refused> {
-    let beyond = |sample: &i64| !(-GREATEST_SAMPLE..=GREATEST_SAMPLE).contains(sample);
-    if !description.keeps_limits() {
-        return Err(24);
-    }
-    match table.get(..3 * description.rows()) {
-        Some(samples) if !samples.iter().any(beyond) => {}
-        _ => return Err(24),
-    }
+    description.samples_of(table).ok_or(24u32)?;
     let [raw, corrected] = [greatest_code(bits.raw)?, greatest_code(bits.corrected)?];
     if src.len() % 3 != 0 {
         return Err(21);

@@ -1,4 +1,4 @@
-//! The proved library's two calls that are measured.
+//! The proved library's three calls that are measured.
 
 use baseline::picture::Bits;
 
@@ -22,6 +22,16 @@ mod c {
             src_len: usize,
             dst: *mut u16,
             dst_len: usize,
+        ) -> u32;
+        pub fn erythmoda_write(
+            description: *const i64,
+            table: *const i64,
+            table_len: usize,
+            title: *const u8,
+            title_len: usize,
+            out: *mut u8,
+            out_len: usize,
+            length: *mut u64,
         ) -> u32;
     }
 }
@@ -62,4 +72,23 @@ pub fn picture(
             dst.len(),
         )
     }
+}
+
+/// Writes without a title; the length of the text, or none where it is refused.
+pub fn write(description: &[i64; 11], table: &[i64], out: &mut [u8]) -> Option<usize> {
+    let (title, mut length) = ([0], 0);
+    // SAFETY: each pointer is to as many places as are told.
+    let number = unsafe {
+        c::erythmoda_write(
+            description.as_ptr(),
+            table.as_ptr(),
+            table.len(),
+            title.as_ptr(),
+            0,
+            out.as_mut_ptr(),
+            out.len(),
+            &mut length,
+        )
+    };
+    (number == 0).then_some(length as usize)
 }

@@ -1,4 +1,5 @@
-//! How fast the proved library corrects pictures and reads files, beside docs/baseline.
+//! How fast the proved library corrects pictures, reads files and writes them, beside
+//! docs/baseline.
 //! docs/baseline/README.md tells the method.
 
 mod library;
@@ -11,7 +12,7 @@ use std::time::Instant;
 
 const PIXELS: usize = 20_000;
 const PICTURE_ROUNDS: usize = 201;
-const READING_ROUNDS: usize = 21;
+const FILE_ROUNDS: usize = 21;
 const READING_N: usize = 65;
 
 /// Depths of raw and of corrected codes.
@@ -40,6 +41,11 @@ fn main() -> ExitCode {
         }
     }
     alike &= reading();
+    println!("\nwriting files, seven decimals, medians of {FILE_ROUNDS} rounds");
+    println!("kind\tN\tbytes\tours, MB/s\tbaseline, MB/s\tratio of times");
+    for (kind, n) in [(Kind::ThreeD, 65), (Kind::OneD, 65_536)] {
+        alike &= writing(&Description { kind, n, domains: ONE });
+    }
     if alike {
         ExitCode::SUCCESS
     } else {
@@ -141,15 +147,38 @@ fn reading() -> bool {
     let (mut ours, mut plain) = (vec![0; 3 * rows], vec![0; 3 * rows]);
     let (mut number, mut accepted) = (0, false);
     let (our_time, plain_time) = medians(
-        READING_ROUNDS,
+        FILE_ROUNDS,
         || number = library::read(file.as_bytes(), &mut ours),
         || accepted = baseline::reading::read(file.as_bytes(), &mut plain).is_ok(),
     );
-    let speed = |time: f64| file.len() as f64 * 1e3 / time;
     let bytes = file.len();
     println!("\nreading a 3D file, N = {READING_N}, seven decimals, {bytes} bytes");
-    println!("medians of {READING_ROUNDS} rounds");
+    println!("medians of {FILE_ROUNDS} rounds");
     println!("ours, MB/s\tbaseline, MB/s\tratio of times");
-    println!("{:.0}\t{:.0}\t{:.2}", speed(our_time), speed(plain_time), our_time / plain_time);
+    println!("{}", speeds(bytes, our_time, plain_time));
     number == 0 && accepted && ours == plain
+}
+
+/// So many bytes in each of two times, and the ratio of the times.
+fn speeds(bytes: usize, our_time: f64, plain_time: f64) -> String {
+    let speed = |time: f64| bytes as f64 * 1e3 / time;
+    format!("{:.0}\t{:.0}\t{:.2}", speed(our_time), speed(plain_time), our_time / plain_time)
+}
+
+/// One line of the table of writing; whether the two gave the same text.
+fn writing(description: &Description) -> bool {
+    let mut draws = Draws(3);
+    let eleven = eleven(description);
+    let table: Vec<i64> = (0..3 * description.rows()).map(|_| draws.sample()).collect();
+    let places = 333 + 39 * description.rows();
+    let (mut ours, mut plain) = (vec![0; places], vec![0; places]);
+    let (mut length, mut answer) = (None, Err(0));
+    let (our_time, plain_time) = medians(
+        FILE_ROUNDS,
+        || length = library::write(&eleven, &table, &mut ours),
+        || answer = baseline::writing::write(description, &table, None, &mut plain),
+    );
+    let (kind, n, bytes) = (kind_shown(description), description.n, length.unwrap_or(0));
+    println!("{kind}\t{n}\t{bytes}\t{}", speeds(bytes, our_time, plain_time));
+    length.is_some() && length == answer.ok() && ours == plain
 }

@@ -1,13 +1,15 @@
 //! Document 01, "Checked by hand": every case, marked P or not; the order of the checks that
-//! document 02 adds to; and looks through its mixed domains, worked by hand.
+//! document 02 adds to; looks through its mixed domains, worked by hand; and the files that it writes.
 
 use crate::cases::{CUBE, SAMPLE_A2, SAMPLE_A3, SAMPLE_A4, SMALL};
+use crate::decimal::{value, Value, TEN_MILLIONTHS, THOUSANDTHS};
 use crate::look::{look, Look};
-use crate::paper::{Bits, Description, REFUSED_DESCRIPTION};
+use crate::paper::{Bits, Description, BOUND_PLACES, REFUSED_DESCRIPTION, SAMPLE_PLACES};
 use crate::picture::picture;
 use crate::reading::{check, read, read_into};
 use crate::report::report;
 use crate::show::list;
+use crate::writing::{longest_text, shortest, write, write_into, Writing};
 
 /// The number for a file whose first sample is the word, and that sample if accepted.
 fn first_sample(word: &str) -> Result<i64, u32> {
@@ -526,4 +528,192 @@ fn order_of_checks_in_look() {
     assert_eq!(number(&good, 8, 8), 23);
     assert_eq!(number(&good, 8, 16), 23);
     assert_eq!(number(&good, 16, 8), 0);
+}
+
+/// Document 02, Req 02: "Numbers use the fewest characters without an exponent, with a 0 before the
+/// point."
+#[test]
+fn words_that_are_written() {
+    for (units, word) in [
+        (0, "0"),
+        (-5_000_000, "-0.5"),
+        (10_000_000, "1"),
+        (-10_000_000, "-1"),
+        (100_000_000, "10"),
+        (1, "0.0000001"),
+        (-1, "-0.0000001"),
+        (10, "0.000001"),
+        (10_000_001, "1.0000001"),
+        (10_100_000, "1.01"),
+        (1_234_567_890, "123.456789"),
+        (9_999_999_999, "999.9999999"),
+        (-9_999_999_999, "-999.9999999"),
+        (10_000_000_000, "1000"),
+        (-10_000_000_000, "-1000"),
+    ] {
+        assert_eq!(shortest(units, SAMPLE_PLACES), word);
+    }
+    for (units, word) in [(10_000, "10"), (-9_999, "-9.999"), (250, "0.25"), (-1, "-0.001")] {
+        assert_eq!(shortest(units, BOUND_PLACES), word);
+    }
+}
+
+/// Every word of up to five bytes of digits, points and signs that is a number with a digit before
+/// its point: what is written for its value has fewer bytes, or is this word.
+#[test]
+fn no_word_has_fewer_characters() {
+    const BYTES: &[u8] = b"0123456789.-+";
+    let mut words = vec![Vec::new()];
+    let mut written_as_they_are = 0;
+    for _ in 0..5 {
+        words = words
+            .iter()
+            .flat_map(|word| BYTES.iter().map(move |byte| [word, &[*byte][..]].concat()))
+            .collect();
+        for word in words.iter().filter(|word| has_digit_before_point(word)) {
+            for (unit, places) in [(&TEN_MILLIONTHS, SAMPLE_PLACES), (&THOUSANDTHS, BOUND_PLACES)] {
+                if let Value::Units(units) = value(word, unit) {
+                    let written = shortest(units, places).into_bytes();
+                    assert!(written == *word || written.len() < word.len(), "{word:?}");
+                    written_as_they_are += usize::from(written == *word);
+                }
+            }
+        }
+    }
+    // samples from 0 on, those below 0, and bounds likewise
+    assert_eq!(written_as_they_are, 28_001 + 2_800 + 10_001 + 1_000);
+}
+
+fn has_digit_before_point(word: &[u8]) -> bool {
+    let unsigned = word.strip_prefix(b"-").or(word.strip_prefix(b"+")).unwrap_or(word);
+    unsigned.first() != Some(&b'.')
+}
+
+/// Every bound, and samples that are far apart, are what is read of their words.
+#[test]
+fn words_have_their_values() {
+    for bound in -10_000..=10_000 {
+        let word = shortest(bound, BOUND_PLACES);
+        assert_eq!(value(word.as_bytes(), &THOUSANDTHS), Value::Units(bound), "{word}");
+    }
+    for sample in (-10_000_000_000..=10_000_000_000).step_by(99_991) {
+        let word = shortest(sample, SAMPLE_PLACES);
+        assert_eq!(value(word.as_bytes(), &TEN_MILLIONTHS), Value::Units(sample), "{word}");
+    }
+}
+
+/// The head of a 1D table of N = 2 and one domain, with this mark for a title.
+fn marked(mark: i64) -> Description {
+    [1, 2, 0, 0, 0, 1000, 1000, 1000, mark, 0, 0]
+}
+
+/// Two rows, as numbers and as lines.
+const ROWS: [i64; 6] = [0, -5_000_000, 10_000_000, 1, -10_000_000_000, 9_999_999_999];
+const ROW_LINES: &str = "0 -0.5 1\n0.0000001 -1000 999.9999999\n";
+
+/// The text for a description and title with those rows, or the number that refuses it.
+fn text_of(description: Description, title: &[u8]) -> Result<String, u32> {
+    let Writing { number, text } = write(&description, &ROWS, title, 1_000);
+    assert_eq!(number != 0, text.is_empty());
+    match number {
+        0 => Ok(String::from_utf8_lossy(&text).into_owned()),
+        refused => Err(refused),
+    }
+}
+
+#[test]
+fn files_that_are_written() {
+    let plain = format!("LUT_1D_SIZE 2\nDOMAIN_MIN 0 0 0\nDOMAIN_MAX 1 1 1\n{ROW_LINES}");
+    for mark in [1, -1, 2, 256, 1 << 32, i64::MIN] {
+        let titled = text_of(marked(mark), b" a 'b' ");
+        assert_eq!(titled, Ok(format!("TITLE \" a 'b' \"\n{plain}")), "{mark}");
+    }
+    assert_eq!(text_of(marked(1), b""), Ok(format!("TITLE \"\"\n{plain}")));
+    // "Without the mark the title's bytes are neither written nor judged."
+    for title in [&b"a"[..], b"", b"\"", b"\n\x80", &[b'x'; 1_000]] {
+        assert_eq!(text_of(marked(0), title), Ok(plain.clone()));
+    }
+    let bounds = [1, 2, -10_000, 250, 9999, -9999, 750, 10_000, 0, i64::MIN, -1];
+    let lines = "LUT_1D_SIZE 2\nDOMAIN_MIN -10 0.25 9.999\nDOMAIN_MAX -9.999 0.75 10\n";
+    assert_eq!(text_of(bounds, b""), Ok(format!("{lines}{ROW_LINES}")));
+    let (description, table) = cube();
+    let cube_text = write(&description, &table, b"", 1_000).text;
+    let rows = CUBE.split_once('\n').map_or("", |(_, rows)| rows);
+    let head = "LUT_3D_SIZE 2\nDOMAIN_MIN 0 0 0\nDOMAIN_MAX 1 1 1\n";
+    assert_eq!(cube_text, format!("{head}{rows}").into_bytes());
+}
+
+/// "27 for a title over 242 bytes, with a quote, or with a byte not 0x20 to 0x7E".
+#[test]
+fn titles_that_are_refused() {
+    for byte in 0..=255 {
+        let plain = (0x20..=0x7E).contains(&byte) && byte != b'"';
+        for title in [
+            vec![byte],
+            vec![b'a', byte],
+            vec![byte, b'a'],
+            [[b'a'; 241].to_vec(), vec![byte]].concat(),
+        ] {
+            assert_eq!(text_of(marked(1), &title).err(), if plain { None } else { Some(27) });
+            assert_eq!(text_of(marked(0), &title).err(), None);
+        }
+    }
+    for (length, number) in [(241, None), (242, None), (243, Some(27)), (70_000, Some(27))] {
+        assert_eq!(text_of(marked(1), &vec![b'x'; length]).err(), number);
+    }
+}
+
+/// "24; 27 [...]; 13 exactly if the output buffer is shorter than the text; in that order, length 0,
+/// nothing written", and "later bytes are kept".
+#[test]
+fn order_of_checks_in_write() {
+    let number = |description: &Description, title: &[u8], places: usize| {
+        let mut out = vec![7; places];
+        let writing = write_into(description, &ROWS, title, &mut out);
+        let (text, later) = out.split_at(writing.text.len());
+        assert_eq!(text, writing.text);
+        assert!(later.iter().all(|byte| *byte == 7));
+        writing.number
+    };
+    let bad = [2, 2, 0, 0, 0, 1000, 1000, 1000, 1, 0, 0];
+    assert_eq!(number(&bad, b"\"", 0), 24);
+    assert_eq!(number(&bad, b"", 1_000), 24);
+    assert_eq!(number(&marked(1), b"\"", 0), 27);
+    assert_eq!(number(&marked(1), b"\"", 1_000), 27);
+    // 10 bytes of title, 14, 17 and 17 of the other lines of the head, 9 and 28 of rows
+    for (description, text) in [(marked(1), 95), (marked(0), 85)] {
+        for places in [0, 1, text - 1] {
+            assert_eq!(number(&description, b"t", places), 13);
+        }
+        for places in [text, text + 1, 1_000] {
+            assert_eq!(number(&description, b"t", places), 0);
+        }
+    }
+}
+
+/// Places past 3·rows, and a title's own place and length, play no part.
+#[test]
+fn what_plays_no_part_in_write() {
+    let expected = write(&marked(1), &ROWS, b"t", 1_000);
+    let mut description = marked(1);
+    description[9..].copy_from_slice(&[i64::MAX, i64::MIN]);
+    let longer = [&ROWS[..], &[i64::MAX, i64::MIN, 10_000_000_001]].concat();
+    assert_eq!(write(&description, &longer, b"t", 1_000), expected);
+    assert_eq!(write(&description, &longer[..5], b"t", 1_000).number, 24);
+}
+
+/// The longest text has every line as long as can be, a row's of 38 bytes and a title's of 250, and
+/// is read back.
+#[test]
+fn the_longest_text() {
+    let description = [1, 65_536, -9999, -9999, -9999, -9998, -9998, -9998, 1, 0, 0];
+    let table = vec![-9_999_999_999; 3 * 65_536];
+    let text = write(&description, &table, &[b'x'; 242], longest_text(65_536)).text;
+    assert_eq!(text.len(), longest_text(65_536));
+    assert_eq!(longest_text(65_536), 333 + 39 * 65_536);
+    let lengths: Vec<usize> = text.split(|byte| *byte == b'\n').map(<[u8]>::len).collect();
+    assert_eq!(lengths[..5], [250, 17, 31, 31, 38]);
+    let reading = read(&text, table.len());
+    assert_eq!(reading.samples, table);
+    assert_eq!(reading.description[8..], [1, 7, 242]);
 }

@@ -13,6 +13,9 @@
 //! - look: number, three codes, six rows, six weights.
 //! - picture: number, then every place of the lent output afterwards. Before the call
 //!   every place held 7.
+//! - write: number, length, how many of the lent bytes hold 7 afterwards, and, unless the length
+//!   is 0, so many of the lent bytes from the first on, each newline shown as `|`. Before the call
+//!   every byte held 7. Of write-title-242 these bytes are not shown.
 //!
 //! What is read, `NL` standing for a newline and `CR` for a carriage return. WORD(w) is
 //! `LUT_1D_SIZE 2 NL w 0 0 NL 0 0 0 NL` without the blanks around NL, and CUBE is
@@ -144,12 +147,39 @@
 //! a half. With green to 2 the pixel 50 100 25 has 100 of 510 in red and green, and red stands first.
 //! Green from -1 to 0 is at its upper bound, blue from 1 to 2 at its lower one. One domain to 2 has
 //! D = 510000, as before.
+//!
+//! Writes. LINE(mark) is the description 1 2 0 0 0 1000 1000 1000 mark 0 0, and HALF the table
+//! 0 0 0 5000000 10000000 20000000.
+//!
+//! | name | description | table | title | bytes |
+//! |---|---|---|---|---|
+//! | write-titled | LINE(1) | HALF | `smoke` | 80 |
+//! | write-title-empty | LINE(1) | HALF | nothing | 80 |
+//! | write-mark-below-0 | LINE(-1), but 5000 -3 for its last two | HALF | `smoke` | 80 |
+//! | write-unmarked | LINE(0) | HALF | a quote, NL, 0x80 | 80 |
+//! | write-kind-2 | LINE(1), but 2 for its first | HALF | a quote | 0 |
+//! | write-title-243 | LINE(1) | HALF | 243 `x` | 0 |
+//! | write-title-quote | LINE(1) | HALF | `a"b` | 0 |
+//! | write-title-1f | LINE(1) | HALF | `a`, 0x1F | 80 |
+//! | write-title-7f | LINE(1) | HALF | 0x7F, `a` | 80 |
+//! | write-title-242 | LINE(1) | HALF | 242 `x` | 320 |
+//! | write-one-byte-short | LINE(1) | HALF | `smoke` | 75 |
+//! | write-just-the-text | LINE(1) | HALF | `smoke` | 76 |
+//! | write-later-place | LINE(0) | HALF, 10000000001 | nothing | 80 |
+//! | write-numbers | LINE(0) | 0 -5000000 10000000 1 -10000000000 9999999999 | nothing | 100 |
+//! | write-bounds | 1 2 -10000 250 9999 -9999 750 10000 0 0 0 | HALF | nothing | 100 |
+//! | write-mixed | 3 2 0 -1000 1000 2000 0 2000 1 0 0 | STAIR's 24 numbers | `mixed` | 120 |
+//!
+//! By hand: `TITLE "smoke"` and its newline are 14 bytes, and the other five lines 14, 17, 17, 6
+//! and 8, so 76 in all. A line with 242 bytes of title has 250. 24 comes before 27, and 27 before
+//! 13.
 
 use crate::look::{look, Look};
-use crate::paper::Bits;
+use crate::paper::{place, Bits, Description};
 use crate::picture::picture;
 use crate::reading::{check, read_into};
 use crate::show::list;
+use crate::writing::write_into;
 
 pub const SMALL: &str = "LUT_1D_SIZE 2\n0 0 0\n1 1 1\n";
 pub const CUBE: &str = "LUT_3D_SIZE 2\n0 0 0\n0 0 0\n0 0 0\n0 0 0\n0 0 0\n0 0 0\n0 0 0\n1 1 1\n";
@@ -177,6 +207,7 @@ pub fn printed() -> String {
         .chain(picture_lines())
         .chain(checks)
         .chain(mixed_domains())
+        .chain(write_lines())
         .map(|line| line + "\n")
         .collect()
 }
@@ -411,4 +442,82 @@ fn mixed_pictures() -> [String; 2] {
             pictured(name, number, output)
         },
     )
+}
+
+// ---- writes
+
+const HALF: [i64; 6] = [0, 0, 0, 5_000_000, 10_000_000, 20_000_000];
+
+/// LINE(mark).
+fn line(mark: i64) -> Description {
+    [1, 2, 0, 0, 0, 1000, 1000, 1000, mark, 0, 0]
+}
+
+/// LINE(mark) with other numbers from a place on.
+fn line_with(mark: i64, from: usize, numbers: &[i64]) -> Description {
+    let mut description = line(mark);
+    description[from..from + numbers.len()].copy_from_slice(numbers);
+    description
+}
+
+fn write_lines() -> Vec<String> {
+    let titled = |name, title: &[u8], bytes| write_line(name, &line(1), &HALF, title, bytes);
+    let below_0 = line_with(-1, place::TITLE_PLACE, &[5000, -3]);
+    let kind_2 = line_with(1, place::KIND, &[2]);
+    let later = [&HALF[..], &[10_000_000_001]].concat();
+    let numbers = [0, -5_000_000, 10_000_000, 1, -10_000_000_000, 9_999_999_999];
+    let bounds = line_with(0, place::LOWER, &[-10_000, 250, 9999, -9999, 750, 10_000]);
+    let mixed = [3, 2, 0, -1000, 1000, 2000, 0, 2000, 1, 0, 0];
+    vec![
+        titled("write-titled", b"smoke", 80),
+        titled("write-title-empty", b"", 80),
+        write_line("write-mark-below-0", &below_0, &HALF, b"smoke", 80),
+        write_line("write-unmarked", &line(0), &HALF, b"\"\n\x80", 80),
+        write_line("write-kind-2", &kind_2, &HALF, b"\"", 0),
+        titled("write-title-243", &[b'x'; 243], 0),
+        titled("write-title-quote", b"a\"b", 0),
+        titled("write-title-1f", b"a\x1F", 80),
+        titled("write-title-7f", b"\x7Fa", 80),
+        longest_title_line("write-title-242"),
+        titled("write-one-byte-short", b"smoke", 75),
+        titled("write-just-the-text", b"smoke", 76),
+        write_line("write-later-place", &line(0), &later, b"", 80),
+        write_line("write-numbers", &line(0), &numbers, b"", 100),
+        write_line("write-bounds", &bounds, &HALF, b"", 100),
+        write_line("write-mixed", &mixed, &stair(), b"mixed", 120),
+    ]
+}
+
+/// What a write answers, and the lent bytes afterwards.
+fn write_fields(
+    description: &Description,
+    table: &[i64],
+    title: &[u8],
+    bytes: usize,
+) -> (Vec<usize>, Vec<u8>) {
+    let mut out = vec![7; bytes];
+    let writing = write_into(description, table, title, &mut out);
+    let held = out.iter().filter(|byte| **byte == 7).count();
+    (vec![writing.number as usize, writing.text.len(), held], out)
+}
+
+fn write_line(
+    name: &str,
+    description: &Description,
+    table: &[i64],
+    title: &[u8],
+    bytes: usize,
+) -> String {
+    let (fields, out) = write_fields(description, table, title, bytes);
+    let mut line = format!("{name}\t{}", list(&fields, "\t"));
+    if fields[1] > 0 {
+        line += "\t";
+        line += &String::from_utf8_lossy(&out[..fields[1]]).replace('\n', "|");
+    }
+    line
+}
+
+fn longest_title_line(name: &str) -> String {
+    let (fields, _) = write_fields(&line(1), &HALF, &[b'x'; 242], 320);
+    format!("{name}\t{}", list(&fields, "\t"))
 }

@@ -5,6 +5,7 @@
 //! them, and two sizes are compared as strings. Only a value already known to
 //! be in range and a whole number of units is written out.
 
+use crate::paper::{BOUND_PLACES, SAMPLE_PLACES};
 use std::cmp::Ordering;
 
 /// What a word is, measured in a unit.
@@ -25,10 +26,10 @@ pub struct Unit {
 }
 
 /// "thousandths for domain bounds", "from -10 to 10".
-pub const THOUSANDTHS: Unit = Unit { places: 3, limit: "10" };
+pub const THOUSANDTHS: Unit = Unit { places: BOUND_PLACES as i128, limit: "10" };
 
 /// "ten-millionths for samples", "from -1000 to 1000".
-pub const TEN_MILLIONTHS: Unit = Unit { places: 7, limit: "1000" };
+pub const TEN_MILLIONTHS: Unit = Unit { places: SAMPLE_PLACES as i128, limit: "1000" };
 
 /// The value of a word: "beyond" is judged before "finer" (document 01, "16 before 17").
 pub fn value(word: &[u8], unit: &Unit) -> Value {

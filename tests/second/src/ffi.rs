@@ -3,10 +3,11 @@
 //! Every buffer is lent from the middle of a larger one, and what stands around it is
 //! compared afterwards; so is what was lent for reading only.
 
-use crate::gen::{FileCase, LookCase, PictureCase};
+use crate::gen::{FileCase, LookCase, PictureCase, WriteCase};
 use crate::look::Look;
 use crate::reading::Check;
-use crate::side::{code_pattern, pattern, PictureAnswer, ReadAnswer, Side};
+use crate::side::{byte_pattern, code_pattern, pattern};
+use crate::side::{PictureAnswer, ReadAnswer, Side, WriteAnswer};
 use std::fmt::Debug;
 
 extern "C" {
@@ -46,6 +47,16 @@ extern "C" {
         src_len: usize,
         dst: *mut u16,
         dst_len: usize,
+    ) -> u32;
+    fn erythmoda_write(
+        description: *const i64,
+        table: *const i64,
+        table_len: usize,
+        title: *const u8,
+        title_len: usize,
+        out: *mut u8,
+        out_len: usize,
+        length: *mut u64,
     ) -> u32;
 }
 
@@ -212,5 +223,33 @@ impl Side for Ours {
         source.unchanged("the source")?;
         output.guarded("the output")?;
         Ok(PictureAnswer { number, output: output.now().to_vec() })
+    }
+
+    fn write(&self, case: &WriteCase) -> Result<WriteAnswer, String> {
+        let mut description = Lent::of(&case.description, -1);
+        let mut table = Lent::of(&case.table, -2);
+        // a quote around it, for which a title that is read too far is refused
+        let mut title = Lent::of(&case.title, b'"');
+        let mut out = Lent::new((0..case.out_len).map(byte_pattern), 0x5A);
+        let mut length = Lent::of(&[0xDEAD_BEEF_u64], 5);
+        // SAFETY: each pointer is to as many places as are told, or as the boundary fixes.
+        let number = unsafe {
+            erythmoda_write(
+                description.pointer(),
+                table.pointer(),
+                case.table.len(),
+                title.pointer(),
+                case.title.len(),
+                out.pointer(),
+                case.out_len,
+                length.pointer(),
+            )
+        };
+        description.unchanged("the description")?;
+        table.unchanged("the table")?;
+        title.unchanged("the title")?;
+        out.guarded("the output")?;
+        length.guarded("the length")?;
+        Ok(WriteAnswer { number, length: length.now()[0], out: out.now().to_vec() })
     }
 }

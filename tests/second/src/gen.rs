@@ -1,4 +1,4 @@
-//! Inputs made from a seed: files, looks and pictures.
+//! Inputs made from a seed: files, looks, pictures and writes.
 //!
 //! Each case is drawn from the seed, its call and its own number, so one case can
 //! be made again without those before it.
@@ -8,6 +8,7 @@ pub mod draws;
 pub mod files;
 pub mod lookups;
 pub mod words;
+pub mod writes;
 
 use crate::paper::{Bits, Description, REPORT_BYTES, REPORT_PLACES};
 use draws::Draws;
@@ -42,6 +43,16 @@ pub struct PictureCase {
     pub made: Vec<&'static str>,
 }
 
+/// What write is given, and how many bytes are lent for the text.
+#[derive(Clone, Debug)]
+pub struct WriteCase {
+    pub description: Description,
+    pub table: Vec<i64>,
+    pub title: Vec<u8>,
+    pub out_len: usize,
+    pub made: Vec<&'static str>,
+}
+
 pub fn file_case(seed: u64, index: u64) -> FileCase {
     files::case(&mut Draws::of(seed, 1, index))
 }
@@ -52,6 +63,10 @@ pub fn look_case(seed: u64, index: u64) -> LookCase {
 
 pub fn picture_case(seed: u64, index: u64) -> PictureCase {
     lookups::picture(&mut Draws::of(seed, 3, index))
+}
+
+pub fn write_case(seed: u64, index: u64) -> WriteCase {
+    writes::write(&mut Draws::of(seed, 5, index))
 }
 
 /// A report's input: a file of any sort, or one about the report's limits of bytes or of

@@ -12,6 +12,7 @@
 //! | `reading` | "Lines", "Answers by number" |
 //! | `look` | "Interpolation" |
 //! | `picture` | "a run of pixels to corrected codes" |
+//! | `writing` | document 02's "Write our own tables" |
 //! | `report` | "The report program" |
 //! | `cases` | "Checked by hand", the cases not marked P |
 //!
@@ -33,6 +34,7 @@ pub mod run;
 pub mod show;
 pub mod side;
 pub mod small;
+pub mod writing;
 
 #[cfg(feature = "ours")]
 pub mod ffi;

@@ -44,12 +44,12 @@ fn refused(number: u32) -> Look {
 
 /// A description and table that reading could have given.
 pub struct Cube<'a> {
-    kind: Kind,
-    n: i64,
-    lower: [i64; 3],
-    upper: [i64; 3],
+    pub kind: Kind,
+    pub n: i64,
+    pub lower: [i64; 3],
+    pub upper: [i64; 3],
     /// The 3·rows numbers alone.
-    samples: &'a [i64],
+    pub samples: &'a [i64],
 }
 
 impl<'a> Cube<'a> {

@@ -1,7 +1,9 @@
 //! What an accepted look met, in 3D also which order of the three fractions; what files did by the
 //! points of their numbers, by one domain line without the other and by the domains of 3D; and what
-//! looks and pictures did by their two depths and by mixed domains. A stream has to come to each of
-//! these places, since they are where a mistake would show.
+//! looks and pictures did by their two depths and by mixed domains; and what writes did. A stream
+//! has to come to each of these places, since they are where a mistake would show.
+
+pub mod writes;
 
 use crate::gen::lookups::common_divisor;
 use crate::gen::{FileCase, LookCase};
@@ -59,7 +61,7 @@ pub fn halves_met(case: &FileCase, answer: &ReadAnswer) -> [[bool; HALVES.len()]
     let absent: &[u8] = if lower { b"DOMAIN_MAX 1 1 1\n" } else { b"DOMAIN_MIN 0 0 0\n" };
     let hidden = given.then(|| read(&[absent, &case.file].concat(), case.table_len).number);
     let hides = |number| hidden == Some(number);
-    let later = number::LOWER_NOT_BELOW_UPPER..=number::TABLE_SHORT;
+    let later = number::LOWER_NOT_BELOW_UPPER..=number::TOO_LITTLE_ROOM;
     let met = [
         given && lower && !upper,
         given && upper && !lower,
@@ -67,7 +69,7 @@ pub fn halves_met(case: &FileCase, answer: &ReadAnswer) -> [[bool; HALVES.len()]
         hides(number::LOWER_NOT_BELOW_UPPER),
         hides(number::DOMAIN_TOO_WIDE),
         hides(number::DOMAINS_DIFFER),
-        hides(number::TABLE_SHORT),
+        hides(number::TOO_LITTLE_ROOM),
         answer.number == number::NO_SIZE && lower != upper,
     ];
     let at_data = taken(case, answer).last().is_some_and(is_data);
@@ -144,10 +146,10 @@ fn bounds_of(description: &Description) -> ([i64; 3], [i64; 3]) {
     (colours(description, place::LOWER), colours(description, place::UPPER))
 }
 
-/// The one of six that is so, if one alone is.
-fn alone(six: [bool; 6]) -> [bool; 6] {
-    let one = six.iter().filter(|on| **on).count() == 1;
-    six.map(|on| on && one)
+/// The one of several that is so, if one alone is.
+fn alone<const COUNT: usize>(several: [bool; COUNT]) -> [bool; COUNT] {
+    let one = several.iter().filter(|on| **on).count() == 1;
+    several.map(|on| on && one)
 }
 
 /// The bounds of a 3D file that was accepted, or that was refused with 12.

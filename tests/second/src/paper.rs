@@ -1,6 +1,6 @@
 //! Document 01's numbers, units and ranges, each once.
 
-/// "Answers by number", and document 02's 19.
+/// "Answers by number", and document 02's 19 and 27. It says 13 of a table and of bytes.
 pub mod number {
     pub const ACCEPTED: u32 = 0;
     pub const LINE_TOO_LONG: u32 = 1;
@@ -15,7 +15,7 @@ pub mod number {
     pub const LOWER_NOT_BELOW_UPPER: u32 = 10;
     pub const DOMAIN_TOO_WIDE: u32 = 11;
     pub const DOMAINS_DIFFER: u32 = 12;
-    pub const TABLE_SHORT: u32 = 13;
+    pub const TOO_LITTLE_ROOM: u32 = 13;
     pub const MORE_LINES_THAN_ROWS: u32 = 14;
     pub const NOT_THREE_NUMBERS: u32 = 15;
     pub const SAMPLE_BEYOND: u32 = 16;
@@ -27,11 +27,15 @@ pub mod number {
     pub const OUTPUT_SHORT: u32 = 22;
     pub const CODE_ABOVE_M: u32 = 23;
     pub const NOT_FROM_READING: u32 = 24;
+    pub const TITLE_NOT_PLAIN: u32 = 27;
     pub const INPUT_TOO_LONG: u32 = 30;
 }
 
 /// "A line has at most 250 bytes."
 pub const LONGEST_LINE: usize = 250;
+
+/// "27 for a title over 242 bytes" (document 02, Req 02).
+pub const LONGEST_TITLE: usize = 242;
 
 /// "Domain bounds lie from -10 to 10", in thousandths.
 pub const GREATEST_BOUND: i64 = 10_000;
@@ -47,6 +51,10 @@ pub const SAMPLE_UNITS: i64 = 10_000_000;
 
 /// Thousandths to a whole.
 pub const BOUND_UNITS: i64 = 1_000;
+
+/// How many digits after the point a ten-millionth and a thousandth have.
+pub const SAMPLE_PLACES: usize = 7;
+pub const BOUND_PLACES: usize = 3;
 
 /// "Absent: 0 0 0 and 1 1 1."
 pub const DEFAULT_LOWER: [i64; 3] = [0; 3];
@@ -107,6 +115,14 @@ impl Kind {
     /// The kind of a mark; "anything else is a description that reading could not have given".
     pub fn of_mark(mark: i64) -> Option<Kind> {
         [Kind::OneD, Kind::ThreeD].into_iter().find(|kind| kind.mark() == mark)
+    }
+
+    /// The keyword before N.
+    pub fn size_word(self) -> &'static str {
+        match self {
+            Kind::OneD => "LUT_1D_SIZE",
+            Kind::ThreeD => "LUT_3D_SIZE",
+        }
     }
 
     /// "LUT_1D_SIZE, N from 2 to 65536; LUT_3D_SIZE, N from 2 to 256."

@@ -244,7 +244,7 @@ impl SoFar {
         }
         let rows = kind.rows(n);
         if self.table_len.is_some_and(|places| places < 3 * rows) {
-            return Err(number::TABLE_SHORT);
+            return Err(number::TOO_LITTLE_ROOM);
         }
         Ok(rows)
     }

@@ -48,7 +48,7 @@ fn first_line(description: &Description) -> String {
 }
 
 /// The text of the title in the file, if there is a title.
-fn title<'a>(description: &Description, input: &'a [u8]) -> Option<&'a [u8]> {
+pub fn title<'a>(description: &Description, input: &'a [u8]) -> Option<&'a [u8]> {
     let first = description[place::TITLE_PLACE] as usize;
     let length = description[place::TITLE_LENGTH] as usize;
     (description[place::TITLE] != 0).then(|| &input[first..first + length])

@@ -1,34 +1,39 @@
 //! A whole stream of cases: each is made, put to one side or two, and counted.
 
-use crate::gen::{file_case, look_case, picture_case, FileCase, LookCase, PictureCase};
-use crate::look::{look, Look};
+use crate::gen::{file_case, look_case, picture_case, write_case};
+use crate::gen::{FileCase, LookCase, PictureCase, WriteCase};
+use crate::look::{look, Cube, Look};
+use crate::met::writes::{writes_met, GROUPS, MOST_NAMES};
 use crate::met::{bound_of_12_met, bound_of_24_met, domains_met};
 use crate::met::{depth_refusals_met, halves_met, met, order_met, pair_met, points_met};
 use crate::met::{is_mixed, mixed_met, shapes_met, widths_met};
 use crate::met::{BOUNDS, DEPTH_REFUSALS, DEPTH_REFUSALS_OF_LOOK, DIVIDED, DOMAINS, HALVES};
 use crate::met::{JUDGED, MIXED, NAMES, ORDERS, PAIRS, POINTS, SHAPES, WIDTHS};
-use crate::paper::{number, Bits, Description};
+use crate::paper::{number, place, Bits, Description};
 use crate::picture::picture;
 use crate::reading::Check;
 use crate::show::{list, quoted, shortened, where_not_zero};
-use crate::side::{pattern, PictureAnswer, ReadAnswer, Second, Side};
-use crate::small::{smaller_file, smaller_look, smaller_picture};
+use crate::side::{byte_pattern, pattern};
+use crate::side::{PictureAnswer, ReadAnswer, Second, Side, WriteAnswer};
+use crate::small::{smaller_file, smaller_look, smaller_picture, smaller_write};
+use crate::writing::{is_marked, longest_text};
 use std::collections::BTreeMap;
 use std::fmt::Write;
 
 /// How many cases of each call.
-#[derive(Clone, Copy, Debug)]
+#[derive(Clone, Copy, Default, Debug)]
 pub struct Wanted {
     pub seed: u64,
     pub tables: u64,
     pub looks: u64,
     pub pictures: u64,
+    pub writes: u64,
 }
 
 /// The numbers that each call can answer.
 pub const READ_NUMBERS: std::ops::RangeInclusive<u32> = number::ACCEPTED..=number::HALF_A_DOMAIN;
 /// Check answers those of reading but this one.
-const NEVER_BY_CHECK: u32 = number::TABLE_SHORT;
+const NEVER_BY_CHECK: u32 = number::TOO_LITTLE_ROOM;
 const LOOK_NUMBERS: [u32; 4] =
     [number::ACCEPTED, number::DEPTH_UNKNOWN, number::CODE_ABOVE_M, number::NOT_FROM_READING];
 const PICTURE_NUMBERS: [u32; 6] = [
@@ -39,14 +44,17 @@ const PICTURE_NUMBERS: [u32; 6] = [
     number::CODE_ABOVE_M,
     number::NOT_FROM_READING,
 ];
+const WRITE_NUMBERS: [u32; 4] =
+    [number::ACCEPTED, number::TOO_LITTLE_ROOM, number::NOT_FROM_READING, number::TITLE_NOT_PLAIN];
 
-/// How often each call answered each number, and what the files, the looks and the pictures met.
+/// How often each call answered each number, and what the cases of each met.
 #[derive(Default)]
 pub struct Counts {
     read: BTreeMap<u32, u64>,
     check: BTreeMap<u32, u64>,
     look: BTreeMap<u32, u64>,
     picture: BTreeMap<u32, u64>,
+    write: BTreeMap<u32, u64>,
     points: [u64; POINTS.len()],
     halves: [[u64; HALVES.len()]; JUDGED.len()],
     domains: [u64; DOMAINS.len()],
@@ -60,6 +68,7 @@ pub struct Counts {
     looks_by_domains: ByDomains,
     pictures: ByDepths,
     pictures_by_domains: ByDomains,
+    writes: [[u64; MOST_NAMES]; GROUPS.len()],
 }
 
 /// What accepted looks met, of all domains or of mixed ones.
@@ -97,6 +106,7 @@ impl Counts {
             ("check", &self.check, Vec::new()),
             ("look", &self.look, self.looks_met()),
             ("picture", &self.picture, self.pictures_met()),
+            ("write", &self.write, self.writes_met()),
         ];
         let made = calls.into_iter().filter(|(_, counts, _)| !counts.is_empty());
         made.map(|(name, counts, met)| {
@@ -131,6 +141,11 @@ impl Counts {
     fn pictures_met(&self) -> Vec<Met<'_>> {
         let by_depths = self.pictures.met("pictures", &DEPTH_REFUSALS);
         by_depths.into_iter().chain(self.pictures_by_domains.met("pictures")).collect()
+    }
+
+    fn writes_met(&self) -> Vec<Met<'_>> {
+        let groups = GROUPS.into_iter().zip(&self.writes);
+        groups.map(|((title, names), counts)| (title.to_string(), names, &counts[..])).collect()
     }
 
     fn note_file(&mut self, case: &FileCase, answer: &ReadAnswer) {
@@ -171,6 +186,13 @@ impl Counts {
         });
     }
 
+    fn note_write(&mut self, case: &WriteCase, answer: &WriteAnswer) {
+        *self.write.entry(answer.number).or_default() += 1;
+        for (counts, met) in self.writes.iter_mut().zip(writes_met(case, answer)) {
+            add_met(counts, &met);
+        }
+    }
+
     /// The numbers never seen on a call that was asked for, and what none of its cases met.
     pub fn missing(&self, wanted: &Wanted) -> Vec<String> {
         let of_check: Vec<u32> = READ_NUMBERS.filter(|n| *n != NEVER_BY_CHECK).collect();
@@ -180,6 +202,7 @@ impl Counts {
             ("check", wanted.tables, &self.check, &of_check, Vec::new()),
             ("look", wanted.looks, &self.look, &LOOK_NUMBERS, self.looks_met()),
             ("picture", wanted.pictures, &self.picture, &PICTURE_NUMBERS, self.pictures_met()),
+            ("write", wanted.writes, &self.write, &WRITE_NUMBERS, self.writes_met()),
         ];
         let mut missing = Vec::new();
         for (name, _, counts, numbers, met) in calls.iter().filter(|(_, asked, ..)| *asked > 0) {
@@ -293,6 +316,11 @@ pub fn run(wanted: &Wanted, other: Option<&dyn Side>) -> Result<Counts, String> 
         let number = one_picture(&case, other).map_err(|d| told(index, d))?;
         counts.note_picture(&case, number);
     }
+    for index in 0..wanted.writes {
+        let case = write_case(wanted.seed, index);
+        let answer = one_write(&case, other).map_err(|d| told(index, d))?;
+        counts.note_write(&case, &answer);
+    }
     Ok(counts)
 }
 
@@ -334,10 +362,10 @@ fn checked(side: &dyn Side, case: &FileCase) -> Result<Check, String> {
     let answer = (check.number, check.line, check.description);
     let agrees = if check.number == number::ACCEPTED {
         let (short, _, _) = into(check.places.saturating_sub(1))?;
-        into(check.places)? == answer && short == number::TABLE_SHORT
+        into(check.places)? == answer && short == number::TOO_LITTLE_ROOM
     } else {
         let (number, line, description) = into(case.table_len as u64)?;
-        let short = number == number::TABLE_SHORT && line <= check.line;
+        let short = number == number::TOO_LITTLE_ROOM && line <= check.line;
         check.places == 0 && (short || (number, line, description) == answer)
     };
     agrees.then_some(check.clone()).ok_or(format!("{check:?}, and reading answers otherwise"))
@@ -361,6 +389,62 @@ fn one_picture(case: &PictureCase, other: Option<&dyn Side>) -> Result<u32, Stri
         }
         _ => Ok(own.number),
     }
+}
+
+fn one_write(case: &WriteCase, other: Option<&dyn Side>) -> Result<WriteAnswer, String> {
+    let own = written(&Second, case)?;
+    match other {
+        Some(side) if written(side, case).as_ref() != Ok(&own) => {
+            let differs = |case: &WriteCase| written(side, case) != written(&Second, case);
+            Err(tell_write(&smaller_write(case, differs), side))
+        }
+        _ => Ok(own),
+    }
+}
+
+/// What a side answers for a write, put to what it then reads and writes. "Reading the output gives
+/// the same samples and description, title places fitted to the new file, and writing what was read
+/// from our own output gives the same bytes." No text is longer than the longest.
+fn written(side: &dyn Side, case: &WriteCase) -> Result<WriteAnswer, String> {
+    let answer = side.write(case)?;
+    let text = answer.out.get(..answer.length as usize);
+    let (number::ACCEPTED, Some(text), Some(Cube { samples, .. })) =
+        (answer.number, text, Cube::of(&case.description, &case.table))
+    else {
+        // refused, or accepted by a mistake that shows without all this
+        return Ok(answer);
+    };
+    let otherwise = |what: &str| Err(format!("{}, and {what}", tell_written(&answer)));
+    let file = FileCase { file: text.to_vec(), table_len: samples.len(), made: Vec::new() };
+    let read = side.read(&file)?;
+    if (read.number, &read.description, &read.table[..]) != (0, &fitted(case), samples) {
+        return otherwise(&format!("{read:?} is read from it"));
+    }
+    let first = read.description[place::TITLE_PLACE] as usize;
+    let length = read.description[place::TITLE_LENGTH] as usize;
+    let again = side.write(&WriteCase {
+        description: read.description,
+        table: read.table,
+        title: text[first..first + length].to_vec(),
+        out_len: text.len(),
+        made: Vec::new(),
+    })?;
+    if (again.number, again.length, &again.out[..]) != (0, answer.length, text) {
+        return otherwise("of what is read from it another text is written");
+    }
+    if text.len() > longest_text(samples.len() / 3) {
+        return otherwise("it is longer than the longest");
+    }
+    Ok(answer)
+}
+
+/// The description with the title's mark, place and length that reading its text has to give: the
+/// title stands after `TITLE`, a space and a quote.
+fn fitted(case: &WriteCase) -> Description {
+    let title = if is_marked(&case.description) { [1, 7, case.title.len() as i64] } else { [0; 3] };
+    let mut description = case.description;
+    description[place::TITLE..].copy_from_slice(&title);
+    description
 }
 
 // Telling a difference.
@@ -400,7 +484,8 @@ fn tell_table(table: &[i64]) -> String {
 
 fn tell_look(case: &LookCase, side: &dyn Side) -> String {
     let mut text = format!("look, made by: {}\n", case.made.join("; "));
-    text += &tell_lent(&case.description, &case.table, case.bits);
+    text += &tell_lent(&case.description, &case.table);
+    let _ = writeln!(text, "bits: {}", tell_bits(case.bits));
     let _ = writeln!(text, "pixel: {}", list(&case.pixel, " "));
     text + &two(Second.look(case), side.look(case), |answer: &Look| {
         let (codes, rows) = (list(&answer.codes, " "), list(&answer.rows, " "));
@@ -411,7 +496,8 @@ fn tell_look(case: &LookCase, side: &dyn Side) -> String {
 
 fn tell_picture(case: &PictureCase, side: &dyn Side) -> String {
     let mut text = format!("picture, made by: {}\n", case.made.join("; "));
-    text += &tell_lent(&case.description, &case.table, case.bits);
+    text += &tell_lent(&case.description, &case.table);
+    let _ = writeln!(text, "bits: {}", tell_bits(case.bits));
     let _ = writeln!(text, "source: {}", shortened(&case.source));
     let _ = writeln!(text, "output places: {}", case.output_len);
     text + &two(Second.picture(case), side.picture(case), |answer: &PictureAnswer| {
@@ -419,11 +505,29 @@ fn tell_picture(case: &PictureCase, side: &dyn Side) -> String {
     })
 }
 
-fn tell_lent(description: &[i64; 11], table: &[i64], bits: Bits) -> String {
+fn tell_write(case: &WriteCase, side: &dyn Side) -> String {
+    let mut text = format!("write, made by: {}\n", case.made.join("; "));
+    text += &tell_lent(&case.description, &case.table);
+    let _ = writeln!(text, "title: {}", quoted(&case.title));
+    let _ = writeln!(text, "output bytes: {}", case.out_len);
+    text + &two(written(&Second, case), written(side, case), tell_written)
+}
+
+fn tell_written(answer: &WriteAnswer) -> String {
+    let (text, later) = answer.out.split_at((answer.length as usize).min(answer.out.len()));
+    let kept = (text.len()..).zip(later).all(|(place, byte)| *byte == byte_pattern(place));
+    let later = if kept { "later bytes kept" } else { "later bytes changed" };
+    format!("number {} length {} text {} {later}", answer.number, answer.length, quoted(text))
+}
+
+fn tell_lent(description: &[i64; 11], table: &[i64]) -> String {
     let description = list(description, " ");
     let table = format!("{} numbers, {}", table.len(), where_not_zero(table));
-    let bits = format!("{} to {}", bits.raw, bits.corrected);
-    format!("description: {description}\ntable: {table}\nbits: {bits}\n")
+    format!("description: {description}\ntable: {table}\n")
+}
+
+fn tell_bits(bits: Bits) -> String {
+    format!("{} to {}", bits.raw, bits.corrected)
 }
 
 /// The two answers one under the other.
@@ -438,18 +542,20 @@ fn two<T>(own: Result<T, String>, other: Result<T, String>, show: impl Fn(&T) ->
 #[cfg(test)]
 mod tests {
     use super::*;
-    use crate::paper::{place, BOUND_UNITS};
+    use crate::paper::{BOUND_UNITS, LONGEST_TITLE};
+    use crate::writing::is_plain;
 
     #[test]
     fn every_number_is_seen() {
-        let wanted = Wanted { seed: 1, tables: 10_000, looks: 20_000, pictures: 4_000 };
+        let (tables, looks, pictures, writes) = (10_000, 20_000, 4_000, 10_000);
+        let wanted = Wanted { seed: 1, tables, looks, pictures, writes };
         let counts = run(&wanted, None).unwrap_or_default();
         assert_eq!(counts.missing(&wanted), Vec::<String>::new(), "{}", counts.shown());
     }
 
     #[test]
     fn what_is_never_met_is_missing() {
-        let wanted = Wanted { seed: 1, tables: 1, looks: 1, pictures: 1 };
+        let wanted = Wanted { seed: 1, tables: 1, looks: 1, pictures: 1, writes: 1 };
         let missing = Counts::default().missing(&wanted);
         let said = |title: &str, names: &[&str]| {
             for name in names {
@@ -476,12 +582,14 @@ mod tests {
         }
         said("looks refused", &DEPTH_REFUSALS[..DEPTH_REFUSALS_OF_LOOK]);
         said("pictures refused", &DEPTH_REFUSALS);
+        for (title, names) in GROUPS {
+            said(title, names);
+        }
     }
 
     #[test]
     fn what_is_not_asked_for_is_not_missing() {
-        let wanted = Wanted { seed: 1, tables: 0, looks: 0, pictures: 0 };
-        assert_eq!(Counts::default().missing(&wanted), Vec::<String>::new());
+        assert_eq!(Counts::default().missing(&Wanted::default()), Vec::<String>::new());
         assert_eq!(Counts::default().shown(), "");
     }
 
@@ -491,102 +599,126 @@ mod tests {
             assert_eq!(file_case(9, index).file, file_case(9, index).file);
             assert_eq!(look_case(9, index).table, look_case(9, index).table);
             assert_eq!(picture_case(9, index).source, picture_case(9, index).source);
+            assert_eq!(write_case(9, index).title, write_case(9, index).title);
         }
         assert_ne!(file_case(9, 0).file, file_case(10, 0).file);
     }
 
-    /// A side with one mistake: it takes a fourth field.
-    struct FourFields;
+    type Call<C, A> = Box<dyn Fn(&C) -> Result<A, String>>;
 
-    impl Side for FourFields {
-        fn read(&self, case: &FileCase) -> Result<ReadAnswer, String> {
-            let mut answer = Second.read(case)?;
-            if answer.number == number::NOT_THREE_NUMBERS {
-                answer.number = number::ACCEPTED;
+    /// A side that answers as this program does, but for the calls that a test gives it.
+    struct Mistaken {
+        read: Call<FileCase, ReadAnswer>,
+        check: Call<FileCase, Check>,
+        look: Call<LookCase, Look>,
+        picture: Call<PictureCase, PictureAnswer>,
+        write: Call<WriteCase, WriteAnswer>,
+    }
+
+    impl Default for Mistaken {
+        fn default() -> Mistaken {
+            Mistaken {
+                read: Box::new(|case| Second.read(case)),
+                check: Box::new(|case| Second.check(case)),
+                look: Box::new(|case| Second.look(case)),
+                picture: Box::new(|case| Second.picture(case)),
+                write: Box::new(|case| Second.write(case)),
             }
-            Ok(answer)
+        }
+    }
+
+    impl Side for Mistaken {
+        fn read(&self, case: &FileCase) -> Result<ReadAnswer, String> {
+            (self.read)(case)
         }
 
         fn check(&self, case: &FileCase) -> Result<Check, String> {
-            Second.check(case)
+            (self.check)(case)
         }
 
         fn look(&self, case: &LookCase) -> Result<Look, String> {
-            Second.look(case)
+            (self.look)(case)
         }
 
         fn picture(&self, case: &PictureCase) -> Result<PictureAnswer, String> {
-            let mut answer = Second.picture(case)?;
-            if let (0, Some(last)) = (answer.number, answer.output.last_mut()) {
-                *last = 7;
-            }
-            Ok(answer)
+            (self.picture)(case)
         }
+
+        fn write(&self, case: &WriteCase) -> Result<WriteAnswer, String> {
+            (self.write)(case)
+        }
+    }
+
+    /// What a stream tells of a side's mistake; nothing if it does not find it.
+    fn found(wanted: Wanted, side: &Mistaken) -> String {
+        run(&Wanted { seed: 1, ..wanted }, Some(side)).err().unwrap_or_default()
+    }
+
+    /// The length of the line that tells something of the case.
+    fn told_length(told: &str, what: &str) -> usize {
+        told.lines().find(|line| line.starts_with(what)).unwrap_or("").len()
     }
 
     #[test]
     fn a_difference_is_found_and_made_small() {
-        let wanted = Wanted { seed: 1, tables: 1_000, looks: 10, pictures: 0 };
-        let told = run(&wanted, Some(&FourFields)).err().unwrap_or_default();
+        // a fourth field is taken
+        let four_fields = Mistaken {
+            read: Box::new(|case| {
+                let mut answer = Second.read(case)?;
+                if answer.number == number::NOT_THREE_NUMBERS {
+                    answer.number = number::ACCEPTED;
+                }
+                Ok(answer)
+            }),
+            ..Mistaken::default()
+        };
+        let told = found(Wanted { tables: 1_000, ..Wanted::default() }, &four_fields);
         assert!(told.contains("number 15") && told.contains("number 0"), "{told}");
-        let file = told.lines().find(|line| line.starts_with("file:")).unwrap_or("");
-        assert!(file.len() < 60, "{file}");
-        let wanted = Wanted { seed: 1, tables: 0, looks: 10, pictures: 100 };
-        assert!(run(&wanted, Some(&FourFields)).is_err());
-    }
-
-    /// A side with another mistake: check tells one place too few.
-    struct OnePlaceFewer;
-
-    impl Side for OnePlaceFewer {
-        fn read(&self, case: &FileCase) -> Result<ReadAnswer, String> {
-            Second.read(case)
-        }
-
-        fn check(&self, case: &FileCase) -> Result<Check, String> {
-            let mut check = Second.check(case)?;
-            check.places = check.places.saturating_sub(1);
-            Ok(check)
-        }
-
-        fn look(&self, case: &LookCase) -> Result<Look, String> {
-            Second.look(case)
-        }
-
-        fn picture(&self, case: &PictureCase) -> Result<PictureAnswer, String> {
-            Second.picture(case)
-        }
+        assert!(told_length(&told, "file:") < 60, "{told}");
+        let last_code = Mistaken {
+            picture: Box::new(|case| {
+                let mut answer = Second.picture(case)?;
+                if let (0, Some(last)) = (answer.number, answer.output.last_mut()) {
+                    *last = 7;
+                }
+                Ok(answer)
+            }),
+            ..Mistaken::default()
+        };
+        let told = found(Wanted { pictures: 100, ..Wanted::default() }, &last_code);
+        assert!(told.contains("picture, made by"), "{told}");
     }
 
     #[test]
     fn a_difference_of_check_is_found_and_made_small() {
-        let wanted = Wanted { seed: 1, tables: 100, looks: 0, pictures: 0 };
-        let told = run(&wanted, Some(&OnePlaceFewer)).err().unwrap_or_default();
+        let one_place_fewer = Mistaken {
+            check: Box::new(|case| {
+                let mut check = Second.check(case)?;
+                check.places = check.places.saturating_sub(1);
+                Ok(check)
+            }),
+            ..Mistaken::default()
+        };
+        let told = found(Wanted { tables: 100, ..Wanted::default() }, &one_place_fewer);
         assert!(told.contains("check, made by") && told.contains("answers otherwise"), "{told}");
-        let file = told.lines().find(|line| line.starts_with("file:")).unwrap_or("");
-        assert!(file.len() < 100, "{file}");
+        assert!(told_length(&told, "file:") < 100, "{told}");
     }
 
     /// A side that goes by other depths than it is given.
-    struct OtherDepths(fn(Bits) -> Bits);
-
-    impl Side for OtherDepths {
-        fn read(&self, case: &FileCase) -> Result<ReadAnswer, String> {
-            Second.read(case)
-        }
-
-        fn check(&self, case: &FileCase) -> Result<Check, String> {
-            Second.check(case)
-        }
-
-        fn look(&self, case: &LookCase) -> Result<Look, String> {
-            Second.look(&LookCase { bits: self.0(case.bits), ..case.clone() })
-        }
-
-        fn picture(&self, case: &PictureCase) -> Result<PictureAnswer, String> {
-            Second.picture(&PictureCase { bits: self.0(case.bits), ..case.clone() })
+    fn other_depths(mistake: fn(Bits) -> Bits) -> Mistaken {
+        Mistaken {
+            look: Box::new(move |case| {
+                Second.look(&LookCase { bits: mistake(case.bits), ..case.clone() })
+            }),
+            picture: Box::new(move |case| {
+                Second.picture(&PictureCase { bits: mistake(case.bits), ..case.clone() })
+            }),
+            ..Mistaken::default()
         }
     }
+
+    /// A stream of looks alone, and one of pictures.
+    const LOOKS_OR_PICTURES: [(u64, u64); 2] = [(1_000, 0), (0, 1_000)];
 
     #[test]
     fn other_depths_are_found() {
@@ -597,34 +729,34 @@ mod tests {
             // the corrected depth is looked at only where the raw one and the codes pass
             |bits| if bits.greatest().is_some() { bits } else { Bits::same(bits.raw) },
         ];
-        for mistake in mistakes {
-            for (looks, pictures) in [(1_000, 0), (0, 1_000)] {
-                let wanted = Wanted { seed: 1, tables: 0, looks, pictures };
-                let told = run(&wanted, Some(&OtherDepths(mistake))).err().unwrap_or_default();
+        for side in mistakes.map(other_depths) {
+            for (looks, pictures) in LOOKS_OR_PICTURES {
+                let told = found(Wanted { looks, pictures, ..Wanted::default() }, &side);
                 assert!(told.contains(" to "), "{told}");
             }
         }
     }
 
     /// A side that goes by another description than it is given or has read.
-    struct OtherDomains(fn(Description) -> Description);
-
-    impl Side for OtherDomains {
-        fn read(&self, case: &FileCase) -> Result<ReadAnswer, String> {
-            let answer = Second.read(case)?;
-            Ok(ReadAnswer { description: self.0(answer.description), ..answer })
-        }
-
-        fn check(&self, case: &FileCase) -> Result<Check, String> {
-            Second.check(case)
-        }
-
-        fn look(&self, case: &LookCase) -> Result<Look, String> {
-            Second.look(&LookCase { description: self.0(case.description), ..case.clone() })
-        }
-
-        fn picture(&self, case: &PictureCase) -> Result<PictureAnswer, String> {
-            Second.picture(&PictureCase { description: self.0(case.description), ..case.clone() })
+    fn other_domains(mistake: fn(Description) -> Description) -> Mistaken {
+        Mistaken {
+            read: Box::new(move |case| {
+                let answer = Second.read(case)?;
+                Ok(ReadAnswer { description: mistake(answer.description), ..answer })
+            }),
+            look: Box::new(move |case| {
+                let description = mistake(case.description);
+                Second.look(&LookCase { description, ..case.clone() })
+            }),
+            picture: Box::new(move |case| {
+                let description = mistake(case.description);
+                Second.picture(&PictureCase { description, ..case.clone() })
+            }),
+            write: Box::new(move |case| {
+                let description = mistake(case.description);
+                Second.write(&WriteCase { description, ..case.clone() })
+            }),
+            ..Mistaken::default()
         }
     }
 
@@ -647,15 +779,14 @@ mod tests {
             // a bound of mixed domains is cut to a whole number
             |d| if_mixed(d, [0, 1, 2, 3, 4, 5, 6, 7, 8, 9, 10].map(|at| cut(&d, at))),
         ];
-        for mistake in mistakes {
-            for (looks, pictures) in [(1_000, 0), (0, 1_000)] {
-                let wanted = Wanted { seed: 1, tables: 0, looks, pictures };
-                assert!(run(&wanted, Some(&OtherDomains(mistake))).is_err());
+        for side in mistakes.map(other_domains) {
+            for (looks, pictures) in LOOKS_OR_PICTURES {
+                assert_ne!(found(Wanted { looks, pictures, ..Wanted::default() }, &side), "");
             }
+            assert_ne!(found(Wanted { writes: 1_000, ..Wanted::default() }, &side), "");
         }
-        for mistake in &mistakes[..2] {
-            let wanted = Wanted { seed: 1, tables: 1_000, looks: 0, pictures: 0 };
-            assert!(run(&wanted, Some(&OtherDomains(*mistake))).is_err());
+        for side in [mistakes[0], mistakes[1]].map(other_domains) {
+            assert_ne!(found(Wanted { tables: 1_000, ..Wanted::default() }, &side), "");
         }
     }
 
@@ -664,6 +795,64 @@ mod tests {
             description[at] / BOUND_UNITS * BOUND_UNITS
         } else {
             description[at]
+        }
+    }
+
+    type ChangedWrite = fn(&mut WriteCase);
+    type ChangedText = fn(&WriteCase, &mut WriteAnswer);
+
+    #[test]
+    fn other_texts_are_found() {
+        let as_another: [ChangedWrite; 6] = [
+            // 1 alone is a mark
+            |case| case.description[place::TITLE] = (case.description[place::TITLE] == 1).into(),
+            // a mark has 32 bits
+            |case| case.description[place::TITLE] = (case.description[place::TITLE] as i32).into(),
+            // a title goes as far as the description says
+            |case| case.title.truncate(case.description[place::TITLE_LENGTH].max(0) as usize),
+            // a title is cut rather than refused
+            |case| case.title.truncate(LONGEST_TITLE),
+            // a title is judged without the mark
+            |case| {
+                case.description[0] *=
+                    i64::from(is_marked(&case.description) || is_plain(&case.title))
+            },
+            // there has to be room for one byte more
+            |case| case.out_len = case.out_len.saturating_sub(1),
+        ];
+        let with_another: [ChangedText; 3] = [
+            |_, answer| answer.length += u64::from(answer.number == number::ACCEPTED),
+            |_, answer| answer.out[answer.length as usize..].fill(b' '),
+            // the room is judged first
+            |case, answer| {
+                if answer.number != number::ACCEPTED && case.out_len == 0 {
+                    answer.number = number::TOO_LITTLE_ROOM;
+                }
+            },
+        ];
+        let sides = as_another.map(|change| Mistaken {
+            write: Box::new(move |case| {
+                let mut case = case.clone();
+                let places = case.out_len;
+                change(&mut case);
+                let mut answer = Second.write(&case)?;
+                answer.out.extend((answer.out.len()..places).map(byte_pattern));
+                Ok(answer)
+            }),
+            ..Mistaken::default()
+        });
+        let others = with_another.map(|change| Mistaken {
+            write: Box::new(move |case| {
+                let mut answer = Second.write(case)?;
+                change(case, &mut answer);
+                Ok(answer)
+            }),
+            ..Mistaken::default()
+        });
+        for (at, side) in sides.iter().chain(&others).enumerate() {
+            let told = found(Wanted { writes: 1_000, ..Wanted::default() }, side);
+            assert!(told.contains("write, made by"), "mistake {at}");
+            assert!(told_length(&told, "table:") < 40, "{told}");
         }
     }
 }

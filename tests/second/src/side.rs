@@ -1,11 +1,12 @@
-//! The four calls as a comparison sees them: each side is given the same lent memory,
+//! The five calls as a comparison sees them: each side is given the same lent memory,
 //! filled with the same pattern, and answers with all of it.
 
-use crate::gen::{FileCase, LookCase, PictureCase};
+use crate::gen::{FileCase, LookCase, PictureCase, WriteCase};
 use crate::look::{look, Look};
 use crate::paper::Description;
 use crate::picture::picture;
 use crate::reading::{check, read_into, Check};
+use crate::writing::write_into;
 
 /// All that reading leaves behind.
 #[derive(Clone, PartialEq, Eq, Debug)]
@@ -23,13 +24,22 @@ pub struct PictureAnswer {
     pub output: Vec<u16>,
 }
 
-/// A program that answers the four calls. An error tells of memory changed that was not
+/// All that writing leaves behind.
+#[derive(Clone, PartialEq, Eq, Debug)]
+pub struct WriteAnswer {
+    pub number: u32,
+    pub length: u64,
+    pub out: Vec<u8>,
+}
+
+/// A program that answers the five calls. An error tells of memory changed that was not
 /// lent, or lent for reading only.
 pub trait Side {
     fn read(&self, case: &FileCase) -> Result<ReadAnswer, String>;
     fn check(&self, case: &FileCase) -> Result<Check, String>;
     fn look(&self, case: &LookCase) -> Result<Look, String>;
     fn picture(&self, case: &PictureCase) -> Result<PictureAnswer, String>;
+    fn write(&self, case: &WriteCase) -> Result<WriteAnswer, String>;
 }
 
 /// What a lent table holds beforehand: no number that reading writes, each place its own.
@@ -40,6 +50,11 @@ pub fn pattern(place: usize) -> i64 {
 /// What a lent output holds beforehand.
 pub fn code_pattern(place: usize) -> u16 {
     0xA5C3u16.wrapping_add((place as u16).wrapping_mul(77))
+}
+
+/// What lent bytes hold beforehand: none that writing writes.
+pub fn byte_pattern(place: usize) -> u8 {
+    0x80 | (place as u8).wrapping_mul(37)
 }
 
 /// This program.
@@ -65,5 +80,11 @@ impl Side for Second {
         let mut output: Vec<u16> = (0..case.output_len).map(code_pattern).collect();
         let number = picture(&case.description, &case.table, case.bits, &case.source, &mut output);
         Ok(PictureAnswer { number, output })
+    }
+
+    fn write(&self, case: &WriteCase) -> Result<WriteAnswer, String> {
+        let mut out: Vec<u8> = (0..case.out_len).map(byte_pattern).collect();
+        let writing = write_into(&case.description, &case.table, &case.title, &mut out);
+        Ok(WriteAnswer { number: writing.number, length: writing.text.len() as u64, out })
     }
 }

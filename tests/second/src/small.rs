@@ -1,9 +1,10 @@
 //! Makes a case on which two programs differ smaller, while they still differ.
 
-use crate::gen::{FileCase, LookCase, PictureCase};
+use crate::gen::{FileCase, LookCase, PictureCase, WriteCase};
 use crate::met::has_bounds;
-use crate::paper::Bits;
+use crate::paper::{place, Bits};
 use crate::side::{Second, Side};
+use crate::writing::write;
 
 /// Bytes without the lines, and then without the bytes, that the difference does not need.
 pub fn fewer_bytes(file: &[u8], tries: usize, differs: impl Fn(&[u8]) -> bool) -> Vec<u8> {
@@ -54,6 +55,32 @@ pub fn smaller_picture(case: &PictureCase, side: &dyn Side) -> PictureCase {
     let case = with_pixels(&fewer(pixels, 1_000, |pixels| differs(&with_pixels(pixels))));
     let with_table = |table: Vec<i64>| PictureCase { table, ..case.clone() };
     with_table(with_zeros(&case.table, |table| differs(&with_table(table.to_vec()))))
+}
+
+/// A write of a 1D table of two rows, if the difference allows, with the title's bytes and the
+/// samples that it needs. The output keeps as many bytes more or fewer than the text as it had.
+pub fn smaller_write(case: &WriteCase, differs: impl Fn(&WriteCase) -> bool) -> WriteCase {
+    let mut description = case.description;
+    description[..=place::N].copy_from_slice(&[1, 2]);
+    let table = case.table.iter().copied().take(6).collect();
+    let two_rows = with_room(case, WriteCase { description, table, ..case.clone() });
+    let case = if differs(&two_rows) { &two_rows } else { case };
+    let with_title =
+        |title: &[u8]| with_room(case, WriteCase { title: title.to_vec(), ..case.clone() });
+    let title = fewer(case.title.clone(), 1_000, |title| differs(&with_title(title)));
+    let case = &with_title(&title);
+    let with_table =
+        |table: &[i64]| with_room(case, WriteCase { table: table.to_vec(), ..case.clone() });
+    with_table(&with_zeros(&case.table, |table| differs(&with_table(table))))
+}
+
+/// A changed case with as much room more or less than its text as there was.
+fn with_room(before: &WriteCase, after: WriteCase) -> WriteCase {
+    let length = |case: &WriteCase| {
+        write(&case.description, &case.table, &case.title, usize::MAX).text.len()
+    };
+    let out_len = (before.out_len + length(&after)).saturating_sub(length(before));
+    WriteCase { out_len, ..after }
 }
 
 /// One depth for both, if what is left still differs.

@@ -1,7 +1,8 @@
 -- The line is its name and two counts.
 use borrow.Author.Needs.{needs}
 use Rattle.rules.specs.Reading.Lines.{bytes}
-use Rattle.rules.specs.Reporting.{lineOf, refusedLine}
+use Rattle.rules.specs.Reporting.{refusedLine}
+use Rattle.rules.specs.Fields.{parted}
 use Rattle.reporting.proofs.put_refused.Statement.{statement}
 use Rattle.reporting.proofs.put_refused.Tie as tie
 
@@ -15,14 +16,14 @@ cast-put-counts : tie.Need-cast-put-counts
 cast-put-counts c = search needs
 
 put-counts-requires : tie.Need-put-counts-requires
-unfolding refusedLine lineOf bytes
+unfolding refusedLine parted bytes
 put-counts-requires c κs = rw (c .number .ensures) (search)
 
 same-length : tie.Need-same-length
 same-length c = search needs
 
 returns : tie.Need-returns
-unfolding refusedLine lineOf bytes
+unfolding refusedLine parted bytes
 returns c = let put = c .before .before in rw (put .before .number .ensures) at (put .put-counts .ensures)
 
 pub put-refused-spec : {M : Type 1} → statement M

@@ -40,25 +40,28 @@ returns c =
     let put = c .before .before in
     rw (no-title (put .before .before .before)) (put .put .ensures)
 
-slice-aggregate-put-text : tie.Need-slice-aggregate-put-text
-slice-aggregate-put-text c = search needs
+slice-aggregate-put-between : tie.Need-slice-aggregate-put-between
+slice-aggregate-put-between c = search needs
 
-add-put-text : tie.Need-add-put-text
-add-put-text c = omega (arith, inside (c .before .before))
+add-put-between : tie.Need-add-put-between
+add-put-between c = omega (arith, inside (c .before .before))
 
-sub-put-text : tie.Need-sub-put-text
-sub-put-text c = search needs
+sub-put-between : tie.Need-sub-put-between
+sub-put-between c = search needs
 
-part-put-text-start : tie.Need-part-put-text-start
-part-put-text-start c = search needs
+part-put-between-start : tie.Need-part-put-between-start
+part-put-between-start c = search needs
 
-part-put-text-end : tie.Need-part-put-text-end
-part-put-text-end c = inside (c .before .before)
+part-put-between-end : tie.Need-part-put-between-end
+part-put-between-end c = inside (c .before .before)
 
-put-text-requires : tie.Need-put-text-requires
+slice-aggregate-put-between-2 : tie.Need-slice-aggregate-put-between-2
+slice-aggregate-put-between-2 c = search needs
+
+put-between-requires : tie.Need-put-between-requires
 unfolding bytes
-put-text-requires c κs =
-    let yes = c .before .before .before in
+put-between-requires c κs =
+    let yes = c .before .before .before .before in
     rw (with-title yes) at (yes .before .before .before .before .pre .1)
 
 same-length-2 : tie.Need-same-length-2
@@ -68,7 +71,7 @@ returns-2 : tie.Need-returns-2
 unfolding bytes
 returns-2 c =
     let put = c .before .before in
-    rw (with-title (put .before .before .before .before)) (put .put-text .ensures)
+    rw (with-title (put .before .before .before .before .before)) (put .put-between .ensures)
 
 pub put-title-spec : {M : Type 1} → statement M
 put-title-spec =
@@ -78,11 +81,12 @@ put-title-spec =
     put-requires
     same-length
     returns
-    slice-aggregate-put-text
-    add-put-text
-    sub-put-text
-    part-put-text-start
-    part-put-text-end
-    put-text-requires
+    slice-aggregate-put-between
+    add-put-between
+    sub-put-between
+    part-put-between-start
+    part-put-between-end
+    slice-aggregate-put-between-2
+    put-between-requires
     same-length-2
     returns-2)

@@ -59,7 +59,7 @@ only-one P (y ∷ z ∷ more) default x d a e = absurd e
 pub size-in-range : (p : ℕ) (l : List ℕ) (i : Item) (s : Size) → sizeIn i ≡ some s → Line p l i → inRange (s .kind) (s .n) ≡ true
 size-in-range p l i s e h = subst (λ (j : Item). Line p l j) (size-item i s e) h .gives .range
 
-abbrev WithinBounds : Bounds → Type 0
+abbrev pub WithinBounds : Bounds → Type 0
 WithinBounds b = (natAbs (b .red .0) ≤ boundLimit) × ((natAbs (b .green .0) ≤ boundLimit) × (natAbs (b .blue .0) ≤ boundLimit))
 
 abbrev WithinSamples : Row → Type 0

@@ -27,7 +27,7 @@ or-either : (a b : Bool) (C : Type 0) → a || b ≡ true → (a ≡ true → C)
 or-either true b C h f g = f refl
 or-either false b C h f g = g h
 
-digit-range : (b : ℕ) → digit b ≡ true → (48 ≤ b) × (b ≤ 57)
+pub digit-range : (b : ℕ) → digit b ≡ true → (48 ≤ b) × (b ≤ 57)
 digit-range b h = let e = and-both (leb 48 b) (leb b 57) h in (leb-true 48 b (e .0), leb-true b 57 (e .1))
 
 pub digit-no-sign : (b : ℕ) → digit b ≡ true → signByte b ≡ false
@@ -263,7 +263,7 @@ of-spells w n h =
 
 -- ---- the value
 
-signed-abs : (neg : Bool) (k : ℕ) → natAbs (signed neg k) ≡ k
+pub signed-abs : (neg : Bool) (k : ℕ) → natAbs (signed neg k) ≡ k
 signed-abs false k = refl
 signed-abs true k = H.neg-abs (pos k)
 
@@ -276,7 +276,7 @@ signed-times true q k =
     (omega (arith, H.times q z .ups ∙ ap (λ x. q * x) (H.neg (pos k) .ups), H.times q z .dns ∙ ap (λ x. q * x) (H.neg (pos k) .dns), H.neg (pos (k * q)), mul-comm q k))
 
 -- a positive multiple of a number has its sign
-same-sign : (neg : Bool) (p q : ℕ) (v : ℤ) → 1 ≤ q → pos q *ℤ v ≡ signed neg p → signed neg (natAbs v) ≡ v
+pub same-sign : (neg : Bool) (p q : ℕ) (v : ℤ) → 1 ≤ q → pos q *ℤ v ≡ signed neg p → signed neg (natAbs v) ≡ v
 same-sign false p q v h e =
     H.eq-by (pos (natAbs v)) v (omega (arith, H.split v, H.times q v .dns, ap dn e, mul-le-mul-right (dn v) h, one-mul (dn v)))
 same-sign true p q v h e =

@@ -151,7 +151,8 @@ mantissa-starts m (b ∷ whole) fraction p (plain e f d) = rw e (number-digit b 
 mantissa-starts m [] fraction p (pointed e d) = rw e
 mantissa-starts m (b ∷ whole) fraction p (pointed e d) = rw e (number-digit b (digits-parts (b ∷ (whole ++ fraction)) d .0))
 
-spells-starts : (w : List ℕ) (n : Numeral) → Spells w n → starts numberByte w ≡ true
+-- a word that spells a number starts with a byte of one
+pub spells-starts : (w : List ℕ) (n : Numeral) → Spells w n → starts numberByte w ≡ true
 unfolding starts
 spells-starts w n h = rw (h .word) (signs (h .sign-so))
   where

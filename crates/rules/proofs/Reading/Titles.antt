@@ -66,24 +66,35 @@ lines-cut (b ∷ rest) l ls h = split (eqb b 10) refl (linesOf rest) refl h (lin
         onto (last x y) = last (sym q ∙ x) (ap (λ (r : List ℕ). b ∷ r) y ∙ ap (λ (r : List ℕ). r ++ []) p)
         onto (more s′ x y) = more s′ (ap (λ (r : List ℕ). b ∷ r) x ∙ ap (λ (r : List ℕ). r ++ (10 ∷ s′)) p) (y ∙ q)
 
+-- where a title stands, and that its line keeps the rules by itself
+pub record OnItsLine (file : List ℕ) (t : Title) : Type 0 where
+  pub titled : Titled file t
+  pub line-kept : Line (length (titled .before)) (titled .line) (OfTitle t)
+
 -- a title's line, with what stands before and after it
-titled-line : (pre l rest : List ℕ) (t : Title) → Begins pre → Ends rest → TitleLine (length pre) l t → Titled (pre ++ (l ++ rest)) t
-titled-line pre l rest t b e h = record {
-  before = pre;
-  line = l;
-  rest = rest;
-  file-so = refl;
-  begins = b;
-  ends = e;
-  line-so = h;
-  bytes-so = ap (take (t .length)) (ap (drop (t .place)) parts ∙ drop-at ahead _ (t .place) place) ∙ take-at (h .text) _ (t .length) (sym (ap (λ (x : Title). x .length) (h .title-so)));
+titled-line : (pre l rest : List ℕ) (t : Title) → Begins pre → Ends rest → Line (length pre) l (OfTitle t) → OnItsLine (pre ++ (l ++ rest)) t
+titled-line pre l rest t b e kept = record {
+  titled = record {
+    before = pre;
+    line = l;
+    rest = rest;
+    file-so = refl;
+    begins = b;
+    ends = e;
+    line-so = h;
+    bytes-so = ap (take (t .length)) (ap (drop (t .place)) parts ∙ drop-at ahead _ (t .place) place) ∙ take-at (h .text) _ (t .length) (sym (ap (λ (x : Title). x .length) (h .title-so)));
+  };
+  line-kept = kept;
 }
   where
+    h : TitleLine (length pre) l t
+    h = kept .gives
+
     ahead : List ℕ
     ahead = pre ++ (h .lead ++ (named ATitle ++ (h .gap ++ (34 ∷ []))))
 
     parts : pre ++ (l ++ rest) ≡ ahead ++ (h .text ++ (34 ∷ (h .trail ++ rest)))
-    parts = rw (h .line) (simp append-assoc)
+    parts = ap (λ (x : List ℕ). pre ++ (x ++ rest)) (h .line) ∙ simp append-assoc
 
     place : length ahead ≡ t .place
     place = simp length-append (omega (arith, ap (λ (x : Title). x .place) (h .title-so)))
@@ -96,24 +107,24 @@ no-title p (l ∷ ls) is t ts e h g = no-lines l ls e
 
 -- the first title among the lines of s, which stand after pre in the file
 titled-lines : (pre s : List ℕ) (ls : List (List ℕ)) (is : List Item) (t : Title) (ts : List Title) → Begins pre → linesOf s ≡ ls → Lines (length pre) ls is → gather titleIn is ≡ t ∷ ts
-    → Titled (pre ++ s) t
+    → OnItsLine (pre ++ s) t
 unfolding gather
 titled-lines pre s [] is t ts b e h g = absurd (lines-some s e)
 titled-lines pre s (l ∷ ls) [] t ts b e h g = absurd h
 titled-lines pre s (l ∷ ls) (i ∷ is) t ts b e h g = split (titleIn i) refl g (lines-cut s l ls e) (λ pre′ s′. titled-lines pre′ s′ ls is t ts)
   where
     split : (o : Option Title) → titleIn i ≡ o → put o (gather titleIn is) ≡ t ∷ ts → Cut s l ls
-        → ((pre′ s′ : List ℕ) → Begins pre′ → linesOf s′ ≡ ls → Lines (length pre′) ls is → gather titleIn is ≡ t ∷ ts → Titled (pre′ ++ s′) t)
-        → Titled (pre ++ s) t
+        → ((pre′ s′ : List ℕ) → Begins pre′ → linesOf s′ ≡ ls → Lines (length pre′) ls is → gather titleIn is ≡ t ∷ ts → OnItsLine (pre′ ++ s′) t)
+        → OnItsLine (pre ++ s) t
     split (some u) a q c again = here c
       where
         r : u ≡ t
         r = cc
 
-        k : TitleLine (length pre) l t
-        k = subst (λ (j : Item). Line (length pre) l j) (title-item i u a ∙ ap OfTitle r) (h .0) .gives
+        k : Line (length pre) l (OfTitle t)
+        k = subst (λ (j : Item). Line (length pre) l j) (title-item i u a ∙ ap OfTitle r) (h .0)
 
-        here : Cut s l ls → Titled (pre ++ s) t
+        here : Cut s l ls → OnItsLine (pre ++ s) t
         here (last x y) = rw y (titled-line pre l [] t b (inl refl) k)
         here (more s′ x y) = rw x (titled-line pre l (10 ∷ s′) t b (inr (s′, refl)) k)
     split none a q (last x y) again = absurd (no-title (length pre + length l + 1) ls is t ts x (h .1) q)
@@ -121,7 +132,7 @@ titled-lines pre s (l ∷ ls) (i ∷ is) t ts b e h g = split (titleIn i) refl g
         let pre′ : List ℕ = pre ++ (l ++ (10 ∷ [])) in
         let n : length pre + length l + 1 ≡ length pre′ = sym (simp length-append (omega arith)) in
         let f : pre′ ++ s′ ≡ pre ++ s = rw x (simp append-assoc) in
-        subst (λ (v : List ℕ). Titled v t) f (again pre′ s′ (inr (pre ++ l, sym (append-assoc pre l (10 ∷ [])))) y (subst (λ (p : ℕ). Lines p ls is) n (h .1)) q)
+        subst (λ (v : List ℕ). OnItsLine v t) f (again pre′ s′ (inr (pre ++ l, sym (append-assoc pre l (10 ∷ [])))) y (subst (λ (p : ℕ). Lines p ls is) n (h .1)) q)
 
 -- a title ends before its file does: the closing quote comes after it
 pub titled-inside : (file : List ℕ) (t : Title) → Titled file t → t .place + t .length < length file
@@ -133,17 +144,31 @@ titled-inside file t h =
     omega arith
 
 -- a file that keeps the specification and has a title has it where the description says
-pub title-or-none : (file : List ℕ) (places : ℕ) (d : Description) (samples : List ℤ) → Keeps file places d samples → (d .title ≡ noTitle) ⊎ Titled file (d .title)
-title-or-none file places d samples k = split (gather titleIn (k .items)) refl (k .title)
-  where
-    split : (ts : List Title) → gather titleIn (k .items) ≡ ts → AtMostOne ts noTitle (d .title) → (d .title ≡ noTitle) ⊎ Titled file (d .title)
-    split [] e g = inl g
-    split (t ∷ []) e g = inr (subst (λ (u : Title). Titled file u) (sym g) (titled-lines [] file (linesOf file) (k .items) t [] (inl refl) refl (k .lines) e))
-    split (t ∷ u ∷ us) e g = absurd g
+module _ (file : List ℕ) (places : ℕ) (d : Description) (samples : List ℤ) (k : Keeps file places d samples) where
+  on-line-or-none : (d .title ≡ noTitle) ⊎ OnItsLine file (d .title)
+  on-line-or-none = split (gather titleIn (k .items)) refl (k .title)
+    where
+      split : (ts : List Title) → gather titleIn (k .items) ≡ ts → AtMostOne ts noTitle (d .title) → (d .title ≡ noTitle) ⊎ OnItsLine file (d .title)
+      split [] e g = inl g
+      split (t ∷ []) e g = inr (subst (λ (u : Title). OnItsLine file u) (sym g) (titled-lines [] file (linesOf file) (k .items) t [] (inl refl) refl (k .lines) e))
+      split (t ∷ u ∷ us) e g = absurd g
 
-pub title-stands : (file : List ℕ) (places : ℕ) (d : Description) (samples : List ℤ) → Keeps file places d samples → d .title .there ≡ true → Titled file (d .title)
-title-stands file places d samples k h = by (title-or-none file places d samples k)
-  where
-    by : (d .title ≡ noTitle) ⊎ Titled file (d .title) → Titled file (d .title)
-    by (inl none-there) = absurd (no-true (sym (sym (ap (λ (t : Title). t .there) none-there) ∙ h)))
-    by (inr stands) = stands
+  -- there is none, or it stands there
+  pub title-or-none : (d .title ≡ noTitle) ⊎ Titled file (d .title)
+  title-or-none = by on-line-or-none
+    where
+      by : (d .title ≡ noTitle) ⊎ OnItsLine file (d .title) → (d .title ≡ noTitle) ⊎ Titled file (d .title)
+      by (inl none-there) = inl none-there
+      by (inr stands) = inr (stands .titled)
+
+  -- where there is one it stands there on its line
+  pub title-on-line : d .title .there ≡ true → OnItsLine file (d .title)
+  title-on-line h = by on-line-or-none
+    where
+      by : (d .title ≡ noTitle) ⊎ OnItsLine file (d .title) → OnItsLine file (d .title)
+      by (inl none-there) = absurd (no-true (sym (sym (ap (λ (t : Title). t .there) none-there) ∙ h)))
+      by (inr stands) = stands
+
+  -- and its bytes are those between its quotes
+  pub title-stands : d .title .there ≡ true → Titled file (d .title)
+  title-stands h = title-on-line h .titled

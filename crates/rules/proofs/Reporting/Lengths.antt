@@ -17,6 +17,7 @@ use Rattle.rules.specs.Reading.Grammar.{Line, gather, Keeps}
 use Rattle.rules.specs.Reading.Judge.{start}
 use Rattle.rules.specs.Reading.{read, samplesOf}
 use Rattle.rules.specs.Answers.{refusalNumber}
+use Rattle.rules.specs.Fields.{parted}
 use Rattle.rules.specs.Reporting.{reportBytes, reportPlaces, report, lineOf, cubeLine, domainLine, domainLines, titleLine, refusedLine, answerText, reportText, Reports}
 use Rattle.rules.specs.declared.Colour.{Colour}
 use Rattle.rules.specs.declared.Colour.the-variants.{Red, Green, Blue}
@@ -47,18 +48,18 @@ text-inside {input} {out} {out′} {n} p = omega (arith, p .count, ap length (p 
 -- ---- how long the lines are: names, tabs and newline beside the fields
 
 cube-length : (k : Kind) (n : ℕ) → length (cubeLine k n) ≡ 10 + length (decimal n) + length (decimal (rowsOf k n))
-unfolding cubeLine lineOf bytes
+unfolding cubeLine parted bytes
 cube-length OneD n = simp length-append (omega arith)
 cube-length ThreeD n = simp length-append (omega arith)
 
 domain-length : (c : Colour) (dom : Domain) → length (domainLine c dom) ≤ 15 + length (signedDecimal (dom .lower .0)) + length (signedDecimal (dom .upper .0))
-unfolding domainLine lineOf bytes
+unfolding domainLine parted bytes
 domain-length Red dom = simp length-append (omega arith)
 domain-length Green dom = simp length-append (omega arith)
 domain-length Blue dom = simp length-append (omega arith)
 
 title-length : (input : List ℕ) (t : Title) → length (titleLine input t) ≤ 11 + t .length
-unfolding titleLine lineOf bytes
+unfolding titleLine parted bytes
 title-length input t = split (t .there)
   where
     split : (there : Bool) → length (cond there (lineOf (bytes "title" ∷ bytes "yes" ∷ take (t .length) (drop (t .place) input) ∷ [])) (lineOf (bytes "title" ∷ bytes "no" ∷ []))) ≤ 11 + t .length
@@ -66,7 +67,7 @@ title-length input t = split (t .there)
     split false = omega arith
 
 refused-length : (number line : ℕ) → length (refusedLine number line) ≡ 10 + length (decimal number) + length (decimal line)
-unfolding refusedLine lineOf bytes
+unfolding refusedLine parted bytes
 refused-length number line = simp length-append (omega arith)
 
 -- ---- what an accepted file tells: the title lies within it, and every line is short

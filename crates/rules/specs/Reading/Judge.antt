@@ -20,7 +20,7 @@ use Rattle.rules.specs.declared.Bounds.{Bounds}
 use Rattle.rules.specs.declared.Description.{Description}
 use Rattle.rules.specs.declared.Kind.the-variants.{OneD}
 use Rattle.rules.specs.declared.Refusal.{Refusal}
-use Rattle.rules.specs.declared.Refusal.the-variants.{LineTooLong, ByteNotPermitted, KeywordAfterData, KeywordRepeated, NoSize, HalfADomain, LowerNotBelowUpper, DomainTooWide, DomainsDiffer, TableTooShort, TooManyRows, TooFewRows}
+use Rattle.rules.specs.declared.Refusal.the-variants.{LineTooLong, ByteNotPermitted, KeywordAfterData, KeywordRepeated, NoSize, HalfADomain, LowerNotBelowUpper, DomainTooWide, DomainsDiffer, TooLittleRoom, TooManyRows, TooFewRows}
 use Rattle.rules.specs.declared.Row.{Row}
 use Rattle.rules.specs.declared.Size.{Size}
 use Rattle.rules.specs.declared.Title.{Title}
@@ -109,7 +109,7 @@ domainFault places d =
     need (everyColour ordered d) LowerNotBelowUpper
     (need (everyColour narrow d) DomainTooWide
     (need (agree (d .kind) d) DomainsDiffer
-    (need (roomy places d) TableTooShort none)))
+    (need (roomy places d) TooLittleRoom none)))
 
 -- of what the lines so far have given: a size, the domain whole or not at all, and 10 to 13
 unfoldable pub givenFault : ℕ → State → Fault

@@ -1,9 +1,10 @@
--- One call after another: no look and no picture of what an accepted reading wrote is 24, and where the depth is known and the codes are within it both are
+-- One call after another: no look, picture or write of what an accepted reading wrote is 24, and where the depth is known and the codes are within it both are
 -- accepted and right; and a picture's codes are those of look.
 use Prim.Native.Nat.{ℕ, _+_, _*_, _%_, _≤_, _<_}
 use mathlib.Core.Path.{_≡_, refl, sym, ap, _∙_}
-use mathlib.Core.Bool.{true}
-use mathlib.Core.List.{List, _++_}
+use mathlib.Core.Bool.{true, true≢false}
+use mathlib.Core.Logic.{inl, inr}
+use mathlib.Core.List.{List, [], _∷_, _++_}
 use mathlib.Core.Option.{some}
 use native.Mathlib.Omega.{arith}
 use lib.IntN.{ℤ}
@@ -13,11 +14,13 @@ use Rattle.rules.specs.Descriptions.{couldBeRead}
 use Rattle.rules.specs.Looking.{within, shown, correct, look}
 use Rattle.rules.specs.Picturing.{corrected, picture, outputAfter}
 use Rattle.rules.specs.Answers.{lookNumber, lookCodes, pictureNumber}
-use Rattle.rules.specs.Boundary.{describedIn, pixelIn, lookIn, ReadsC, LooksC, PicturesC}
+use Rattle.rules.specs.Writing.{titleBytes, titleFits}
+use Rattle.rules.specs.Boundary.{describedIn, pixelIn, titleAt, lookIn, ReadsC, LooksC, PicturesC, WritesC}
 use Rattle.rules.specs.Demands.{pixelAt}
 use Rattle.rules.specs.declared.Bits.{Bits}
 use Rattle.rules.specs.declared.Colour.{Colour}
 use Rattle.rules.specs.declared.Depths.{Depths}
+use Rattle.rules.specs.declared.Description.{Description}
 use Rattle.rules.specs.declared.DepthsFound.the-variants.{Both}
 use Rattle.rules.specs.declared.Look.the-variants as L
 use Rattle.rules.specs.declared.Picture.the-variants as P
@@ -28,6 +31,11 @@ use Rattle.rules.proofs.Boundary.Described.{called-described}
 use Rattle.signature.proofs.Looking.Numbers.{look-not-24}
 use Rattle.signature.proofs.Picturing.Numbers.{picture-not-24}
 use Rattle.signature.proofs.Picturing.Codes.{picture-passed, PictureCodes, picture-codes}
+use Rattle.signature.specs.Numbers.{OneOf}
+use Rattle.signature.proofs.Writing.Writable.{kept-title-fits}
+use Rattle.signature.proofs.Writing.Numbers.{WriteGiven, given-0, given-13, given-24, given-27, writes-exactly}
+use Rattle.signature.proofs.Boundary.Crossing.{title-crosses}
+use Rattle.signature.proofs.Boundary.Writes.{write-laid}
 use Rattle.signature.proofs.Boundary.Reads.{read-accepted, read-bridge}
 use Rattle.signature.proofs.Boundary.Looks.{LookAccepted, look-accepted}
 use Rattle.signature.proofs.Boundary.Pictures.{PictureAccepted, accepted-by, output-given, picture-accepted}
@@ -45,6 +53,27 @@ module _ {file : List ℕ} {table table′ eleven′ : List ℤ} {line′ : ℕ}
   read-then-picture {bits} {src} {dst} p e =
       picture-not-24 _ table′ bits src (length dst) (bridged .1)
       (sym (p .number-so ∙ ap pictureNumber (called-described _ (λ d. picture d table′ bits src (length dst)) eleven′ (bridged .0))) ∙ e)
+
+  -- nor is a write of it, with the title's bytes from where the eleven numbers say, 24 or 27
+  pub read-then-write : {out : List ℕ} {number : ℕ} {out′ : List ℕ} {length′ : ℕ} → WritesC eleven′ table′ (titleBytes file (titleAt eleven′)) out number out′ length′
+      → OneOf number (0 ∷ 13 ∷ [])
+  read-then-write {out} {number} w =
+      let l = write-laid w (bridged .0) in
+      by number (writes-exactly (l .writes) number .0 (sym (l .number-so)))
+    where
+      d : Description
+      d = read-accepted h refl .d
+
+      fits : titleFits (d .title .there) (titleBytes file (titleAt eleven′)) ≡ true
+      fits =
+          let title-so : titleAt eleven′ ≡ d .title = ap titleAt (read-accepted h refl .eleven-so) ∙ title-crosses d in
+          ap (λ t. titleFits (d .title .there) (titleBytes file t)) title-so ∙ kept-title-fits file (length table) d _ (read-accepted h refl .kept .keeps)
+
+      by : (n : ℕ) → WriteGiven d table′ (titleBytes file (titleAt eleven′)) (length out) n → OneOf n (0 ∷ 13 ∷ [])
+      by n (given-24 e) = absurd (true≢false (sym (bridged .1) ∙ e))
+      by n (given-27 e f) = absurd (true≢false (sym fits ∙ f))
+      by n (given-13 e f short) = inr (inl refl)
+      by n (given-0 v) = inl refl
 
   -- ---- demand 3 in one piece
 

@@ -1,8 +1,8 @@
 -- Picture answers 0 or 20 to 24: when each is given, and so of what could be read never 24.
-use Prim.Native.Nat.{ℕ, zero, suc, _%_, _≤_, _<_}
+use Prim.Native.Nat.{ℕ, _%_, _≤_, _<_}
 use mathlib.Core.Path.{_≡_, refl, sym, subst, ap, _∙_}
 use mathlib.Core.Logic.{inl, inr}
-use mathlib.Core.Bool.{Bool, true, false, _&&_, true≢false}
+use mathlib.Core.Bool.{Bool, true, false, true≢false}
 use mathlib.Core.List.{List, [], _∷_}
 use native.Mathlib.Decide.{decLe, ℕ-discrete}
 use native.Mathlib.Omega.{arith}
@@ -12,7 +12,6 @@ use lib.IntN.{ℤ}
 use lib.ListN.{length, getD}
 use Rattle.rules.specs.Units.{depthsOf, rawM}
 use Rattle.rules.specs.Descriptions.{couldBeRead}
-use Rattle.rules.specs.Reading.Lines.{every}
 use Rattle.rules.specs.Picturing.{picture}
 use Rattle.rules.specs.Answers.{pictureNumber, refusalNumber}
 use Rattle.rules.specs.Promises.{Pictures}
@@ -22,10 +21,10 @@ use Rattle.rules.specs.declared.DepthsFound.{DepthsFound}
 use Rattle.rules.specs.declared.DepthsFound.the-variants.{Both, NotBoth}
 use Rattle.rules.specs.declared.Description.{Description}
 use Rattle.rules.specs.declared.Picture.{Picture}
-use Rattle.rules.proofs.Tests.{and-fails}
 use Rattle.rules.proofs.KnownDepths.{OneUnknown, not-both, unknown-not-both}
 use Rattle.rules.proofs.Picturing.Checks.{within-all, picture-24, picture-20, picture-21, picture-22, picture-23, picture-0}
 use Rattle.signature.specs.Numbers.{OneOf}
+use Rattle.signature.proofs.Either.{fails-some, some-fails}
 
 -- ---- a code above M
 
@@ -33,19 +32,10 @@ abbrev Above : ℕ → List ℕ → Type 0
 Above m src = (k : ℕ) × (k < length src) × (m < getD src k 0)
 
 above-of : (m : ℕ) (src : List ℕ) → within-all m src ≡ false → Above m src
-unfolding every
-above-of m [] e = absurd (true≢false e)
-above-of m (b ∷ src) e = by (leb b m) refl e (above-of m src)
-  where
-    by : (t : Bool) → leb b m ≡ t → t && within-all m src ≡ false → (within-all m src ≡ false → Above m src) → Above m (b ∷ src)
-    by false p e later = (0, omega arith, leb-false _ _ p)
-    by true p e later = let (k, inside, above) = later e in (suc k, omega arith, above)
+above-of m src e = let (k, inside, fails) = some-fails (λ c. leb c m) src e in (k, inside, leb-false _ _ fails)
 
 of-above : (m : ℕ) (src : List ℕ) (k : ℕ) → k < length src → m < getD src k 0 → within-all m src ≡ false
-unfolding every
-of-above m [] k h above = absurd (omega arith)
-of-above m (b ∷ src) zero h above = and-fails (leb b m) _ (inr (lt-leb b m above))
-of-above m (b ∷ src) (suc k) h above = and-fails (leb b m) _ (inl (of-above m src k (omega arith) above))
+of-above m src k h above = fails-some (λ c. leb c m) src k h (lt-leb _ m above)
 
 -- ---- when each number is given
 

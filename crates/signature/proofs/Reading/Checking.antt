@@ -25,7 +25,7 @@ use Rattle.rules.specs.declared.Form.the-variants.{Idle, Keyed, Data, Neither}
 use Rattle.rules.specs.declared.Read.{Read}
 use Rattle.rules.specs.declared.Read.the-variants.{Accepted, Refused}
 use Rattle.rules.specs.declared.Refusal.{Refusal}
-use Rattle.rules.specs.declared.Refusal.the-variants.{DomainTooWide, DomainsDiffer, HalfADomain, LowerNotBelowUpper, NoSize, TableTooShort}
+use Rattle.rules.specs.declared.Refusal.the-variants.{DomainTooWide, DomainsDiffer, HalfADomain, LowerNotBelowUpper, NoSize, TooLittleRoom}
 use Rattle.rules.proofs.Answers.{checks-is, reads-is, refused-not-0}
 use Rattle.rules.proofs.Sound.{range-rows-most}
 use Rattle.rules.proofs.Reading.Acceptance.{accepted-keeps, keeps-accepted}
@@ -90,16 +90,16 @@ module _ (file : List ℕ) (d : Description) where
 -- ---- a shorter table: the same answer, or 13 no later
 
 abbrev SameOrShort : Fault → Fault → Type 0
-SameOrShort f g = (f ≡ g) ⊎ (f ≡ some TableTooShort)
+SameOrShort f g = (f ≡ g) ⊎ (f ≡ some TooLittleRoom)
 
 -- what marks where the reading into the shorter table stops
 abbrev Short : State → List (List ℕ) → Refusal → Type 0
-Short st left r = r ≡ TableTooShort
+Short st left r = r ≡ TooLittleRoom
 
 -- an answer that is 13 on a line that is not after the other's
 record Earlier (a b : Read) : Type 0 where
   line : ℕ
-  short : a ≡ Refused TableTooShort line
+  short : a ≡ Refused TooLittleRoom line
   not-later : (r : Refusal) (n : ℕ) → b ≡ Refused r n → line ≤ n
 
 module _ (places : ℕ) where
@@ -113,11 +113,11 @@ module _ (places : ℕ) where
   first-beside f g h (inl e) = inl (ap (λ (x : Fault). first x h) e)
   first-beside f g h (inr e) = inr (ap (λ (x : Fault). first x h) e)
 
-  room-beside : (d : Description) → Bounded d → SameOrShort (need (roomy places d) TableTooShort none) (need (roomy placeLimit d) TableTooShort none)
+  room-beside : (d : Description) → Bounded d → SameOrShort (need (roomy places d) TooLittleRoom none) (need (roomy placeLimit d) TooLittleRoom none)
   unfolding need
   room-beside d b = by (roomy places d)
     where
-      by : (t : Bool) → SameOrShort (need t TableTooShort none) (need (roomy placeLimit d) TableTooShort none)
+      by : (t : Bool) → SameOrShort (need t TooLittleRoom none) (need (roomy placeLimit d) TooLittleRoom none)
       by true = inl (sym (rw (room-for-all d b)))
       by false = inr refl
 
@@ -150,7 +150,7 @@ module _ (places : ℕ) where
   end-beside st b = first-beside (headFault places st) (headFault placeLimit st) _ (head-beside st b)
 
   judge-beside : (st : State) → Bounded (describe st) → (p : ℕ) (l : List ℕ)
-      → (judgeBy headFault contentOf places st p l ≡ judgeBy headFault contentOf placeLimit st p l) ⊎ (judgeBy headFault contentOf places st p l ≡ refuse TableTooShort)
+      → (judgeBy headFault contentOf places st p l ≡ judgeBy headFault contentOf placeLimit st p l) ⊎ (judgeBy headFault contentOf places st p l ≡ refuse TooLittleRoom)
   unfolding judgeBy unless
   judge-beside st b p l = by (byteFault l) (order-beside st b (formOf l))
     where
@@ -163,7 +163,7 @@ module _ (places : ℕ) where
       long : Fault
       long = orderBy headFault placeLimit st (formOf l)
 
-      by : (f : Fault) → SameOrShort short long → (unless f (unless short j) ≡ unless f (unless long j)) ⊎ (unless f (unless short j) ≡ refuse TableTooShort)
+      by : (f : Fault) → SameOrShort short long → (unless f (unless short j) ≡ unless f (unless long j)) ⊎ (unless f (unless short j) ≡ refuse TooLittleRoom)
       by none (inl e) = inl (ap (λ (g : Fault). unless g j) e)
       by none (inr e) = inr (ap (λ (g : Fault). unless g j) e)
       by (some r) h = inl refl
@@ -178,9 +178,9 @@ module _ (places : ℕ) where
       (λ st b. marked (end-beside st b))
       0 0 start (linesOf file) start-bounded
     where
-      marked : {A : Type 0} {a b : A} {refused : Refusal → A} → (a ≡ b) ⊎ (a ≡ refused TableTooShort) → (a ≡ b) ⊎ ((r : Refusal) × (a ≡ refused r) × (r ≡ TableTooShort))
+      marked : {A : Type 0} {a b : A} {refused : Refusal → A} → (a ≡ b) ⊎ (a ≡ refused TooLittleRoom) → (a ≡ b) ⊎ ((r : Refusal) × (a ≡ refused r) × (r ≡ TooLittleRoom))
       marked (inl e) = inl e
-      marked (inr e) = inr (TableTooShort, e, refl)
+      marked (inr e) = inr (TooLittleRoom, e, refl)
 
   -- reading into a table of any length, beside check
   read-beside : (file : List ℕ) → (read file places ≡ check file) ⊎ Earlier (read file places) (check file)

@@ -48,7 +48,7 @@ line-whole (b ∷ rest) l ls h = split (eqb b 10) refl (linesOf rest) refl h (li
     split false e (v ∷ vs) f g ih = let p : b ∷ v ≡ l = cc in ap newlines (sym p) ∙ rw e (ih v vs f)
 
 -- a line, a newline and other lines
-line-then : (l s : List ℕ) → newlines l ≡ 0 → linesOf (l ++ (10 ∷ s)) ≡ l ∷ linesOf s
+pub line-then : (l s : List ℕ) → newlines l ≡ 0 → linesOf (l ++ (10 ∷ s)) ≡ l ∷ linesOf s
 unfolding linesOf onFirst newlines
 line-then [] s h = refl
 line-then (b ∷ l) s h = split (eqb b 10) h (line-then l s)

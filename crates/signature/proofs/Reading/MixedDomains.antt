@@ -23,7 +23,7 @@ use Rattle.rules.specs.declared.Kind.the-variants.{OneD, ThreeD}
 use Rattle.rules.specs.declared.Read.{Read}
 use Rattle.rules.specs.declared.Read.the-variants.{Accepted, Refused}
 use Rattle.rules.specs.declared.Refusal.{Refusal}
-use Rattle.rules.specs.declared.Refusal.the-variants.{DomainTooWide, DomainsDiffer, HalfADomain, LowerNotBelowUpper, NoSize, TableTooShort}
+use Rattle.rules.specs.declared.Refusal.the-variants.{DomainTooWide, DomainsDiffer, HalfADomain, LowerNotBelowUpper, NoSize, TooLittleRoom}
 use Rattle.rules.proofs.Answers.{checks-is, reads-is}
 use Rattle.rules.proofs.Tests.{and-both, need-none, no-true}
 use Rattle.rules.proofs.Reading.Walk.{no-refused}
@@ -90,7 +90,7 @@ module _ (places : ℕ) (A B : Description → Bool) (weaker : (d : Description)
           cond a
           (need b NoSize
           (need c HalfADomain
-          (need o LowerNotBelowUpper (need w DomainTooWide (need agreed DomainsDiffer (need (roomy places (describe st)) TableTooShort none))))))
+          (need o LowerNotBelowUpper (need w DomainTooWide (need agreed DomainsDiffer (need (roomy places (describe st)) TooLittleRoom none))))))
           none
 
       by : (a : Bool) → eqb (st .rows) 0 ≡ a → (b : Bool) → given (st .size) ≡ b → (c : Bool) → together (st .lower) (st .upper) ≡ c
@@ -149,7 +149,7 @@ module _ (places : ℕ) where
       (need-low Not12 (together (st .lower) (st .upper)) HalfADomain _ (λ _ q. omega (arith, q))
       (need-low Not12 (everyColour ordered (describe st)) LowerNotBelowUpper _ (λ _. plainly LowerNotBelowUpper refl)
       (need-low Not12 (everyColour narrow (describe st)) DomainTooWide _ (λ _. plainly DomainTooWide refl)
-      (need-low Not12 (roomy places (describe st)) TableTooShort none (λ _ q. omega (arith, q)) tt)))))
+      (need-low Not12 (roomy places (describe st)) TooLittleRoom none (λ _ q. omega (arith, q)) tt)))))
       tt
 
   any-never-12 : (file : List ℕ) (n : ℕ) → readBy (headAgreed anyDomains) contentOf file places ≡ Refused DomainsDiffer n → ⊥

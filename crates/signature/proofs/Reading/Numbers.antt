@@ -33,7 +33,7 @@ use Rattle.rules.specs.declared.Number.the-variants.{Value, Malformed, Beyond, 
 use Rattle.rules.specs.declared.Read.{Read}
 use Rattle.rules.specs.declared.Read.the-variants.{Accepted, Refused}
 use Rattle.rules.specs.declared.Refusal.{Refusal}
-use Rattle.rules.specs.declared.Refusal.the-variants.{LineTooLong, ByteNotPermitted, NeitherDataNorKeyword, KeywordAfterData, KeywordRepeated, ParametersWrong, SizeOutOfRange, DomainNumberWrong, NoSize, HalfADomain, LowerNotBelowUpper, DomainTooWide, DomainsDiffer, TableTooShort, TooManyRows, NotThreeNumbers, SampleBeyond, SampleTooFine, TooFewRows}
+use Rattle.rules.specs.declared.Refusal.the-variants.{LineTooLong, ByteNotPermitted, NeitherDataNorKeyword, KeywordAfterData, KeywordRepeated, ParametersWrong, SizeOutOfRange, DomainNumberWrong, NoSize, HalfADomain, LowerNotBelowUpper, DomainTooWide, DomainsDiffer, TooLittleRoom, TooManyRows, NotThreeNumbers, SampleBeyond, SampleTooFine, TooFewRows}
 use Rattle.rules.specs.declared.Three.{Three}
 use Rattle.rules.proofs.Tests.{and-both}
 use Rattle.signature.proofs.Either.{either}
@@ -86,13 +86,13 @@ module _ (Low : Refusal → Type 0) where
   -- where it holds of these
   module _ (other : (r : Refusal) → plain r ≡ true → Low r) where
     -- 10 to 13
-    pub domain-low : (places : ℕ) (d : Description) → (agree (d .kind) d ≡ false → Low DomainsDiffer) → (roomy places d ≡ false → Low TableTooShort)
+    pub domain-low : (places : ℕ) (d : Description) → (agree (d .kind) d ≡ false → Low DomainsDiffer) → (roomy places d ≡ false → Low TooLittleRoom)
         → LowFault (domainFault places d)
     unfolding domainFault refusalNumber
     domain-low places d differ short =
         need-low (everyColour ordered d) LowerNotBelowUpper _ (λ _. other LowerNotBelowUpper refl)
         (need-low (everyColour narrow d) DomainTooWide _ (λ _. other DomainTooWide refl)
-        (need-low (agree (d .kind) d) DomainsDiffer _ differ (need-low (roomy places d) TableTooShort none short tt)))
+        (need-low (agree (d .kind) d) DomainsDiffer _ differ (need-low (roomy places d) TooLittleRoom none short tt)))
 
     -- 1 and 2
     byte-low : (l : List ℕ) → LowFault (byteFault l)

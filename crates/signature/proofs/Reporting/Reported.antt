@@ -12,13 +12,14 @@ use lib.ListN.{length, take, drop, getD, replicate}
 use lib.Seq.{take-all, length-take-le}
 use Rattle.rules.specs.Reading.Lines.{bytes}
 use Rattle.rules.specs.Decimals.{decimalIn, decimal, sign, signedDecimal}
-use Rattle.rules.specs.Reporting.{reportBytes, report, lineOf, cubeLine, domainLine, domainLines, titleLine, refusedLine, answerText, reportText, Reports}
+use Rattle.rules.specs.Fields.{parted}
+use Rattle.rules.specs.Reporting.{reportBytes, report, cubeLine, domainLine, domainLines, titleLine, refusedLine, answerText, reportText, Reports}
 use Rattle.signature.specs.Cases.{sampleA3, corner, halfBelow, cornerReport, reportA3, halfBelowReport}
 use Rattle.signature.proofs.Cases.{opened}
 
 -- the definitions of what is printed, opened for computation
 unfoldable printed : ℕ
-unfolding report decimalIn decimal sign signedDecimal lineOf cubeLine domainLine domainLines titleLine refusedLine answerText reportText
+unfolding report decimalIn decimal sign signedDecimal parted cubeLine domainLine domainLines titleLine refusedLine answerText reportText
 printed = 0
 
 -- ---- the promise decides the count and every byte

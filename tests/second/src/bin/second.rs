@@ -6,8 +6,9 @@
 //! second check FILE               the answer where there is no table
 //! second look FILE RAW CORRECTED R G B
 //!                                 one pixel through a file's table, from so many bits to so many
+//! second write FILE               the bytes that are written of what is read from a file
 //! second cases                    document 01's cases (src/cases.rs gives the format)
-//! second stream SEED TABLES LOOKS PICTURES
+//! second stream SEED TABLES LOOKS PICTURES WRITES
 //!                                 this side of `compare` alone: counts, and cases a second
 //! second reports SEED COUNT PROGRAM [ARGUMENT...]
 //!                                 compares a report program's bytes with this one's
@@ -17,10 +18,11 @@ use second::gen::report_input;
 use second::look::look;
 use second::paper::{number, place, Bits, Kind};
 use second::reading::{check, read, Reading};
-use second::report::report;
+use second::report::{report, title};
 use second::run::{run, Wanted, READ_NUMBERS};
 use second::show::{escaped, list, quoted};
 use second::small::fewer_bytes;
+use second::writing::write;
 use second::{cases, paper};
 use std::collections::BTreeMap;
 use std::io::{self, Read, Write};
@@ -36,13 +38,14 @@ fn main() -> ExitCode {
         ["read", file] => print_read(file),
         ["check", file] => print_check(file),
         ["look", file, raw, corrected, r, g, b] => print_look(file, [raw, corrected], [r, g, b]),
+        ["write", file] => print_write(file),
         ["cases"] => put(cases::printed().as_bytes()),
         ["stream", numbers @ ..] => stream(numbers),
         ["reports", seed, count, program @ ..] if !program.is_empty() => {
             reports(seed, count, program)
         }
         _ => Err("usage: second report | read FILE | check FILE | look FILE RAW CORRECTED R G B | \
-                  cases | stream SEED TABLES LOOKS PICTURES | reports SEED COUNT PROGRAM [ARGUMENT...]"
+                  write FILE | cases | stream SEED TABLES LOOKS PICTURES WRITES | reports SEED COUNT PROGRAM [ARGUMENT...]"
             .to_string()),
     };
     match done {
@@ -94,10 +97,7 @@ fn print_read(file: &str) -> Result<(), String> {
 }
 
 fn print_look(file: &str, bits: [&str; 2], pixel: [&str; 3]) -> Result<(), String> {
-    let reading = open(file)?;
-    if reading.number != 0 {
-        return Err(format!("refused: number {} line {}", reading.number, reading.line));
-    }
+    let reading = accepted(file)?;
     let [raw, corrected] = parsed(bits, "depth")?;
     let bits = Bits { raw, corrected };
     let look = look(&reading.description, &reading.samples, bits, parsed(pixel, "code")?);
@@ -107,6 +107,26 @@ fn print_look(file: &str, bits: [&str; 2], pixel: [&str; 3]) -> Result<(), Strin
     println!("rows {}", list(&look.rows[..used], " "));
     println!("weights {}", list(&look.weights[..used], " "));
     Ok(())
+}
+
+fn print_write(file: &str) -> Result<(), String> {
+    let reading = accepted(file)?;
+    let bytes = bytes_of(file)?;
+    let title = title(&reading.description, &bytes).unwrap_or_default();
+    let writing = write(&reading.description, &reading.samples, title, usize::MAX);
+    match writing.number {
+        0 => put(&writing.text),
+        number => Err(format!("refused: number {number}")),
+    }
+}
+
+/// What is read of a file that is accepted.
+fn accepted(file: &str) -> Result<Reading, String> {
+    let reading = open(file)?;
+    match reading.number {
+        0 => Ok(reading),
+        number => Err(format!("refused: number {number} line {}", reading.line)),
+    }
 }
 
 /// Words as numbers of a kind.
@@ -127,13 +147,14 @@ fn numbers(words: &[&str]) -> Result<Vec<u64>, String> {
 
 /// Runs this side alone; each call by itself, to tell how fast it goes.
 fn stream(words: &[&str]) -> Result<(), String> {
-    let [seed, tables, looks, pictures] = numbers(words)?[..] else {
-        return Err("stream takes SEED TABLES LOOKS PICTURES".to_string());
+    let [seed, tables, looks, pictures, writes] = numbers(words)?[..] else {
+        return Err("stream takes SEED TABLES LOOKS PICTURES WRITES".to_string());
     };
-    let none = Wanted { seed, tables: 0, looks: 0, pictures: 0 };
+    let none = Wanted { seed, ..Wanted::default() };
     timed("tables", tables, &Wanted { tables, ..none })?;
     timed("looks", looks, &Wanted { looks, ..none })?;
-    timed("pictures", pictures, &Wanted { pictures, ..none })
+    timed("pictures", pictures, &Wanted { pictures, ..none })?;
+    timed("writes", writes, &Wanted { writes, ..none })
 }
 
 fn timed(name: &str, many: u64, wanted: &Wanted) -> Result<(), String> {

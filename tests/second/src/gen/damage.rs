@@ -9,7 +9,8 @@ use super::files::{one_bound_not_whole, two_colours_not_whole};
 use super::files::{Bounds, Draft, Line, Part};
 use super::words;
 use super::FileCase;
-use crate::paper::{Kind, DEFAULT_LOWER, DEFAULT_UPPER, LONGEST_LINE};
+use crate::paper::{Kind, BOUND_PLACES, DEFAULT_LOWER, DEFAULT_UPPER, LONGEST_LINE};
+use crate::writing::shortest;
 
 type Change = fn(&mut Draft, &mut Draws);
 
@@ -411,7 +412,7 @@ fn default_of(part: Part) -> [i64; 3] {
 /// A domain line with one bound written so.
 fn bound_word(draft: &mut Draft, draws: &mut Draws, word: String) {
     let part = draws.pick(&[Part::Lower, Part::Upper]);
-    let mut words = default_of(part).map(|bound| words::plain(bound, 3));
+    let mut words = default_of(part).map(|bound| shortest(bound, BOUND_PLACES));
     words[draws.below(3)] = word;
     let line = domain_line(draws, part, words);
     exchange(draft, draws, line);

@@ -5,7 +5,8 @@ use super::draws::Draws;
 use super::words;
 use super::FileCase;
 use crate::paper::{Kind, BOUND_UNITS, DEFAULT_LOWER, DEFAULT_UPPER, GREATEST_BOUND};
-use crate::paper::{GREATEST_SAMPLE, GREATEST_WIDTH, LONGEST_LINE};
+use crate::paper::{GREATEST_SAMPLE, GREATEST_WIDTH, LONGEST_LINE, SAMPLE_PLACES};
+use crate::writing::shortest;
 
 /// What a line of a draft is there for.
 #[derive(Clone, Copy, PartialEq, Eq, Debug)]
@@ -192,12 +193,8 @@ fn some_domain(draws: &mut Draws) -> (i64, i64) {
 
 /// The size line with this word as N, zeros before it at times.
 pub fn size_line(draws: &mut Draws, kind: Kind, n: &str) -> Line {
-    let keyword = match kind {
-        Kind::OneD => "LUT_1D_SIZE",
-        Kind::ThreeD => "LUT_3D_SIZE",
-    };
     let zeros = if draws.one_in(8) { draws.below(100) + 1 } else { 0 };
-    line_of(draws, Part::Size, &[keyword.to_string(), "0".repeat(zeros) + n])
+    line_of(draws, Part::Size, &[kind.size_word().to_string(), "0".repeat(zeros) + n])
 }
 
 pub fn bounds_line(draws: &mut Draws, part: Part, bounds: &[i64; 3]) -> Line {
@@ -227,7 +224,7 @@ fn data_line(draws: &mut Draws, style: usize) -> Line {
     let fields = [0; 3].map(|_| {
         let units = some_sample(draws, style);
         if style == 0 {
-            words::plain(units, 7)
+            shortest(units, SAMPLE_PLACES)
         } else {
             words::odd(draws, units, 7)
         }

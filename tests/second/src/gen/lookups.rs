@@ -11,9 +11,9 @@ use crate::paper::{BOUND_UNITS, DEPTHS, GREATEST_BOUND, GREATEST_SAMPLE, SAMPLE_
 use std::cmp::Reverse;
 
 /// A description and a table.
-struct Lent {
-    description: Description,
-    table: Vec<i64>,
+pub struct Lent {
+    pub description: Description,
+    pub table: Vec<i64>,
 }
 
 type Break = fn(&mut Lent, &mut Draws);
@@ -96,14 +96,20 @@ fn some_output_len(draws: &mut Draws, length: usize) -> usize {
 
 fn lent_and_bits(draws: &mut Draws) -> (Lent, Bits, Vec<&'static str>) {
     let mut lent = kept(draws);
+    let made = broken(draws, &mut lent);
+    (lent, some_bits(draws), made)
+}
+
+/// Breaks a description and table in ways that are told, or leaves them.
+pub fn broken(draws: &mut Draws, lent: &mut Lent) -> Vec<&'static str> {
     let mut made = Vec::new();
     let breaks = draws.pick(&[0, 0, 0, 0, 1, 1, 2]);
     for _ in 0..breaks {
         let (name, change) = draws.pick(BREAKS);
-        change(&mut lent, draws);
+        change(lent, draws);
         made.push(name);
     }
-    (lent, some_bits(draws), made)
+    made
 }
 
 /// Two depths, often the same.
@@ -217,7 +223,7 @@ pub fn common_divisor(one: i128, other: i128) -> (i128, i128) {
 }
 
 /// A description and table that reading could have given.
-fn kept(draws: &mut Draws) -> Lent {
+pub fn kept(draws: &mut Draws) -> Lent {
     let kind = draws.pick(&[Kind::OneD, Kind::ThreeD]);
     let n = some_n(draws, kind);
     let mut description = [kind.mark(), n, 0, 0, 0, 0, 0, 0, 0, 0, 0];
@@ -316,7 +322,7 @@ fn border_code(draws: &mut Draws, description: &Description, colour: usize, m: u
 
 // Breaking a description or a table.
 
-const EXTREMES: &[i64] = &[
+pub const EXTREMES: &[i64] = &[
     i64::MIN,
     i64::MAX,
     i64::MIN + 1,

@@ -2,6 +2,7 @@
 //! that are no number.
 
 use super::draws::Draws;
+use crate::writing::shortest;
 
 /// Three words of this length and a keyword fit on a line with room for blanks.
 const LONGEST_WORD: usize = 72;
@@ -18,18 +19,8 @@ pub fn odd(draws: &mut Draws, units: i64, places: usize) -> String {
     if word.len() <= LONGEST_WORD {
         word
     } else {
-        plain(units, places)
+        shortest(units, places)
     }
-}
-
-/// The shortest plain layout of the same.
-pub fn plain(units: i64, places: usize) -> String {
-    let digits = format!("{:0>width$}", units.unsigned_abs(), width = places + 1);
-    let (whole, fraction) = digits.split_at(digits.len() - places);
-    let fraction = fraction.trim_end_matches('0');
-    let sign = if units < 0 { "-" } else { "" };
-    let point = if fraction.is_empty() { "" } else { "." };
-    format!("{sign}{whole}{point}{fraction}")
 }
 
 /// Nought, by digits and an exponent of any size.
@@ -202,7 +193,6 @@ mod tests {
                 draws.between(-10_000_000_000, 10_000_000_000) / 10i64.pow(draws.below(11) as u32);
             let word = odd(&mut draws, units, 7);
             assert_eq!(value(word.as_bytes(), &TEN_MILLIONTHS), Value::Units(units), "{word}");
-            assert_eq!(value(plain(units, 7).as_bytes(), &TEN_MILLIONTHS), Value::Units(units));
         }
     }
 

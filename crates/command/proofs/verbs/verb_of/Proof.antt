@@ -23,6 +23,9 @@ two c = c .before .before .before
 abbrev three : tie.Else4 → tie.Else3
 three c = c .before .before .before
 
+abbrev four : tie.Else5 → tie.Else4
+four c = c .before .before .before
+
 no-report : (c : tie.Else1) → same (word c) (bytes "report") ≡ false
 unfolding bytes
 no-report c = sym (c .before .is-named .ensures) ∙ c .if1 .left
@@ -35,9 +38,13 @@ no-correct : (c : tie.Else3) → same (word (one (two c))) (bytes "correct") ≡
 unfolding bytes
 no-correct c = sym (c .before .is-named3 .ensures) ∙ c .if3 .left
 
-no-version : (c : tie.Else4) → same (word (one (two (three c)))) (bytes "--version") ≡ false
+no-rewrite : (c : tie.Else4) → same (word (one (two (three c)))) (bytes "rewrite") ≡ false
 unfolding bytes
-no-version c = sym (c .before .is-named4 .ensures) ∙ c .if4 .left
+no-rewrite c = sym (c .before .is-named4 .ensures) ∙ c .if4 .left
+
+no-version : (c : tie.Else5) → same (word (one (two (three (four c))))) (bytes "--version") ≡ false
+unfolding bytes
+no-version c = sym (c .before .is-named5 .ensures) ∙ c .if5 .left
 
 slice-aggregate-is-named : tie.Need-slice-aggregate-is-named
 slice-aggregate-is-named c = search needs
@@ -83,20 +90,34 @@ returns-4 c =
     let d = c .before .before .before in
     rw (no-report (one (two d)), no-explain (two d), no-correct d, sym (c .before .is-named4 .ensures) ∙ c .if4 .taken)
 
-asks-help-requires : tie.Need-asks-help-requires
-asks-help-requires c κs = search needs
+slice-aggregate-is-named-5 : tie.Need-slice-aggregate-is-named-5
+slice-aggregate-is-named-5 c = search needs
+
+is-named-requires-5 : tie.Need-is-named-requires-5
+is-named-requires-5 c κs = search needs
 
 returns-5 : tie.Need-returns-5
 unfolding verbOf bytes
 returns-5 c =
-    let d = c .before .before in
-    rw (no-report (one (two (three d))), no-explain (two (three d)), no-correct (three d), no-version d, sym (c .before .asks-help .ensures) ∙ c .if5 .taken)
+    let d = c .before .before .before in
+    rw (no-report (one (two (three d))), no-explain (two (three d)), no-correct (three d), no-rewrite d, sym (c .before .is-named5 .ensures) ∙ c .if5 .taken)
+
+asks-help-requires : tie.Need-asks-help-requires
+asks-help-requires c κs = search needs
 
 returns-6 : tie.Need-returns-6
 unfolding verbOf bytes
 returns-6 c =
     let d = c .before .before in
-    rw (no-report (one (two (three d))), no-explain (two (three d)), no-correct (three d), no-version d, sym (c .before .asks-help .ensures) ∙ c .if5 .left)
+    let v = four d in
+    rw (no-report (one (two (three v))), no-explain (two (three v)), no-correct (three v), no-rewrite v, no-version d, sym (c .before .asks-help .ensures) ∙ c .if6 .taken)
+
+returns-7 : tie.Need-returns-7
+unfolding verbOf bytes
+returns-7 c =
+    let d = c .before .before in
+    let v = four d in
+    rw (no-report (one (two (three v))), no-explain (two (three v)), no-correct (three v), no-rewrite v, no-version d, sym (c .before .asks-help .ensures) ∙ c .if6 .left)
 
 pub verb-of-spec : {M : Type 1} → statement M
 verb-of-spec =
@@ -114,6 +135,9 @@ verb-of-spec =
     slice-aggregate-is-named-4
     is-named-requires-4
     returns-4
-    asks-help-requires
+    slice-aggregate-is-named-5
+    is-named-requires-5
     returns-5
-    returns-6)
+    asks-help-requires
+    returns-6
+    returns-7)

@@ -80,6 +80,9 @@ enum-told-24 c = search needs
 enum-told-25 : tie.Need-enum-told-25
 enum-told-25 c = search needs
 
+enum-told-26 : tie.Need-enum-told-26
+enum-told-26 c = search needs
+
 returns : tie.Need-returns
 unfolding refusalNumber
 returns c = sym (ap refusalNumber (c .enum-told .given .1))
@@ -180,6 +183,10 @@ returns-25 : tie.Need-returns-25
 unfolding refusalNumber
 returns-25 c = sym (ap refusalNumber (c .enum-told25 .given .1))
 
+returns-26 : tie.Need-returns-26
+unfolding refusalNumber
+returns-26 c = sym (ap refusalNumber (c .enum-told26 .given .1))
+
 pub number-spec : {M : Type 1} → statement M
 number-spec =
     tie.close
@@ -209,6 +216,7 @@ number-spec =
     enum-told-23
     enum-told-24
     enum-told-25
+    enum-told-26
     returns
     returns-2
     returns-3
@@ -233,4 +241,5 @@ number-spec =
     returns-22
     returns-23
     returns-24
-    returns-25)
+    returns-25
+    returns-26)

@@ -1,0 +1,2 @@
+-- What rewriting leaves in the lent bytes.
+pub mod Anew

@@ -1,0 +1,2 @@
+-- Laws of writing: how long the lines and the text are.
+pub mod Lengths
