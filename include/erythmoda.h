@@ -22,11 +22,11 @@ extern "C" {
 
 /* The version of this header and of the library beside it. MAJOR is the number in the shared library's name: it grows when
  * a call changes, so that a program never meets a library with other calls than it was compiled for. MINOR grows when a
- * rule changes, so that some file or pixel is answered otherwise. */
+ * call is new, or a rule changes, so that some file or pixel is answered otherwise. */
 #define ERYTHMODA_VERSION_MAJOR 1
-#define ERYTHMODA_VERSION_MINOR 2
+#define ERYTHMODA_VERSION_MINOR 3
 #define ERYTHMODA_VERSION_PATCH 0
-#define ERYTHMODA_VERSION "1.2.0"
+#define ERYTHMODA_VERSION "1.3.0"
 
 /* What a table is, in eleven numbers:
  *
@@ -76,12 +76,14 @@ enum erythmoda_number {
     ERYTHMODA_SAMPLE_TOO_FINE = 17,
     ERYTHMODA_TOO_FEW_ROWS = 18,
     ERYTHMODA_HALF_A_DOMAIN = 19,
-    /* of a look or a picture; 24 of a write too */
+    /* of a look, its halves or a picture; 24 of a write too */
     ERYTHMODA_DEPTH_UNKNOWN = 20,
     ERYTHMODA_PICTURE_LENGTH = 21,
     ERYTHMODA_OUTPUT_TOO_SHORT = 22,
     ERYTHMODA_CODE_ABOVE_M = 23,
     ERYTHMODA_COULD_NOT_BE_READ = 24,
+    /* of the second half of a look alone */
+    ERYTHMODA_ROWS_OR_WEIGHTS_WRONG = 26,
     /* of a write alone */
     ERYTHMODA_TITLE_NOT_PLAIN = 27,
     /* of the report program alone */
@@ -116,6 +118,7 @@ static inline const char *erythmoda_words(uint32_t number) {
     case ERYTHMODA_OUTPUT_TOO_SHORT: return "the output is shorter than the picture";
     case ERYTHMODA_CODE_ABOVE_M: return "a raw code is above the raw depth's M";
     case ERYTHMODA_COULD_NOT_BE_READ: return "reading could not have given this description and this table";
+    case ERYTHMODA_ROWS_OR_WEIGHTS_WRONG: return "a row number not below the count of rows, a negative weight, or weights that do not add up to the denominator";
     case ERYTHMODA_TITLE_NOT_PLAIN: return "the title has more than 242 bytes, a quote, or a byte other than 0x20 to 0x7E";
     case ERYTHMODA_REPORT_INPUT_TOO_LONG: return "the report's input has more than 65536 bytes";
     default: return "unknown number";
@@ -170,6 +173,43 @@ uint32_t erythmoda_check(const uint8_t *file, size_t file_len,
 uint32_t erythmoda_look(const int64_t description[11], const int64_t *table, size_t table_len,
                         uint32_t raw_bits, uint32_t corrected_bits, const uint16_t pixel[3],
                         uint16_t codes[3], uint32_t rows[6], int64_t weights[6]);
+
+/* The first half of a look: the rows of the table that make one pixel's codes, and their weights.
+ *
+ * `pixel` has codes of `raw_bits`; no corrected depth plays a part. `rows` and `weights` are those that erythmoda_look shows,
+ * at the same places: in 1D 2c and 2c + 1 for colour c, in 3D 0 to 3, and 4 and 5 are zero. They can be kept, and
+ * erythmoda_codes makes the codes of them later. With known depths the two calls, one after the other, give the codes, or the
+ * refusal, that erythmoda_look gives.
+ *
+ * Refused: the answer is 24, 20 or 23, tried in that order, and all rows and weights are zero. 20 is for `raw_bits`, 23 for a
+ * code above their M. So where `corrected_bits` are unknown and a code is above the raw M, erythmoda_look answers 20 and this
+ * call 23. Places 8 to 10 of `description` change no answer. */
+uint32_t erythmoda_rows(const int64_t description[11], const int64_t *table, size_t table_len,
+                        uint32_t raw_bits, const uint16_t pixel[3], uint32_t rows[6], int64_t weights[6]);
+
+/* The second half of a look: the codes of rows and weights, which may be those that erythmoda_rows found, or any others that
+ * keep these rules, for each colour in 1D and for the pixel in 3D:
+ *
+ *   - a row number is below the count of rows: N in 1D, N*N*N in 3D. One that is not is refused also where its weight is 0,
+ *     and however long the table is;
+ *   - no weight is negative;
+ *   - the weights add up to the denominator, which is what those of erythmoda_look add up to: in 1D, for each colour by
+ *     itself, the raw M times the width of its own domain in thousandths; in 3D, for the four, the raw M times the width of
+ *     the one domain in thousandths, or, where the domains differ, the raw M times the product of the three widths in whole
+ *     units. So it goes by `raw_bits`, which have to be those that the weights were found with.
+ *
+ * How the rows lie to one another is not asked, nor are equal ones refused. In 3D places 4 and 5 of `rows` and `weights` are
+ * not judged, whatever they hold, and change no answer. Any 64-bit numbers may be handed in: no sum wraps.
+ *
+ * Accepted: `codes` has, for each colour, the code of `corrected_bits` that is nearest to the corrected M times the exact
+ * value of these weights and samples, as for a look. It lies between the codes that the rows with a weight above 0 give each
+ * by itself.
+ *
+ * Refused: the answer is 24, 20 or 26, tried in that order, and all codes are zero. 20 is for either depth, the raw one tried
+ * first; 26 is for rows or weights that do not keep the rules above. Places 8 to 10 of `description` change no answer. */
+uint32_t erythmoda_codes(const int64_t description[11], const int64_t *table, size_t table_len,
+                         uint32_t raw_bits, uint32_t corrected_bits,
+                         const uint32_t rows[6], const int64_t weights[6], uint16_t codes[3]);
 
 /* Corrects a run of pixels, each to the codes that erythmoda_look gives for it at the same two depths: `src` has codes of
  * `raw_bits`, and `dst` gets codes of `corrected_bits`.

@@ -4,6 +4,8 @@
     table.look(8, (51, 102, 204))       # codes, and the rows and weights that made them
     table.picture(8, array("H", [51, 102, 204, 255, 255, 255]))
     table.picture(12, array("H", [819, 1638, 3276]), corrected_bits=16)
+    found = table.rows(8, (51, 102, 204))       # a look by halves: rows and weights, to be kept,
+    table.codes(8, *found, corrected_bits=16)   # and their codes
     open("new.cube", "wb").write(table.write())
 
 What the library refuses raises `Refused`. A wrong argument raises TypeError or ValueError before anything is called.
@@ -22,8 +24,8 @@ from ctypes import POINTER, byref, c_int64, c_size_t, c_uint8, c_uint16, c_uint3
 from pathlib import Path
 from typing import NamedTuple, Optional, Tuple
 
-__version__ = "1.2.0"
-__all__ = ["Description", "Look", "Refused", "Table", "WORDS", "check", "read"]
+__version__ = "1.3.0"
+__all__ = ["Description", "Look", "Refused", "Rows", "Table", "WORDS", "check", "read"]
 
 WORDS = {
     1: "a line over 250 bytes",
@@ -50,6 +52,7 @@ WORDS = {
     22: "the output is shorter than the picture",
     23: "a raw code is above the raw depth's M",
     24: "reading could not have given this description and this table",
+    26: "a row number not below the count of rows, a negative weight, or weights that do not add up to the denominator",
     27: "the title has more than 242 bytes, a quote, or a byte other than 0x20 to 0x7E",
 }
 
@@ -95,6 +98,13 @@ class Look(NamedTuple):
     weights: Tuple[int, ...]
 
 
+class Rows(NamedTuple):
+    """Six rows and weights, as a `Look` has them."""
+
+    rows: Tuple[int, ...]
+    weights: Tuple[int, ...]
+
+
 class Table:
     """A colour table: `kind`, `n`, `domain` and `title` as `Description` has them, and its `samples`.
 
@@ -124,6 +134,30 @@ class Table:
         if number:
             raise Refused(number)
         return Look(tuple(codes), tuple(rows), tuple(weights))
+
+    def rows(self, bits, pixel):
+        """Finds the rows and weights of one pixel, three codes of `bits` bits: the first half of a look, a `Rows`."""
+        raw = _three_codes(pixel)
+        rows, weights = (c_uint32 * 6)(), (c_int64 * 6)()
+        number = _library.erythmoda_rows(*self._lent(), _depth(bits), raw, rows, weights)
+        if number:
+            raise Refused(number)
+        return Rows(tuple(rows), tuple(weights))
+
+    def codes(self, bits, rows, weights, *, corrected_bits=None):
+        """Gives the three codes of six rows and six weights: the second half of a look.
+
+        `bits` is the depth of the raw codes that the weights were found with; the codes are of `corrected_bits`, or of as
+        many bits without them. Rows and weights may be those that `rows` found, or any others: row numbers below the count
+        of rows, also where the weight is 0, and weights that are not negative and add up as those of a `Look` do. Others are
+        refused as 26. In 3D the last two of each are not judged, but numbers of 32 and 64 bits they have to be.
+        """
+        lent = _six(rows, _ROWS, "rows"), _six(weights, _WEIGHTS, "weights")
+        codes = (c_uint16 * 3)()
+        number = _library.erythmoda_codes(*self._lent(), *_depths(bits, corrected_bits), *lent, codes)
+        if number:
+            raise Refused(number)
+        return tuple(codes)
 
     def picture(self, bits, source, output=None, *, corrected_bits=None):
         """Corrects the pixels of `source` into `output`, and gives the output back; without one, a new array("H").
@@ -272,6 +306,23 @@ def _three_codes(pixel):
     return (c_uint16 * 3).from_buffer(codes)
 
 
+# the type of a row number and of a weight, the letter of an array of them, and what they are
+_ROWS = (c_uint32, "I", "from 0 to 4294967295")
+_WEIGHTS = (c_int64, "q", "of 64 bits with their sign")
+
+
+def _six(numbers, wanted, what):
+    place, letter, limits = wanted
+    numbers = list(numbers)
+    try:
+        six = array(letter, numbers)
+    except OverflowError:
+        raise ValueError(f"{what} are numbers {limits}, and these are {numbers}") from None
+    if len(six) != 6:
+        raise ValueError(f"there are six {what}, and these are {len(six)}")
+    return (place * 6).from_buffer(six)
+
+
 def _depths(bits, corrected_bits):
     """The depths of raw and of corrected codes; the second is as the first where it is not given."""
     return _depth(bits), _depth(bits if corrected_bits is None else corrected_bits)
@@ -291,6 +342,8 @@ _TAKES = {
     "erythmoda_check": (POINTER(c_uint8), c_size_t, POINTER(c_int64), POINTER(c_uint64), POINTER(c_uint64)),
     "erythmoda_read": (POINTER(c_uint8), c_size_t, POINTER(c_int64), c_size_t, POINTER(c_int64), POINTER(c_uint64)),
     "erythmoda_look": (*_TABLE, *_DEPTHS, POINTER(c_uint16), POINTER(c_uint16), POINTER(c_uint32), POINTER(c_int64)),
+    "erythmoda_rows": (*_TABLE, c_uint32, POINTER(c_uint16), POINTER(c_uint32), POINTER(c_int64)),
+    "erythmoda_codes": (*_TABLE, *_DEPTHS, POINTER(c_uint32), POINTER(c_int64), POINTER(c_uint16)),
     "erythmoda_picture": (*_TABLE, *_DEPTHS, POINTER(c_uint16), c_size_t, POINTER(c_uint16), c_size_t),
     "erythmoda_write": (*_TABLE, POINTER(c_uint8), c_size_t, POINTER(c_uint8), c_size_t, POINTER(c_uint64)),
 }

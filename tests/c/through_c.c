@@ -1,6 +1,6 @@
-/* The five calls from C: document 01's 3D file is judged, read, looked at and applied, with one domain and with mixed ones, and
- * written; every answer is compared, and so is everything lent that a call may not change; then the header's words and version.
- * Prints what is wrong, and exits 1 if anything is. */
+/* The seven calls from C: document 01's 3D file is judged, read, looked at, at once and by halves, and applied, with one domain
+ * and with mixed ones, and written; every answer is compared, and so is everything lent that a call may not change; then the
+ * header's words and version. Prints what is wrong, and exits 1 if anything is. */
 #include <stdio.h>
 #include <stdlib.h>
 #include <string.h>
@@ -227,6 +227,115 @@ static void refused_look(const struct colour_table *table) {
     expect_look(table, 8, 16, above, ERYTHMODA_CODE_ABOVE_M, &zeros, "looking from 8 bits to 16 at the code 256");
 }
 
+/* The first half of a look. */
+static void expect_rows(const struct colour_table *table, uint32_t raw_bits, const uint16_t pixel[3], enum erythmoda_number number,
+                        const uint32_t rows[6], const int64_t weights[6], const char *what) {
+    struct looked seen = kept_look();
+    uint32_t answer = erythmoda_rows(table->description, table->samples, ROW_PLACES, raw_bits, pixel, seen.rows, seen.weights);
+    expect_number(answer, number, what);
+    expect(memcmp(seen.rows, rows, sizeof seen.rows) == 0 && memcmp(seen.weights, weights, sizeof seen.weights) == 0, what);
+}
+
+/* The second half, and that it changes neither rows nor weights. */
+static void expect_codes(const struct colour_table *table, uint32_t raw_bits, uint32_t corrected_bits, const uint32_t rows[6],
+                         const int64_t weights[6], enum erythmoda_number number, uint16_t code, const char *what) {
+    struct looked seen = kept_look(), lent = kept_look();
+    uint32_t answer;
+    memcpy(lent.rows, rows, sizeof lent.rows);
+    memcpy(lent.weights, weights, sizeof lent.weights);
+    answer = erythmoda_codes(table->description, table->samples, TABLE_PLACES, raw_bits, corrected_bits, lent.rows, lent.weights,
+                             seen.codes);
+    expect_number(answer, number, what);
+    expect(seen.codes[0] == code && seen.codes[1] == code && seen.codes[2] == code, what);
+    expect(memcmp(lent.rows, rows, sizeof lent.rows) == 0 && memcmp(lent.weights, weights, sizeof lent.weights) == 0, what);
+}
+
+static const uint32_t NO_ROWS[6] = {0, 0, 0, 0, 0, 0}, ROWS_MET[6] = {0, 4, 6, 7, 0, 0};
+static const int64_t NO_WEIGHTS[6] = {0, 0, 0, 0, 0, 0}, WEIGHTS_OF_8[6] = {51000, 102000, 51000, 51000, 0, 0};
+
+static void halves(const struct colour_table *table) {
+    static const uint16_t pixel[3] = {51, 102, 204}, above[3] = {0, 0, 256};
+    static const uint32_t any_rows[6] = {7, 0, 0, 7, 8, UINT32_MAX};
+    static const int64_t any_weights[6] = {51000, 204000, 0, 0, INT64_MIN, INT64_MAX}, of_mixed[6] = {102, 204, 153, 51, 0, 0};
+    struct colour_table mixed, unsound;
+    memcpy(&mixed, table, sizeof mixed);
+    mixed.description[5] = 2000;
+    memcpy(&unsound, table, sizeof unsound);
+    unsound.description[0] = 2;
+    expect_rows(table, 8, pixel, ERYTHMODA_ACCEPTED, ROWS_MET, WEIGHTS_OF_8, "the rows of 51 102 204");
+    expect_rows(&mixed, 8, pixel, ERYTHMODA_ACCEPTED, ROWS_MET, of_mixed, "the rows of 51 102 204 through mixed domains");
+    expect_rows(&unsound, 9, above, ERYTHMODA_COULD_NOT_BE_READ, NO_ROWS, NO_WEIGHTS, "rows of a table of no kind");
+    expect_rows(table, 9, above, ERYTHMODA_DEPTH_UNKNOWN, NO_ROWS, NO_WEIGHTS, "rows at 9 bits");
+    expect_rows(table, 8, above, ERYTHMODA_CODE_ABOVE_M, NO_ROWS, NO_WEIGHTS, "rows of the code 256");
+    expect_codes(table, 8, 8, ROWS_MET, WEIGHTS_OF_8, ERYTHMODA_ACCEPTED, 51, "the codes of those rows");
+    expect_codes(table, 8, 16, ROWS_MET, WEIGHTS_OF_8, ERYTHMODA_ACCEPTED, 13107, "the codes of those rows at 16 bits");
+    expect_codes(&mixed, 8, 16, ROWS_MET, of_mixed, ERYTHMODA_ACCEPTED, 6554, "the codes of rows through mixed domains");
+    expect_codes(table, 8, 8, any_rows, any_weights, ERYTHMODA_ACCEPTED, 51, "the codes of any rows and last places");
+}
+
+static void expect_no_codes(const struct colour_table *table, uint32_t raw_bits, uint32_t corrected_bits, const uint32_t rows[6],
+                            const int64_t weights[6], enum erythmoda_number number, const char *what) {
+    expect_codes(table, raw_bits, corrected_bits, rows, weights, number, 0, what);
+}
+
+/* Each refusal, and those before it where several are due; 26 by each of the four places. */
+static void refused_codes(const struct colour_table *table) {
+    static const int64_t wraps[6] = {INT64_MAX, INT64_MAX, 2, 255000, 0, 0}, of_16[6] = {65535000, 0, 0, 0, 0, 0};
+    static const int64_t ends[2] = {INT64_MIN, INT64_MAX};
+    struct colour_table unsound;
+    uint32_t rows[6];
+    int64_t weights[6];
+    size_t at, end;
+    memcpy(&unsound, table, sizeof unsound);
+    unsound.description[0] = 2;
+    for (at = 0; at < 4; at++) {
+        memcpy(rows, ROWS_MET, sizeof rows);
+        rows[at] = 8;
+        expect_no_codes(&unsound, 9, 9, rows, WEIGHTS_OF_8, ERYTHMODA_COULD_NOT_BE_READ, "codes of a table of no kind");
+        expect_no_codes(table, 9, 8, rows, WEIGHTS_OF_8, ERYTHMODA_DEPTH_UNKNOWN, "codes from 9 bits to 8");
+        expect_no_codes(table, 8, 9, rows, WEIGHTS_OF_8, ERYTHMODA_DEPTH_UNKNOWN, "codes from 8 bits to 9");
+        expect_no_codes(table, 8, 8, rows, WEIGHTS_OF_8, ERYTHMODA_ROWS_OR_WEIGHTS_WRONG, "codes of row 8 of eight rows");
+        rows[at] = UINT32_MAX;
+        fill(weights, 6, 0);
+        weights[(at + 1) % 4] = 255000;
+        expect_no_codes(table, 8, 8, rows, weights, ERYTHMODA_ROWS_OR_WEIGHTS_WRONG, "codes of the greatest row without weight");
+        weights[at] = -1;
+        weights[(at + 1) % 4] = 255001;
+        expect_no_codes(table, 8, 8, ROWS_MET, weights, ERYTHMODA_ROWS_OR_WEIGHTS_WRONG, "codes of a negative weight");
+        weights[at] = 0;
+        expect_no_codes(table, 8, 8, ROWS_MET, weights, ERYTHMODA_ROWS_OR_WEIGHTS_WRONG, "codes of weights one too many");
+        weights[(at + 1) % 4] = 254999;
+        expect_no_codes(table, 8, 8, ROWS_MET, weights, ERYTHMODA_ROWS_OR_WEIGHTS_WRONG, "codes of weights one too few");
+        for (end = 0; end < 2; end++) {
+            memcpy(weights, WEIGHTS_OF_8, sizeof weights);
+            weights[at] = ends[end];
+            expect_no_codes(table, 8, 8, ROWS_MET, weights, ERYTHMODA_ROWS_OR_WEIGHTS_WRONG, "codes of a weight at an end");
+            fill(weights, 6, ends[end]);
+            expect_no_codes(table, 8, 8, ROWS_MET, weights, ERYTHMODA_ROWS_OR_WEIGHTS_WRONG, "codes of weights at an end");
+        }
+    }
+    expect_no_codes(table, 8, 8, ROWS_MET, wraps, ERYTHMODA_ROWS_OR_WEIGHTS_WRONG, "codes of a sum that wraps");
+    expect_no_codes(table, 8, 16, ROWS_MET, of_16, ERYTHMODA_ROWS_OR_WEIGHTS_WRONG, "codes of weights at another depth");
+}
+
+/* In 1D each colour has two places and a denominator of its own. */
+static void codes_of_lines(void) {
+    static const int64_t description[ERYTHMODA_DESCRIPTION_PLACES] = {1, 2, 0, 0, 0, 1000, 2000, 3000, 0, 0, 0};
+    static const int64_t samples[6] = {0, 0, 0, 10000000, 10000000, 10000000};
+    static const uint16_t pixel[3] = {102, 204, 0};
+    static const uint32_t rows[6] = {0, 1, 0, 1, 0, 1}, right[6] = {0, 1, 1, 0, 0, 1};
+    static const int64_t weights[6] = {153000, 102000, 306000, 204000, 765000, 0};
+    static const int64_t fifths[6] = {153000, 102000, 204000, 306000, 459000, 306000};
+    static const int64_t swapped[6] = {204000, 306000, 153000, 102000, 459000, 306000};
+    struct colour_table table;
+    memcpy(table.description, description, sizeof description);
+    fill(table.samples, TABLE_PLACES, 0);
+    memcpy(table.samples, samples, sizeof samples);
+    expect_rows(&table, 8, pixel, ERYTHMODA_ACCEPTED, rows, weights, "the rows of 102 204 0 in 1D");
+    expect_codes(&table, 8, 8, right, fifths, ERYTHMODA_ACCEPTED, 102, "codes of two fifths in 1D");
+    expect_no_codes(&table, 8, 8, right, swapped, ERYTHMODA_ROWS_OR_WEIGHTS_WRONG, "codes of another colour's weights");
+}
+
 #define OUTPUT_PLACES 8
 
 /* Corrects into the first `dst_len` of the output's places, and compares all of them afterwards. */
@@ -428,8 +537,8 @@ static void written_and_read(const struct colour_table *table) {
     expect(same_length == length && memcmp(same, text, (size_t)length) == 0, "it is the same text");
 }
 
-/* Document 01 uses the numbers 0 to 18, 20 to 24 and 30, and document 02 adds 19 and 27. */
-static int is_used(uint32_t number) { return number <= 24 || number == 27 || number == 30; }
+/* Document 01 uses the numbers 0 to 18, 20 to 24 and 30, and document 02 adds 19, 26 and 27. */
+static int is_used(uint32_t number) { return number <= 24 || number == 26 || number == 27 || number == 30; }
 
 static void words(void) {
     uint32_t number;
@@ -461,6 +570,9 @@ int main(void) {
     refused_check();
     look(&table);
     refused_look(&table);
+    halves(&table);
+    refused_codes(&table);
+    codes_of_lines();
     picture(&table);
     refused_picture(&table);
     mixed_domains();
@@ -469,7 +581,7 @@ int main(void) {
     written_numbers();
     refused_write(&table);
     written_and_read(&table);
-    expect(memcmp(&before, &table, sizeof table) == 0, "look, picture and write change neither description nor table");
+    expect(memcmp(&before, &table, sizeof table) == 0, "look, its halves, picture and write change neither description nor table");
     words();
     version();
     if (!wrong) puts("every answer through C is as it should be");

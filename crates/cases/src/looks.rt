@@ -2,11 +2,11 @@
 use crate::print;
 use erythmoda::erythmoda_look;
 
-fn show_codes(codes: &[u16; 3]) {
+pub(crate) fn show_codes(codes: &[u16; 3]) {
     print::codes(codes);
 }
 
-fn show_rows(rows: &[u32; 6]) {
+pub(crate) fn show_rows(rows: &[u32; 6]) {
     print::row(rows[0]);
     print::row(rows[1]);
     print::row(rows[2]);
@@ -15,7 +15,7 @@ fn show_rows(rows: &[u32; 6]) {
     print::row(rows[5]);
 }
 
-fn show_weights(weights: &[i64; 6]) {
+pub(crate) fn show_weights(weights: &[i64; 6]) {
     print::numbers(weights);
 }
 

@@ -2,6 +2,7 @@
 // One line for each: its name, then all that the call answered and left in lent memory, parted by tabs.
 // tests/second/src/cases.rs has the format, and prints the same bytes by other means.
 mod checks;
+mod halves;
 mod longest;
 mod looks;
 mod mixed;
@@ -22,4 +23,5 @@ fn main() {
     checks::run();
     mixed::run();
     writes::run();
+    halves::run();
 }

@@ -18,16 +18,21 @@ pub(crate) fn through(
     print::raw(b"\n");
 }
 
-// Through document 01's 3D file.
-fn into(name: &[u8], raw_bits: u32, corrected_bits: u32, src: &[u16], dst: &mut [u16]) {
-    let mut table = [0i64; 24];
+// The numbers of document 01's 3D file.
+pub(crate) fn cube() -> [i64; 24] {
+    let mut table = [0; 24];
     table[21] = 10_000_000;
     table[22] = 10_000_000;
     table[23] = 10_000_000;
+    table
+}
+
+// Through that file.
+fn into(name: &[u8], raw_bits: u32, corrected_bits: u32, src: &[u16], dst: &mut [u16]) {
     through(
         name,
         &[3, 2, 0, 0, 0, 1000, 1000, 1000, 0, 0, 0],
-        &table,
+        &cube(),
         raw_bits,
         corrected_bits,
         src,

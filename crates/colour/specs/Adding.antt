@@ -4,11 +4,10 @@ use mathlib.Core.Path.{_≡_}
 use mathlib.Core.List.{List, [], _∷_}
 use lib.IntN.{ℤ, pos, natAbs, _+ℤ_, _*ℤ_}
 use lib.ListN.{length, getD}
-use lib.Signed.{_≤ℤ_}
 use Rattle.whole.specs.Nearest.{weights}
 use Rattle.whole.specs.Reciprocals.{divisorOf}
 use Rattle.rules.specs.Units.{sampleLimit, colourPlace, sampleAt}
-use Rattle.rules.specs.Looking.Interpolation.{weighed, total, denominator}
+use Rattle.rules.specs.Looking.Interpolation.{total, denominator}
 use Rattle.rules.specs.Demands.{Each}
 use Rattle.rules.specs.declared.Colour.{Colour}
 use Rattle.rules.specs.declared.Colour.the-variants.{Red, Green, Blue}
@@ -60,12 +59,6 @@ pub record SharesFit (table : List ℤ) (ss : List Share) : Type 0 where
 pub record Totalled (table : List ℤ) (c : Colour) (ss : List Share) (z : ℤ) : Type 0 where
   pub is : z ≡ total table c ss
   pub within : natAbs z ≤ carried ss * sampleLimit
-
--- what the second half asks of rows and weights, of a table with so many rows: rows of the table, and weights that are not negative and add up to D
-pub record Weighable (table : List ℤ) (c : Colour) (count den : ℕ) (ss : List Share) : Type 0 where
-  pub in-table : Each (λ s. s .row < count) ss
-  pub not-negative : Each (λ s. pos 0 ≤ℤ s .weight) ss
-  pub add-up : weights (weighed table c ss) ≡ pos den
 
 -- ---- and divided
 

@@ -16,7 +16,7 @@ ghost use lib.IntN.{pos, _*ℤ_};
 ghost use Rattle.whole.specs.Nearest.{code};
 ghost use Rattle.rules.specs.Units.{codeIn};
 ghost use Rattle.rules.specs.Looking.Interpolation.{codeBy};
-ghost use Rattle.rules.specs.Demands.{used};
+ghost use Rattle.rules.specs.Looking.{used};
 ghost use Rattle.colour.specs.Plans.{axisIn};
 ghost use Rattle.colour.specs.Places.{ofPair};
 ghost use Rattle.colour.specs.Adding.{sumIn, SharesFit, Codable, Coded};

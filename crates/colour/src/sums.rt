@@ -10,7 +10,7 @@ ghost use mathlib.Core.Path.{_≡_};
 ghost use Prim.Native.Nat.{_*_, _≤_};
 ghost use lib.IntN.{natAbs};
 ghost use Rattle.rules.specs.Units.{sampleLimit, colourPlace, sampleAt};
-ghost use Rattle.rules.specs.Demands.{used};
+ghost use Rattle.rules.specs.Looking.{used};
 ghost use Rattle.colour.specs.Places.{ofPair};
 ghost use Rattle.colour.specs.Adding.{RowAt, Starts, Room, Added, sumIn, SharesFit, Totalled};
 

@@ -1,9 +1,9 @@
 // What the command says of itself.
 use desk::write;
 
-// As `erythmoda 1.2.0`; tests hold it to the version of the header.
+// As `erythmoda 1.3.0`; tests hold it to the version of the header.
 pub fn version(fd: i32) -> bool {
-    write(fd, b"erythmoda 1.2.0\n")
+    write(fd, b"erythmoda 1.3.0\n")
 }
 
 // What there is, with an example of each.
@@ -20,7 +20,7 @@ pub fn help(fd: i32) -> bool {
         && write(fd, b"erythmoda explain table.cube 8 51 102 204\n")
         && write(
             fd,
-            b"    which rows of the table made a pixel's codes, with which weights, and between which codes they lie\n",
+            b"    which rows of the table made a pixel's codes, with which weights, and between which codes they lie; these as a line to keep, and the codes of one\n",
         )
         && write(fd, b"erythmoda correct table.cube < in.ppm > out.ppm\n")
         && write(

@@ -1,4 +1,4 @@
 -- A number kept at one past its limit; a table of a file's first bytes; how work ends.
 pub mod Ends
-mod Kept
+pub mod Kept
 pub mod WhatIsLoaded

@@ -30,7 +30,7 @@ pub fn number_in(text: &[u8], most: u64) -> Argument
 }
 
 // The argument at a place of the command line; one that is missing, empty or longer than a path is no number.
-pub fn number_at(place: usize, most: u64) -> Argument
+fn number_at(place: usize, most: u64) -> Argument
     requires { ⌜ most ≤ mostLimit ⌝ }
     ensures { λ r. ⌜ UpTo most r ⌝ }
 {

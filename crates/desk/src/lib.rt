@@ -10,7 +10,6 @@ mod reports;
 pub use arguments::Argument;
 pub use arguments::Last;
 pub use arguments::is_word_at;
-pub use arguments::number_at;
 pub use arguments::number_in;
 pub use arguments::option_at;
 pub use failures::say_unread;

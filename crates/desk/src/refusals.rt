@@ -42,6 +42,10 @@ pub fn write_meaning(fd: i32, reason: Refusal) -> bool {
             fd,
             b"description and table that reading could not have given",
         ),
+        Refusal::RowsOrWeightsWrong => write(
+            fd,
+            b"a row number not below the count of rows, a negative weight, or weights that do not add up to the denominator",
+        ),
         Refusal::TitleNotPlain => write(
             fd,
             b"title over 242 bytes, with a quote, or with a byte that is not from space to tilde",
@@ -50,7 +54,7 @@ pub fn write_meaning(fd: i32, reason: Refusal) -> bool {
     }
 }
 
-// One line on standard error, as `explain: refused 20: depth unknown`.
+// One line on standard error, as `erythmoda explain: refused 20: depth unknown`.
 pub fn say_refusal(program: &[u8], reason: Refusal) {
     write(STDERR_FILENO, program);
     write(STDERR_FILENO, b": refused ");

@@ -4,22 +4,27 @@ use mathlib.Core.Path.{_≡_, refl, ap, subst, _∙_}
 use mathlib.Core.List.{List}
 use mathlib.Core.Option.{Option, none, some}
 use lib.IntN.{ℤ}
-use Rattle.rules.specs.Answers.{lookNumber, lookCodes, lookRows, lookWeights, pictureNumber}
-use Rattle.rules.specs.Boundary.{describedIn, pixelIn, lookIn, LooksC, PicturesC}
-use Rattle.rules.specs.Promises.{Looks, Pictures, Writes}
+use Rattle.rules.specs.Answers.{lookNumber, lookCodes, lookRows, lookWeights, firstNumber, firstRows, firstWeights, secondNumber, secondCodes, pictureNumber}
+use Rattle.rules.specs.Boundary.{describedIn, pixelIn, sharesIn, lookIn, firstIn, secondIn, LooksC, FindsRowsC, GivesCodesC, PicturesC}
+use Rattle.rules.specs.Promises.{Looks, FindsRows, GivesCodes, Pictures, Writes}
 use Rattle.rules.specs.declared.Bits.{Bits}
 use Rattle.rules.specs.declared.Codes.{Codes}
 use Rattle.rules.specs.declared.Description.{Description}
+use Rattle.rules.specs.declared.FirstHalf.{FirstHalf}
+use Rattle.rules.specs.declared.FirstHalf.the-variants as F
 use Rattle.rules.specs.declared.Look.{Look}
 use Rattle.rules.specs.declared.Look.the-variants as L
 use Rattle.rules.specs.declared.Picture.{Picture}
 use Rattle.rules.specs.declared.Picture.the-variants as P
 use Rattle.rules.specs.declared.Refusal.the-variants.{CouldNotBeRead}
+use Rattle.rules.specs.declared.SecondHalf.{SecondHalf}
+use Rattle.rules.specs.declared.SecondHalf.the-variants as S
+use Rattle.rules.specs.declared.Shares.{Shares}
 use Rattle.rules.specs.declared.Write.{Write}
 use Rattle.rules.specs.declared.Write.the-variants as W
-use Rattle.rules.proofs.Answers.{looks-is}
-use Rattle.erythmoda.specs.Layout.{crossed, LooksIn, WritesIn}
-use Rattle.erythmoda.specs.declared.layout.DescriptionFound.the-variants.{Known, Unknown}
+use Rattle.rules.proofs.Answers.{looks-is, finds-is, gives-is}
+use Rattle.crossing.specs.Layout.{crossed, LooksIn, FindsRowsIn, GivesCodesIn, WritesIn}
+use Rattle.crossing.specs.declared.layout.DescriptionFound.the-variants.{Known, Unknown}
 
 known : (o : Option Description) (d : Description) → crossed o ≡ Known d → o ≡ some d
 known none d e = cc
@@ -60,6 +65,43 @@ module _ {eleven table : List ℤ} {bits : Bits} where
   picture-unknown e n =
       let missing = unknown (describedIn eleven) e in
       record { number-so = rw missing n; memory = rw missing refl }
+
+-- ---- the halves of a look
+
+module _ {eleven table : List ℤ} where
+  finds-as : {raw : ℕ} {pixel : Codes} {r : FirstHalf} → r ≡ firstIn eleven table raw pixel → FindsRowsIn eleven table raw pixel r
+  finds-as e = record { number = ap firstNumber e; rows = ap firstRows e; weights = ap firstWeights e }
+
+  pub first-known : {raw : ℕ} {pixel : Codes} {d : Description} {r : FirstHalf}
+      → crossed (describedIn eleven) ≡ Known d → FindsRows d table raw pixel r → FindsRowsIn eleven table raw pixel r
+  first-known {d = d} e p = finds-as (rw (known (describedIn eleven) d e) (finds-is p))
+
+  pub first-unknown : {raw : ℕ} {pixel : Codes} → crossed (describedIn eleven) ≡ Unknown → FindsRowsIn eleven table raw pixel (F.Refused CouldNotBeRead)
+  first-unknown e = finds-as (rw (unknown (describedIn eleven) e))
+
+  pub first-laid : {raw : ℕ} {pixel : List ℕ} {p : Codes} {r : FirstHalf} {number : ℕ} {rows : List ℕ} {weights : List ℤ}
+      → p ≡ pixelIn pixel → FindsRowsIn eleven table raw p r → number ≡ firstNumber r → rows ≡ firstRows r → weights ≡ firstWeights r
+      → FindsRowsC eleven table raw pixel number rows weights
+  first-laid {raw = raw} {r = r} e l n s w =
+      let found = subst (λ (q : Codes). FindsRowsIn eleven table raw q r) e l in
+      record { number-so = n ∙ found .number; rows-so = s ∙ found .rows; weights-so = w ∙ found .weights }
+
+  gives-as : {bits : Bits} {shares : Shares} {r : SecondHalf} → r ≡ secondIn eleven table bits shares → GivesCodesIn eleven table bits shares r
+  gives-as e = record { number = ap secondNumber e; codes = ap secondCodes e }
+
+  pub second-known : {bits : Bits} {shares : Shares} {d : Description} {r : SecondHalf}
+      → crossed (describedIn eleven) ≡ Known d → GivesCodes d table bits shares r → GivesCodesIn eleven table bits shares r
+  second-known {d = d} e p = gives-as (rw (known (describedIn eleven) d e) (gives-is p))
+
+  pub second-unknown : {bits : Bits} {shares : Shares} → crossed (describedIn eleven) ≡ Unknown → GivesCodesIn eleven table bits shares (S.Refused CouldNotBeRead)
+  second-unknown e = gives-as (rw (unknown (describedIn eleven) e))
+
+  pub second-laid : {bits : Bits} {rows : List ℕ} {weights : List ℤ} {shares : Shares} {r : SecondHalf} {number : ℕ} {codes : List ℕ}
+      → shares ≡ sharesIn rows weights → GivesCodesIn eleven table bits shares r → number ≡ secondNumber r → codes ≡ secondCodes r
+      → GivesCodesC eleven table bits rows weights number codes
+  second-laid {bits = bits} {r = r} e l n c =
+      let given = subst (λ (q : Shares). GivesCodesIn eleven table bits q r) e l in
+      record { number-so = n ∙ given .number; codes-so = c ∙ given .codes }
 
 -- ---- writing
 

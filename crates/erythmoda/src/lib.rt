@@ -1,38 +1,45 @@
 // The C boundary: what loggers link. Each call asks the proved call behind it and lays the answer out in lent memory.
-use answers::description_of;
-use answers::look_codes;
-use answers::look_number;
-use answers::look_shares;
-use answers::picture_number;
-use answers::places_needed;
-use answers::read_line;
-use answers::read_number;
-use answers::write_number;
-use answers::written_length;
-use colour::look;
-use layout::DescriptionFound;
-use layout::codes_laid;
-use layout::described;
-use layout::eleven_of;
-use layout::pixel_of;
-use layout::rows_laid;
-use layout::weights_laid;
+use crossing::DescriptionFound;
+use crossing::codes_laid;
+use crossing::described;
+use crossing::description_of;
+use crossing::eleven_of;
+use crossing::first_number;
+use crossing::first_shares;
+use crossing::look_codes;
+use crossing::look_number;
+use crossing::look_shares;
+use crossing::picture_number;
+use crossing::pixel_of;
+use crossing::places_needed;
+use crossing::read_line;
+use crossing::read_number;
+use crossing::rows_laid;
+use crossing::second_codes;
+use crossing::second_number;
+use crossing::shares_in;
+use crossing::weights_laid;
+use crossing::write_number;
+use crossing::written_length;
+use halves::first_half;
+use halves::look;
+use halves::second_half;
 use picture::picture;
 use reading::check;
 use reading::read;
 use rules::Bits;
 use rules::Codes;
+use rules::FirstHalf;
 use rules::Look;
 use rules::Picture;
 use rules::Refusal;
+use rules::SecondHalf;
+use rules::Shares;
 use rules::Write;
 use writing::write;
 ghost use Rattle.rules.specs.Units.{bitsOf};
-ghost use Rattle.rules.specs.Boundary.{ReadsC, ChecksC, LooksC, PicturesC, WritesC};
-ghost use Rattle.erythmoda.specs.Layout.{LooksIn, WritesIn};
-
-mod answers;
-mod layout;
+ghost use Rattle.rules.specs.Boundary.{ReadsC, ChecksC, LooksC, FindsRowsC, GivesCodesC, PicturesC, WritesC};
+ghost use Rattle.crossing.specs.Layout.{LooksIn, FindsRowsIn, GivesCodesIn, WritesIn};
 
 // Reads a file into the lent table; the description as eleven numbers, and the line of a refusal.
 #[no_mangle]
@@ -98,6 +105,64 @@ pub extern "C" fn erythmoda_look(
     *rows = rows_laid(shares);
     *weights = weights_laid(shares);
     look_number(answer)
+}
+
+// The first half, of a description as eleven numbers.
+fn rows_in(description: &[i64; 11], table: &[i64], raw: u32, pixel: Codes) -> FirstHalf
+    ensures { λ r. ⌜ FindsRowsIn (now (description .entry)) (now (table .entry)) raw pixel r ⌝ }
+{
+    let DescriptionFound::Known(d) = described(description) else {
+        return FirstHalf::Refused(Refusal::CouldNotBeRead);
+    };
+    first_half(d, table, raw, pixel)
+}
+
+// One pixel to six rows and weights: the first half of a look.
+#[no_mangle]
+pub extern "C" fn erythmoda_rows(
+    description: &[i64; 11],
+    table: &[i64],
+    raw: u32,
+    pixel: &[u16; 3],
+    rows: &mut [u32; 6],
+    weights: &mut [i64; 6],
+) -> u32
+    ensures { λ r. ⌜ FindsRowsC (now (description .entry)) (now (table .entry)) raw (now (pixel .entry)) r (now (rows .exit)) (now (weights .exit)) ⌝ }
+{
+    let answer = rows_in(description, table, raw, pixel_of(pixel));
+    let shares = first_shares(answer);
+    *rows = rows_laid(shares);
+    *weights = weights_laid(shares);
+    first_number(answer)
+}
+
+// The second half, of a description as eleven numbers.
+fn codes_in(description: &[i64; 11], table: &[i64], bits: Bits, shares: Shares) -> SecondHalf
+    ensures { λ r. ⌜ GivesCodesIn (now (description .entry)) (now (table .entry)) bits shares r ⌝ }
+{
+    let DescriptionFound::Known(d) = described(description) else {
+        return SecondHalf::Refused(Refusal::CouldNotBeRead);
+    };
+    second_half(d, table, bits, shares)
+}
+
+// Six rows and weights to three corrected codes: the second half of a look.
+#[no_mangle]
+pub extern "C" fn erythmoda_codes(
+    description: &[i64; 11],
+    table: &[i64],
+    raw: u32,
+    corrected: u32,
+    rows: &[u32; 6],
+    weights: &[i64; 6],
+    codes: &mut [u16; 3],
+) -> u32
+    ensures { λ r. ⌜ GivesCodesC (now (description .entry)) (now (table .entry)) (bitsOf raw corrected) (now (rows .entry)) (now (weights .entry)) r (now (codes .exit)) ⌝ }
+{
+    let bits = Bits { raw, corrected };
+    let answer = codes_in(description, table, bits, shares_in(rows, weights));
+    *codes = codes_laid(second_codes(answer));
+    second_number(answer)
 }
 
 // A run of pixels to corrected codes.

@@ -8,10 +8,12 @@ use lib.IntN.{ℤ, pos}
 use lib.Signed.{_<ℤ_, ltZ}
 use Rattle.whole.proofs.Held.{true-by}
 use Rattle.rules.specs.Units.{depthsOf, rawM, correctedM, codeIn}
+use Rattle.rules.specs.Descriptions.{rows}
 use Rattle.rules.specs.Looking.Interpolation.{denOf, rowCode}
 use Rattle.rules.specs.Answers.{lookNumber}
 use Rattle.rules.specs.Promises.{Looks}
-use Rattle.rules.specs.Demands.{used, Carried, LookRight, AllRight}
+use Rattle.rules.specs.Looking.{used}
+use Rattle.rules.specs.Demands.{Carried, Right, LookRight, AllRight}
 use Rattle.rules.specs.declared.Bits.{Bits}
 use Rattle.rules.specs.declared.Codes.{Codes}
 use Rattle.rules.specs.declared.Colour.{Colour}
@@ -67,12 +69,11 @@ module _ (codeOf : ℕ → ℕ) (m : ℕ) where
       let w = wider s (spanOf codeOf m ss) in
       (λ p. omega (arith, w .own-high (carrying s p)), greatest-above a ss (omega (arith, w .higher)))
 
-right-between : (d : Description) (table : List ℤ) (depths : Depths) (pixel codes : Codes) (shares : Shares) (c : Colour) → LookRight d table depths pixel codes shares c
-    → let span = shownSpan d table depths shares c in (span .least ≤ codeIn codes c) × (codeIn codes c ≤ span .greatest)
-right-between d table depths pixel codes shares c r =
-    let m = correctedM depths in
-    let f = rowCode m (denOf d (rawM depths) c) table c in
-    let ss = used (d .kind) c shares in
+-- a code that is right lies between
+pub right-between : (table : List ℤ) (c : Colour) (count den m : ℕ) {Value : ℤ → Type 0} {Rule : List Share → Type 0} (ss : List Share) {code : ℕ}
+    → Right table c count den m Value Rule ss code → let span = spanOf (rowCode m den table c) m ss in (span .least ≤ code) × (code ≤ span .greatest)
+right-between table c count den m ss r =
+    let f = rowCode m den table c in
     (r .above _ (least-below f m _ ss (omega arith)), r .below _ (greatest-above f m _ ss (omega arith)))
 
 -- ---- of a look that is accepted
@@ -109,4 +110,4 @@ module _ {d : Description} {table : List ℤ} {bits : Bits} {pixel : Codes} {r :
 
   -- no colour's code lies outside the codes that are shown beside it
   pub code-between : (c : Colour) → let span = shownSpan d table depths shares c in (span .least ≤ codeIn codes c) × (codeIn codes c ≤ span .greatest)
-  code-between c = right-between d table depths pixel codes shares c (right c)
+  code-between c = right-between table c (rows d) (denOf d (rawM depths) c) (correctedM depths) (used (d .kind) c shares) (right c)

@@ -1,16 +1,15 @@
 -- A colour's rows as the code keeps them, and the span of their codes: the two that carry nothing in 1D change no span.
-use Prim.Native.Nat.{ℕ, _*_, _≤_, _<_, min, max}
+use Prim.Native.Nat.{ℕ, _*_, _<_, min, max}
 use mathlib.Core.Path.{_≡_, refl, ap, ap₂, sym, subst, _∙_}
 use mathlib.Core.Bool.{true, false}
-use mathlib.Core.List.{List, [], _∷_}
+use mathlib.Core.List.{List}
 use native.Mathlib.Nat.{mul-pos}
-use native.Mathlib.Omega.{arith}
-use borrow.Author.Tests.{le-leb}
 use lib.IntN.{ℤ}
-use Rattle.rules.specs.Units.{rawM, correctedM, rowsOf, inRange}
+use Rattle.rules.specs.Units.{rawM, correctedM, inRange}
 use Rattle.rules.specs.Descriptions.{rows, Sound}
 use Rattle.rules.specs.Looking.Interpolation.{denOf, rowCode}
-use Rattle.rules.specs.Demands.{used, Each}
+use Rattle.rules.specs.Looking.{used}
+use Rattle.rules.specs.Demands.{Each}
 use Rattle.rules.specs.declared.Colour.{Colour}
 use Rattle.rules.specs.declared.Colour.the-variants.{Red, Green, Blue}
 use Rattle.rules.specs.declared.Depths.{Depths}
@@ -19,17 +18,14 @@ use Rattle.rules.specs.declared.Kind.{Kind}
 use Rattle.rules.specs.declared.Kind.the-variants.{OneD, ThreeD}
 use Rattle.rules.specs.declared.Share.{Share}
 use Rattle.rules.specs.declared.Shares.{Shares}
-use Rattle.rules.proofs.Tests.{both-and}
-use Rattle.rules.proofs.Sound.{sound-of}
+use Rattle.rules.proofs.Sound.{sound-of, sound-range, sound-rows}
 use Rattle.rules.proofs.Looking.Spans.{span-some}
 use Rattle.colour.specs.Adding.{RowAt}
-use Rattle.colour.proofs.Weighing.{row-stands}
-use Rattle.explain.specs.declared.rows.Four.{Four}
+use Rattle.colour.proofs.Weighing.{row-stands, rows-stand}
+use Rattle.halves.specs.Listed.{listed, fourOf}
+use Rattle.halves.specs.declared.fours.Four.{Four}
 use Rattle.explain.specs.declared.rows.Span.{Span}
-use Rattle.explain.specs.Spans.{carries, widened, spanOf, shownSpan, listed, fourOf, Seen}
-
-pub four-for : {k kind : Kind} {x c : Colour} (shares : Shares) → kind ≡ k → c ≡ x → fourOf k x shares ≡ fourOf kind c shares
-four-for shares e f = ap₂ (λ a b. fourOf a b shares) (sym e) (sym f)
+use Rattle.explain.specs.Spans.{carries, widened, spanOf, shownSpan, Seen}
 
 pub four-spans : (codeOf : ℕ → ℕ) (m : ℕ) (k : Kind) (c : Colour) (shares : Shares) → spanOf codeOf m (fourOf k c shares) ≡ spanOf codeOf m (used k c shares)
 unfolding spanOf widened carries
@@ -57,19 +53,11 @@ module _ {d : Description} {table : List ℤ} {depths : Depths} {shares : Shares
   abbrev sound : Sound d table
   sound = sound-of d table (seen .could)
 
-  stand-all : (ss : List Share) → Each (λ s. s .row < rows d) ss → Each (λ s. RowAt table (3 * s .row)) ss
-  stand-all [] h = tt
-  stand-all (s ∷ ss) h = (row-stands d table sound (s .row) (h .0), stand-all ss (h .1))
-
   first-row : RowAt table 0
-  first-row = row-stands d table sound 0 (rows-there (d .kind) (d .n) (sound .least))
-    where
-      rows-there : (k : Kind) (n : ℕ) → 2 ≤ n → 0 < rowsOf k n
-      rows-there OneD n h = omega arith
-      rows-there ThreeD n h = mul-pos (mul-pos (omega arith) (omega arith)) (omega arith)
+  first-row = row-stands d table sound 0 (sound-rows d table sound)
 
   pub four-stand : (k : Kind) → d .kind ≡ k → (c : Colour) → Each (λ s. RowAt table (3 * s .row)) (fourOf k c shares)
-  four-stand k e c = by k c (stand-all (used k c shares) (subst (λ x. Each (λ s. s .row < rows d) (used x c shares)) e (seen .in-table c)))
+  four-stand k e c = by k c (rows-stand d table sound (used k c shares) (subst (λ x. Each (λ s. s .row < rows d) (used x c shares)) e (seen .in-table c)))
     where
       by : (k : Kind) (c : Colour) → Each (λ s. RowAt table (3 * s .row)) (used k c shares) → Each (λ s. RowAt table (3 * s .row)) (fourOf k c shares)
       by ThreeD c h = h
@@ -78,7 +66,7 @@ module _ {d : Description} {table : List ℤ} {depths : Depths} {shares : Shares
       by OneD Blue h = (h .0, (h .1 .0, (first-row, (first-row, tt))))
 
   pub in-range : inRange (d .kind) (d .n) ≡ true
-  in-range = both-and _ _ (le-leb _ _ (sound .least)) (le-leb _ _ (sound .most))
+  in-range = sound-range d table sound
 
   pub den-there : (c : Colour) → 0 < denOf d (rawM depths) c
   den-there c = mul-pos (seen .deep) (span-some _ sound c)

@@ -2,21 +2,19 @@
 use Prim.Native.Nat.{ℕ, _<_, min, max}
 use mathlib.Core.Path.{_≡_}
 use mathlib.Core.Bool.{Bool, true, cond}
-use mathlib.Core.List.{List, [], _∷_, _++_}
+use mathlib.Core.List.{List, [], _∷_}
 use lib.IntN.{ℤ, pos}
 use lib.Signed.{ltZ}
 use Rattle.rules.specs.Units.{rawM, correctedM}
 use Rattle.rules.specs.Descriptions.{rows, couldBeRead}
-use Rattle.rules.specs.Looking.Interpolation.{share, denOf, rowCode}
-use Rattle.rules.specs.Demands.{used, Each}
+use Rattle.rules.specs.Looking.Interpolation.{denOf, rowCode}
+use Rattle.rules.specs.Looking.{used}
+use Rattle.rules.specs.Demands.{Each}
 use Rattle.rules.specs.declared.Colour.{Colour}
 use Rattle.rules.specs.declared.Depths.{Depths}
 use Rattle.rules.specs.declared.Description.{Description}
-use Rattle.rules.specs.declared.Kind.{Kind}
-use Rattle.rules.specs.declared.Kind.the-variants.{OneD, ThreeD}
 use Rattle.rules.specs.declared.Share.{Share}
 use Rattle.rules.specs.declared.Shares.{Shares}
-use Rattle.explain.specs.declared.rows.Four.{Four}
 use Rattle.explain.specs.declared.rows.Span.{Span}
 
 -- whether a row carries weight
@@ -36,15 +34,6 @@ spanOf codeOf m (s ∷ ss) = widened codeOf s (spanOf codeOf m ss)
 -- what is shown of a colour
 abbrev pub shownSpan : Description → List ℤ → Depths → Shares → Colour → Span
 shownSpan d table depths shares c = spanOf (rowCode (correctedM depths) (denOf d (rawM depths) c) table c) (correctedM depths) (used (d .kind) c shares)
-
--- ---- as the code keeps a colour's rows: in 1D with two that carry nothing
-
-abbrev pub listed : Four → List Share
-listed f = f .first ∷ f .second ∷ f .third ∷ f .fourth ∷ []
-
-abbrev pub fourOf : Kind → Colour → Shares → List Share
-fourOf OneD c s = used OneD c s ++ (share 0 0 ∷ share 0 0 ∷ [])
-fourOf ThreeD c s = used ThreeD c s
 
 -- what is asked of a look that is shown
 pub record Seen (d : Description) (table : List ℤ) (depths : Depths) (shares : Shares) : Type 0 where

@@ -1,70 +1,26 @@
 // The rows that a colour's code is made of, and the least and the greatest of their codes.
 use colour::row_code;
+use halves::Four;
+use halves::four_of;
 use rules::Colour;
 use rules::Depths;
 use rules::Description;
-use rules::Kind;
 use rules::Share;
 use rules::Shares;
 use whole::greater_code;
 use whole::lesser_code;
 ghost use mathlib.Core.Path.{_≡_};
-ghost use mathlib.Core.List.{[], _∷_};
 ghost use Prim.Native.Nat.{ℕ, _*_, _<_};
-ghost use Rattle.rules.specs.Looking.Interpolation.{share, rowCode};
+ghost use Rattle.rules.specs.Looking.Interpolation.{rowCode};
 ghost use Rattle.rules.specs.Demands.{Each};
 ghost use Rattle.colour.specs.Adding.{RowAt};
-ghost use Rattle.explain.specs.Spans.{carries, widened, spanOf, shownSpan, listed, fourOf, Seen};
-
-// A colour's rows and weights: in 1D two, and two that carry nothing.
-pub struct Four {
-    pub first: Share,
-    pub second: Share,
-    pub third: Share,
-    pub fourth: Share,
-}
+ghost use Rattle.halves.specs.Listed.{listed};
+ghost use Rattle.explain.specs.Spans.{carries, widened, spanOf, shownSpan, Seen};
 
 // The least and the greatest of some codes.
 pub struct Span {
     pub least: u16,
     pub greatest: u16,
-}
-
-fn two(first: Share, second: Share) -> Four
-    ensures { λ r. ⌜ listed r ≡ first ∷ second ∷ share 0 0 ∷ share 0 0 ∷ [] ⌝ }
-{
-    let idle = Share { row: 0, weight: 0 };
-    Four {
-        first,
-        second,
-        third: idle,
-        fourth: idle,
-    }
-}
-
-// The rows and weights of a colour, of the six that a look shows.
-pub fn four_of(kind: Kind, c: Colour, shares: Shares) -> Four
-    ensures { λ r. ⌜ listed r ≡ fourOf kind c shares ⌝ }
-{
-    let first = shares.first;
-    let second = shares.second;
-    let third = shares.third;
-    let fourth = shares.fourth;
-    let fifth = shares.fifth;
-    let sixth = shares.sixth;
-    let Kind::OneD = kind else {
-        return Four {
-            first,
-            second,
-            third,
-            fourth,
-        };
-    };
-    match c {
-        Colour::Red => two(first, second),
-        Colour::Green => two(third, fourth),
-        Colour::Blue => two(fifth, sixth),
-    }
 }
 
 // Whether a row carries weight.

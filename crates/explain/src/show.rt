@@ -1,42 +1,30 @@
 // What is shown of a look: the table, the codes, and for each colour the rows that made its code.
 use crate::lines::line_of;
-use crate::question::Pixel;
 use crate::rows::Span;
 use crate::rows::carries;
-use crate::rows::four_of;
 use crate::rows::span_shown;
 use colour::den_of;
-use colour::look;
 use colour::row_code;
-use desk::Outcome;
 use desk::say;
-use desk::say_refusal;
 use desk::write_count;
 use desk::write_sample;
 use desk::write_signed;
+use halves::four_of;
 use judge::count_rows;
 use libc::STDOUT_FILENO;
-use rules::Bits;
 use rules::Codes;
 use rules::Colour;
 use rules::Depths;
-use rules::DepthsFound;
 use rules::Description;
 use rules::Kind;
-use rules::Look;
-use rules::Refusal;
 use rules::Share;
 use rules::Shares;
 use rules::TenMillionths;
 ghost use mathlib.Core.Path.{_≡_};
 ghost use mathlib.Core.Bool.{true};
 ghost use Prim.Native.Nat.{_*_};
-ghost use Rattle.rules.specs.Looking.{look};
 ghost use Rattle.rules.specs.Units.{inRange};
 ghost use Rattle.colour.specs.Adding.{RowAt};
-ghost use Rattle.desk.specs.Outcomes.{EndsAs};
-ghost use Rattle.desk.specs.declared.outcomes.Outcome.the-variants.{Refused};
-ghost use Rattle.explain.specs.Questions.{askedAs, lookedAs};
 ghost use Rattle.explain.specs.Spans.{Seen};
 
 fn say_number(n: u64) -> bool {
@@ -69,7 +57,7 @@ fn show_depth(bits: u32) -> bool {
 }
 
 // As `pixel  51 102 204 at 8 bits`.
-fn show_pixel(raw: Codes, bits: u32) -> bool {
+pub fn show_pixel(raw: Codes, bits: u32) -> bool {
     say(b"pixel  ") && show_codes(raw) && show_depth(bits) && say(b"\n")
 }
 
@@ -172,7 +160,7 @@ fn show_corrected(codes: Codes, depths: Depths) -> bool {
 }
 
 // Everything of an accepted look.
-fn show_look(
+pub fn show_look(
     d: Description,
     file: &[u8],
     table: &[i64],
@@ -188,48 +176,4 @@ fn show_look(
         && show_colour(d, file, table, depths, codes, shares, Colour::Red)
         && show_colour(d, file, table, depths, codes, shares, Colour::Green)
         && show_colour(d, file, table, depths, codes, shares, Colour::Blue)
-}
-
-fn refuse(reason: Refusal) -> Outcome
-    ensures { λ r. ⌜ r ≡ Refused ⌝ }
-{
-    say_refusal(b"erythmoda explain", reason);
-    Outcome::Refused
-}
-
-// The look at a pixel of 16-bit codes, explained or refused.
-fn explain_held(d: Description, file: &[u8], table: &[i64], bits: Bits, raw: Codes) -> Outcome
-    ensures { λ r. ⌜ EndsAs (lookedAs (look d (now (table .entry)) bits raw)) r ⌝ }
-{
-    let DepthsFound::Both(depths) = Depths::of(bits) else {
-        return refuse(Refusal::DepthUnknown);
-    };
-    match look(d, table, bits, raw) {
-        Look::Refused(reason) => refuse(reason),
-        Look::Accepted { codes, shares } => {
-            let written = show_pixel(raw, bits.raw)
-                && show_look(d, file, table, depths, codes, shares);
-            Outcome::Done.if_written(written, b"erythmoda explain")
-        }
-    }
-}
-
-// A code that no depth has: 20 comes before 23.
-fn refuse_beyond(bits: Bits) -> Outcome
-    ensures { λ r. ⌜ r ≡ Refused ⌝ }
-{
-    match Depths::of(bits) {
-        DepthsFound::Both(_) => refuse(Refusal::CodeTooGreat),
-        DepthsFound::NotBoth => refuse(Refusal::DepthUnknown),
-    }
-}
-
-// The answer to a question about a table that was loaded, which is never 24: then come 20 and 23.
-pub fn explain(d: Description, file: &[u8], table: &[i64], bits: Bits, pixel: Pixel) -> Outcome
-    ensures { λ r. ⌜ EndsAs (askedAs d (now (table .entry)) bits pixel) r ⌝ }
-{
-    match pixel {
-        Pixel::Held(raw) => explain_held(d, file, table, bits, raw),
-        Pixel::Beyond => refuse_beyond(bits),
-    }
 }

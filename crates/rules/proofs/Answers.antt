@@ -6,17 +6,20 @@ use mathlib.Core.List.{List, [], _∷_}
 use mathlib.Core.Option.{Option, none, some}
 use borrow.Author.Tests.{leb-true, leb-false}
 use lib.Dec.{leb}
-use lib.IntN.{ℤ, pos}
+use lib.IntN.{ℤ}
 use lib.ListN.{length, getD, List·getD-eq-default}
 use Rattle.rules.specs.Reading.{read, check, tableAfter}
-use Rattle.rules.specs.Looking.{look}
+use Rattle.rules.specs.Looking.{firstHalf, secondHalf, look}
 use Rattle.rules.specs.Picturing.{picture, outputAfter}
 use Rattle.rules.specs.Writing.{write, bytesAfter}
-use Rattle.rules.specs.Answers.{refusalNumber, readNumber, readLine, readDescription, lookNumber, lookCodes, lookRows, lookWeights, pictureNumber, writeNumber, writtenLength}
-use Rattle.rules.specs.Promises.{Reads, Checks, Looks, Pictures, Writes}
+use Rattle.rules.specs.Answers.{refusalNumber, readNumber, readLine, readDescription, lookNumber, lookCodes, lookRows, lookWeights, firstNumber, firstRows, firstWeights, secondNumber, secondCodes, pictureNumber, writeNumber, writtenLength}
+use Rattle.rules.specs.Promises.{Reads, Checks, Looks, FindsRows, GivesCodes, Pictures, Writes}
+use Rattle.rules.specs.Boundary.{pixelIn, sharesIn}
 use Rattle.rules.specs.declared.Bits.{Bits}
 use Rattle.rules.specs.declared.Codes.{Codes}
 use Rattle.rules.specs.declared.Description.{Description}
+use Rattle.rules.specs.declared.FirstHalf.{FirstHalf}
+use Rattle.rules.specs.declared.FirstHalf.the-variants as F
 use Rattle.rules.specs.declared.Look.{Look}
 use Rattle.rules.specs.declared.Look.the-variants as L
 use Rattle.rules.specs.declared.Picture.{Picture}
@@ -24,8 +27,9 @@ use Rattle.rules.specs.declared.Picture.the-variants as P
 use Rattle.rules.specs.declared.Read.{Read}
 use Rattle.rules.specs.declared.Read.the-variants as R
 use Rattle.rules.specs.declared.Refusal.{Refusal}
-use Rattle.rules.specs.declared.Refusal.the-variants.{LineTooLong, ByteNotPermitted, NeitherDataNorKeyword, KeywordAfterData, KeywordRepeated, ParametersWrong, SizeOutOfRange, DomainNumberWrong, NoSize, LowerNotBelowUpper, DomainTooWide, DomainsDiffer, TooLittleRoom, TooManyRows, NotThreeNumbers, SampleBeyond, SampleTooFine, TooFewRows, HalfADomain, DepthUnknown, PictureNotPixels, OutputTooShort, CodeTooGreat, CouldNotBeRead, TitleNotPlain, InputTooLong}
-use Rattle.rules.specs.declared.Share.{Share}
+use Rattle.rules.specs.declared.Refusal.the-variants.{LineTooLong, ByteNotPermitted, NeitherDataNorKeyword, KeywordAfterData, KeywordRepeated, ParametersWrong, SizeOutOfRange, DomainNumberWrong, NoSize, LowerNotBelowUpper, DomainTooWide, DomainsDiffer, TooLittleRoom, TooManyRows, NotThreeNumbers, SampleBeyond, SampleTooFine, TooFewRows, HalfADomain, DepthUnknown, PictureNotPixels, OutputTooShort, CodeTooGreat, CouldNotBeRead, RowsOrWeightsWrong, TitleNotPlain, InputTooLong}
+use Rattle.rules.specs.declared.SecondHalf.{SecondHalf}
+use Rattle.rules.specs.declared.SecondHalf.the-variants as S
 use Rattle.rules.specs.declared.Shares.{Shares}
 use Rattle.rules.specs.declared.Write.{Write}
 use Rattle.rules.specs.declared.Write.the-variants as W
@@ -62,7 +66,7 @@ numbered =
     ∷ some CodeTooGreat
     ∷ some CouldNotBeRead
     ∷ none
-    ∷ none
+    ∷ some RowsOrWeightsWrong
     ∷ some TitleNotPlain
     ∷ none
     ∷ none
@@ -98,6 +102,7 @@ refusal-of-number PictureNotPixels = refl
 refusal-of-number OutputTooShort = refl
 refusal-of-number CodeTooGreat = refl
 refusal-of-number CouldNotBeRead = refl
+refusal-of-number RowsOrWeightsWrong = refl
 refusal-of-number TitleNotPlain = refl
 refusal-of-number InputTooLong = refl
 
@@ -115,24 +120,8 @@ number-below r = split (leb 31 (refusalNumber r)) refl
 
 -- ---- look, put together again
 
-abbrev codesFrom : List ℕ → Codes
-codesFrom cs = record { red = getD cs 0 0; green = getD cs 1 0; blue = getD cs 2 0 }
-
-abbrev shareFrom : List ℕ → List ℤ → ℕ → Share
-shareFrom rows weights k = record { row = getD rows k 0; weight = getD weights k (pos 0) }
-
-abbrev sharesFrom : List ℕ → List ℤ → Shares
-sharesFrom rows weights = record {
-  first = shareFrom rows weights 0;
-  second = shareFrom rows weights 1;
-  third = shareFrom rows weights 2;
-  fourth = shareFrom rows weights 3;
-  fifth = shareFrom rows weights 4;
-  sixth = shareFrom rows weights 5;
-}
-
 abbrev lookFrom : Option Refusal → List ℕ → List ℕ → List ℤ → Look
-lookFrom none codes rows weights = L.Accepted (codesFrom codes) (sharesFrom rows weights)
+lookFrom none codes rows weights = L.Accepted (pixelIn codes) (sharesIn rows weights)
 lookFrom (some r) codes rows weights = L.Refused r
 
 look-again : (r : Look) → lookFrom (refusalOf (lookNumber r)) (lookCodes r) (lookRows r) (lookWeights r) ≡ r
@@ -148,6 +137,42 @@ module _ {d : Description} {table : List ℤ} {bits : Bits} {pixel : Codes} wher
 
   pub is-looks : {r : Look} → r ≡ look d table bits pixel → Looks d table bits pixel r
   is-looks e = record { number = ap lookNumber e; codes = ap lookCodes e; rows = ap lookRows e; weights = ap lookWeights e }
+
+-- ---- the halves of a look
+
+abbrev firstFrom : Option Refusal → List ℕ → List ℤ → FirstHalf
+firstFrom none rows weights = F.Accepted (sharesIn rows weights)
+firstFrom (some r) rows weights = F.Refused r
+
+first-again : (r : FirstHalf) → firstFrom (refusalOf (firstNumber r)) (firstRows r) (firstWeights r) ≡ r
+first-again (F.Accepted shares) = refl
+first-again (F.Refused r) = rw (refusal-of-number r)
+
+module _ {d : Description} {table : List ℤ} {raw : ℕ} {pixel : Codes} where
+  pub finds-is : {r : FirstHalf} → FindsRows d table raw pixel r → r ≡ firstHalf d table raw pixel
+  finds-is {r} f =
+      let again : firstFrom (refusalOf (firstNumber r)) (firstRows r) (firstWeights r) ≡ _ = λ i. firstFrom (refusalOf (f .number i)) (f .rows i) (f .weights i) in
+      sym (first-again r) ∙ again ∙ first-again (firstHalf d table raw pixel)
+
+  pub is-finds : {r : FirstHalf} → r ≡ firstHalf d table raw pixel → FindsRows d table raw pixel r
+  is-finds e = record { number = ap firstNumber e; rows = ap firstRows e; weights = ap firstWeights e }
+
+abbrev secondFrom : Option Refusal → List ℕ → SecondHalf
+secondFrom none codes = S.Accepted (pixelIn codes)
+secondFrom (some r) codes = S.Refused r
+
+second-again : (r : SecondHalf) → secondFrom (refusalOf (secondNumber r)) (secondCodes r) ≡ r
+second-again (S.Accepted codes) = refl
+second-again (S.Refused r) = rw (refusal-of-number r)
+
+module _ {d : Description} {table : List ℤ} {bits : Bits} {shares : Shares} where
+  pub gives-is : {r : SecondHalf} → GivesCodes d table bits shares r → r ≡ secondHalf d table bits shares
+  gives-is {r} g =
+      let again : secondFrom (refusalOf (secondNumber r)) (secondCodes r) ≡ _ = λ i. secondFrom (refusalOf (g .number i)) (g .codes i) in
+      sym (second-again r) ∙ again ∙ second-again (secondHalf d table bits shares)
+
+  pub is-gives : {r : SecondHalf} → r ≡ secondHalf d table bits shares → GivesCodes d table bits shares r
+  is-gives e = record { number = ap secondNumber e; codes = ap secondCodes e }
 
 -- ---- picture
 

@@ -9,6 +9,9 @@ pub mod Spans
 pub mod Brought
 pub mod Chart
 pub mod RowsAndWeights
--- the answer by its checks, and that an accepted one is right
+-- rows and weights judged
+pub mod Judging
+-- the answer by its checks, as those of its halves, and that an accepted one is right
+pub mod Halves
 pub mod Checks
 pub mod Demand3

@@ -1,9 +1,9 @@
 -- The test of 24 and the property that it tests: each gives the other, and so does each part of the test.
 use Prim.Native.Nat.{ℕ, zero, suc, _*_, _≤_, _<_}
 use mathlib.Core.Path.{_≡_, refl, sym, ap, ap₂, _∙_}
-use mathlib.Core.Bool.{Bool, true, false, _&&_, _||_, or-true}
+use mathlib.Core.Bool.{Bool, true, false, _||_, or-true}
 use mathlib.Core.List.{List, [], _∷_}
-use native.Mathlib.Nat.{mul-le-mul}
+use native.Mathlib.Nat.{mul-le-mul, mul-pos}
 use native.Mathlib.Omega.{arith}
 use borrow.Author.Tests.{leb-true, le-leb, eqb-true, eq-eqb}
 use lib.Dec.{leb}
@@ -14,7 +14,7 @@ use lib.Signed.{_<ℤ_, ltZ, leZ, ≤ℤ-refl, ltZ-yes, leZ-yes}
 use Rattle.whole.proofs.Halves as H
 use Rattle.whole.proofs.Held.{passed, true-by, false-by, le-up}
 use Rattle.rules.specs.Units.{sampleLimit, boundLimit, widthLimit, greatestN, inRange, rowsOf, rowLimit}
-use Rattle.rules.specs.Descriptions.{DomainFits, WholeBounds, Agreed, one, whole, Sound, rows, domain, width, everyColour, boundsFit, ordered, narrow, sameDomain, oneDomain, wholeBounds, agree, roomy, samplesFit, couldBeRead}
+use Rattle.rules.specs.Descriptions.{DomainFits, WholeBounds, Agreed, one, whole, Sound, rows, domain, width, everyColour, boundsFit, ordered, narrow, same, sameDomain, oneDomain, wholeBounds, agree, roomy, samplesFit, couldBeRead}
 use Rattle.rules.specs.declared.Colour.{Colour}
 use Rattle.rules.specs.declared.Colour.the-variants.{Red, Green, Blue}
 use Rattle.rules.specs.declared.Description.{Description}
@@ -35,7 +35,12 @@ pub rows-most : (k : Kind) (n : ℕ) → n ≤ greatestN k → rowsOf k n ≤ ro
 rows-most OneD n h = omega arith
 rows-most ThreeD n h = mul-le-mul (mul-le-mul h h) h
 
--- and so it has where N is in range
+-- and at least one
+rows-some : (k : Kind) (n : ℕ) → 2 ≤ n → 0 < rowsOf k n
+rows-some OneD n h = omega arith
+rows-some ThreeD n h = mul-pos (mul-pos (omega arith) (omega arith)) (omega arith)
+
+-- at most so many it has where N is in range
 pub range-most : (k : Kind) (n : ℕ) → inRange k n ≡ true → n ≤ greatestN k
 range-most k n e = leb-true _ _ (and-both (leb 2 n) _ e .1)
 
@@ -80,10 +85,10 @@ wide-enough {dom} f =
 
 -- ---- two domains that are one
 
-same-number : (a b : ℤ) → leZ a b && leZ b a ≡ true → a ≡ b
+pub same-number : (a b : ℤ) → same a b ≡ true → a ≡ b
 same-number a b e = let (p, q) = and-both (leZ a b) (leZ b a) e in H.≤-antisymm (leZ-yes (passed _ p)) (leZ-yes (passed _ q))
 
-number-same : (a b : ℤ) → a ≡ b → leZ a b && leZ b a ≡ true
+pub number-same : (a b : ℤ) → a ≡ b → same a b ≡ true
 number-same a b e = let self = true-by (leZ b b) (≤ℤ-refl b .le) in rw e (both-and _ _ self self)
 
 module _ (a b : Domain) where
@@ -209,10 +214,16 @@ module _ (d : Description) (table : List ℤ) where
           let dom = domain d c in
           record { low = bounds-within dom b .0; high = bounds-within dom b .1; order = ordered-less dom o; narrow = narrow-width dom w }
 
+  pub sound-range : Sound d table → inRange (d .kind) (d .n) ≡ true
+  sound-range s = both-and _ _ (le-leb _ _ (s .least)) (le-leb _ _ (s .most))
+
+  pub sound-rows : Sound d table → 0 < rows d
+  sound-rows s = rows-some (d .kind) (d .n) (s .least)
+
   pub of-sound : Sound d table → couldBeRead d table ≡ true
   unfolding couldBeRead roomy
   of-sound s =
-      both-and _ _ (both-and _ _ (le-leb _ _ (s .least)) (le-leb _ _ (s .most)))
+      both-and _ _ (sound-range s)
       (both-and _ _ (each-every boundsFit d (λ c. within-bounds _ (s .domains c .low) (s .domains c .high)))
       (both-and _ _ (each-every ordered d (λ c. less-ordered _ (s .domains c .order)))
       (both-and _ _ (each-every narrow d (λ c. width-narrow _ (s .domains c .narrow)))

@@ -1,4 +1,4 @@
--- Document 01, "Answers by number": for each case of each answer, the paper's number and values.
+-- Document 01, "Answers by number", with the numbers that document 02 adds: for each case of each answer, the paper's number and values.
 use Prim.Native.Nat.{ℕ, _*_}
 use mathlib.Core.List.{List, [], _∷_, map}
 use lib.IntN.{ℤ}
@@ -6,6 +6,8 @@ use Rattle.rules.specs.Descriptions.{zeros, rows}
 use Rattle.rules.specs.Looking.{six}
 use Rattle.rules.specs.declared.Codes.{Codes}
 use Rattle.rules.specs.declared.Description.{Description}
+use Rattle.rules.specs.declared.FirstHalf.{FirstHalf}
+use Rattle.rules.specs.declared.FirstHalf.the-variants as F
 use Rattle.rules.specs.declared.Look.{Look}
 use Rattle.rules.specs.declared.Look.the-variants as L
 use Rattle.rules.specs.declared.Picture.{Picture}
@@ -13,7 +15,9 @@ use Rattle.rules.specs.declared.Picture.the-variants as P
 use Rattle.rules.specs.declared.Read.{Read}
 use Rattle.rules.specs.declared.Read.the-variants as R
 use Rattle.rules.specs.declared.Refusal.{Refusal}
-use Rattle.rules.specs.declared.Refusal.the-variants.{LineTooLong, ByteNotPermitted, NeitherDataNorKeyword, KeywordAfterData, KeywordRepeated, ParametersWrong, SizeOutOfRange, DomainNumberWrong, NoSize, LowerNotBelowUpper, DomainTooWide, DomainsDiffer, TooLittleRoom, TooManyRows, NotThreeNumbers, SampleBeyond, SampleTooFine, TooFewRows, HalfADomain, DepthUnknown, PictureNotPixels, OutputTooShort, CodeTooGreat, CouldNotBeRead, TitleNotPlain, InputTooLong}
+use Rattle.rules.specs.declared.Refusal.the-variants.{LineTooLong, ByteNotPermitted, NeitherDataNorKeyword, KeywordAfterData, KeywordRepeated, ParametersWrong, SizeOutOfRange, DomainNumberWrong, NoSize, LowerNotBelowUpper, DomainTooWide, DomainsDiffer, TooLittleRoom, TooManyRows, NotThreeNumbers, SampleBeyond, SampleTooFine, TooFewRows, HalfADomain, DepthUnknown, PictureNotPixels, OutputTooShort, CodeTooGreat, CouldNotBeRead, RowsOrWeightsWrong, TitleNotPlain, InputTooLong}
+use Rattle.rules.specs.declared.SecondHalf.{SecondHalf}
+use Rattle.rules.specs.declared.SecondHalf.the-variants as S
 use Rattle.rules.specs.declared.Share.{Share}
 use Rattle.rules.specs.declared.Shares.{Shares}
 use Rattle.rules.specs.declared.Write.{Write}
@@ -44,6 +48,7 @@ refusalNumber PictureNotPixels = 21
 refusalNumber OutputTooShort = 22
 refusalNumber CodeTooGreat = 23
 refusalNumber CouldNotBeRead = 24
+refusalNumber RowsOrWeightsWrong = 26
 refusalNumber TitleNotPlain = 27
 refusalNumber InputTooLong = 30
 
@@ -78,9 +83,12 @@ codesOf c = c .red ∷ c .green ∷ c .blue ∷ []
 abbrev pub sharesOf : Shares → List Share
 sharesOf s = s .first ∷ s .second ∷ s .third ∷ s .fourth ∷ s .fifth ∷ s .sixth ∷ []
 
+abbrev noCodes : Codes
+noCodes = record { red = 0; green = 0; blue = 0 }
+
 abbrev pub codesIn : Look → Codes
 codesIn (L.Accepted c s) = c
-codesIn (L.Refused r) = record { red = 0; green = 0; blue = 0 }
+codesIn (L.Refused r) = noCodes
 
 abbrev pub lookCodes : Look → List ℕ
 lookCodes a = codesOf (codesIn a)
@@ -94,6 +102,33 @@ lookRows a = map (λ (s : Share). s .row) (lookShares a)
 
 abbrev pub lookWeights : Look → List ℤ
 lookWeights a = map (λ (s : Share). s .weight) (lookShares a)
+
+-- ---- the halves of a look. The first: number, six rows, six weights. The second: number, three codes. A refusal gives zeros
+
+abbrev pub firstNumber : FirstHalf → ℕ
+firstNumber (F.Accepted s) = 0
+firstNumber (F.Refused r) = refusalNumber r
+
+abbrev pub firstShares : FirstHalf → List Share
+firstShares (F.Accepted s) = sharesOf s
+firstShares (F.Refused r) = sharesOf (six [])
+
+abbrev pub firstRows : FirstHalf → List ℕ
+firstRows a = map (λ (s : Share). s .row) (firstShares a)
+
+abbrev pub firstWeights : FirstHalf → List ℤ
+firstWeights a = map (λ (s : Share). s .weight) (firstShares a)
+
+abbrev pub secondNumber : SecondHalf → ℕ
+secondNumber (S.Accepted c) = 0
+secondNumber (S.Refused r) = refusalNumber r
+
+abbrev pub codesGiven : SecondHalf → Codes
+codesGiven (S.Accepted c) = c
+codesGiven (S.Refused r) = noCodes
+
+abbrev pub secondCodes : SecondHalf → List ℕ
+secondCodes a = codesOf (codesGiven a)
 
 -- ---- picture: number
 

@@ -9,14 +9,16 @@ use lib.ListN.{length, getD}
 use lib.IntN.{ℤ, pos, natAbs}
 use Rattle.whole.specs.Integers.{up}
 use Rattle.rules.specs.Reading.{read, check, tableAfter}
-use Rattle.rules.specs.Looking.{look}
+use Rattle.rules.specs.Looking.{firstHalf, secondHalf, look}
 use Rattle.rules.specs.Picturing.{pixelOf, picture, outputAfter}
 use Rattle.rules.specs.Writing.{write, bytesAfter}
-use Rattle.rules.specs.Answers.{readNumber, readLine, readDescription, placesNeeded, lookNumber, lookCodes, lookRows, lookWeights, pictureNumber, writeNumber, writtenLength}
+use Rattle.rules.specs.Answers.{readNumber, readLine, readDescription, placesNeeded, lookNumber, lookCodes, lookRows, lookWeights, firstNumber, firstRows, firstWeights, secondNumber, secondCodes, pictureNumber, writeNumber, writtenLength}
 use Rattle.rules.specs.declared.Bits.{Bits}
 use Rattle.rules.specs.declared.Codes.{Codes}
 use Rattle.rules.specs.declared.Description.{Description}
 use Rattle.rules.specs.declared.Domain.{Domain}
+use Rattle.rules.specs.declared.FirstHalf.{FirstHalf}
+use Rattle.rules.specs.declared.FirstHalf.the-variants as F
 use Rattle.rules.specs.declared.Kind.{Kind}
 use Rattle.rules.specs.declared.Kind.the-variants.{OneD, ThreeD}
 use Rattle.rules.specs.declared.Look.{Look}
@@ -24,6 +26,10 @@ use Rattle.rules.specs.declared.Look.the-variants as L
 use Rattle.rules.specs.declared.Picture.{Picture}
 use Rattle.rules.specs.declared.Picture.the-variants as P
 use Rattle.rules.specs.declared.Refusal.the-variants.{CouldNotBeRead}
+use Rattle.rules.specs.declared.SecondHalf.{SecondHalf}
+use Rattle.rules.specs.declared.SecondHalf.the-variants as S
+use Rattle.rules.specs.declared.Share.{Share}
+use Rattle.rules.specs.declared.Shares.{Shares}
 use Rattle.rules.specs.declared.Title.{Title}
 use Rattle.rules.specs.declared.Write.{Write}
 use Rattle.rules.specs.declared.Write.the-variants as W
@@ -99,6 +105,20 @@ describedIn eleven = describedBy eleven (kindIn eleven)
 abbrev pub pixelIn : List ℕ → Codes
 pixelIn codes = pixelOf (getD codes 0 0) (getD codes 1 0) (getD codes 2 0)
 
+-- and six rows and weights: row k has weight k
+abbrev pub shareIn : List ℕ → List ℤ → ℕ → Share
+shareIn rows weights k = record { row = getD rows k 0; weight = getD weights k (pos 0) }
+
+abbrev pub sharesIn : List ℕ → List ℤ → Shares
+sharesIn rows weights = record {
+  first = shareIn rows weights 0;
+  second = shareIn rows weights 1;
+  third = shareIn rows weights 2;
+  fourth = shareIn rows weights 3;
+  fifth = shareIn rows weights 4;
+  sixth = shareIn rows weights 5;
+}
+
 -- ---- what the numbers that are written can hold: 63 bits for N and a title's place and length, 32 for a row
 
 pub record Crossable (d : Description) : Type 0 where
@@ -122,6 +142,12 @@ called refusal call eleven = answered refusal call (describedIn eleven)
 
 abbrev pub lookIn : List ℤ → List ℤ → Bits → Codes → Look
 lookIn eleven table bits pixel = called (L.Refused CouldNotBeRead) (λ d. look d table bits pixel) eleven
+
+abbrev pub firstIn : List ℤ → List ℤ → ℕ → Codes → FirstHalf
+firstIn eleven table raw pixel = called (F.Refused CouldNotBeRead) (λ d. firstHalf d table raw pixel) eleven
+
+abbrev pub secondIn : List ℤ → List ℤ → Bits → Shares → SecondHalf
+secondIn eleven table bits shares = called (S.Refused CouldNotBeRead) (λ d. secondHalf d table bits shares) eleven
 
 abbrev pub pictureIn : List ℤ → List ℤ → Bits → List ℕ → ℕ → Picture
 pictureIn eleven table bits src places = called (P.Refused CouldNotBeRead) (λ d. picture d table bits src places) eleven
@@ -156,6 +182,15 @@ pub record LooksC (eleven table : List ℤ) (bits : Bits) (pixel : List ℕ) (nu
   pub codes-so : codes′ ≡ lookCodes (lookIn eleven table bits (pixelIn pixel))
   pub rows-so : rows′ ≡ lookRows (lookIn eleven table bits (pixelIn pixel))
   pub weights-so : weights′ ≡ lookWeights (lookIn eleven table bits (pixelIn pixel))
+
+pub record FindsRowsC (eleven table : List ℤ) (raw : ℕ) (pixel : List ℕ) (number : ℕ) (rows′ : List ℕ) (weights′ : List ℤ) : Type 0 where
+  pub number-so : number ≡ firstNumber (firstIn eleven table raw (pixelIn pixel))
+  pub rows-so : rows′ ≡ firstRows (firstIn eleven table raw (pixelIn pixel))
+  pub weights-so : weights′ ≡ firstWeights (firstIn eleven table raw (pixelIn pixel))
+
+pub record GivesCodesC (eleven table : List ℤ) (bits : Bits) (rows : List ℕ) (weights : List ℤ) (number : ℕ) (codes′ : List ℕ) : Type 0 where
+  pub number-so : number ≡ secondNumber (secondIn eleven table bits (sharesIn rows weights))
+  pub codes-so : codes′ ≡ secondCodes (secondIn eleven table bits (sharesIn rows weights))
 
 pub record PicturesC (eleven table : List ℤ) (bits : Bits) (src dst : List ℕ) (number : ℕ) (dst′ : List ℕ) : Type 0 where
   pub number-so : number ≡ pictureNumber (pictureIn eleven table bits src (length dst))

@@ -1,4 +1,5 @@
--- Demands 2 and 3: where an accepted file's numbers and title stand, and what is asked of an accepted look and an accepted picture, colour by colour.
+-- Demands 2 and 3: where an accepted file's numbers and title stand, and what is asked of an accepted look and an accepted picture, colour by colour;
+-- and, of document 02, of rows and weights that anybody wrote.
 use Prim.Native.Nat.{ℕ, _+_, _*_, _%_, _≤_, _<_}
 use mathlib.Core.Path.{_≡_}
 use mathlib.Core.Logic.{_⊎_}
@@ -15,13 +16,14 @@ use Rattle.rules.specs.Reading.Numerals.{Exact}
 use Rattle.rules.specs.Reading.Grammar.{Keeps, TitleLine}
 use Rattle.rules.specs.Reading.Contents.{formOf}
 use Rattle.rules.specs.Looking.Interpolation.{Order, denOf, positionOf, pairBy, pathBy, sharesFor, denominator, weighed, total, rowCode}
+use Rattle.rules.specs.Looking.{used}
+use Rattle.rules.specs.Looking.Judging.{sumOf}
 use Rattle.rules.specs.Picturing.{pixelOf}
 use Rattle.rules.specs.Looking.Readings.{Reading, Descends}
 use Rattle.rules.specs.declared.Form.{Form}
 use Rattle.rules.specs.declared.Form.the-variants.{Idle, Keyed, Data, Neither}
 use Rattle.rules.specs.declared.Codes.{Codes}
 use Rattle.rules.specs.declared.Colour.{Colour}
-use Rattle.rules.specs.declared.Colour.the-variants.{Red, Green, Blue}
 use Rattle.rules.specs.declared.Bits.{Bits}
 use Rattle.rules.specs.declared.Depths.{Depths}
 use Rattle.rules.specs.declared.DepthsFound.the-variants.{Both}
@@ -77,13 +79,6 @@ pub record Kept (file : List ℕ) (table : List ℤ) (d : Description) (t : List
   pub memory : t ≡ samples ++ drop (3 * rows d) table
 
 -- ---- demand 3
-
--- the rows and weights, of the six, that a colour's code is made of
-abbrev pub used : Kind → Colour → Shares → List Share
-used OneD Red s = s .first ∷ s .second ∷ []
-used OneD Green s = s .third ∷ s .fourth ∷ []
-used OneD Blue s = s .fifth ∷ s .sixth ∷ []
-used ThreeD c s = s .first ∷ s .second ∷ s .third ∷ s .fourth ∷ []
 
 -- what holds of each share
 abbrev pub Each : (Share → Type 0) → List Share → Type 0
@@ -158,3 +153,31 @@ pub record RightPicture (d : Description) (table : List ℤ) (bits : Bits) (src 
   pub as-long : length dst′ ≡ length dst
   pub later : drop (length src) dst′ ≡ drop (length src) dst
   pub pixels : (k : ℕ) → 3 * k < length src → PixelRight d table depths src dst′ k
+
+-- ---- document 02, Req 09: rows and weights that the second half accepts, and refuses with 26
+
+-- rows of a table with so many, and weights that are not negative and add up to D
+pub record Weighable (count den : ℕ) (ss : List Share) : Type 0 where
+  pub in-table : Each (λ s. s .row < count) ss
+  pub not-negative : Each (λ s. pos 0 ≤ℤ s .weight) ss
+  pub add-up : sumOf ss ≡ pos den
+
+-- what holds of some share
+pub data Some (P : Share → Type 0) : List Share → Type 0 where
+  here : {s : Share} {ss : List Share} → P s → Some P (s ∷ ss)
+  there : {s : Share} {ss : List Share} → Some P ss → Some P (s ∷ ss)
+
+-- 26: a row number not below the count of rows, a negative weight, or weights that do not add up to D
+pub data Unfit (count den : ℕ) (ss : List Share) : Type 0 where
+  row : Some (λ s. count ≤ s .row) ss → Unfit count den ss
+  weight : Some (λ s. s .weight <ℤ pos 0) ss → Unfit count den ss
+  sum : (sumOf ss ≡ pos den → ⊥) → Unfit count den ss
+
+-- the code of a colour, of rows and weights that the second half accepts: the exact value is that of these, whoever wrote them
+abbrev pub CodesRight : Description → List ℤ → Depths → Shares → Codes → Colour → Type 0
+CodesRight d table depths shares codes c =
+    Right table c (rows d) (denOf d (rawM depths) c) (correctedM depths)
+    (λ s. s ≡ total table c (used (d .kind) c shares))
+    (λ ss. ss ≡ used (d .kind) c shares)
+    (used (d .kind) c shares)
+    (codeIn codes c)

@@ -79,7 +79,7 @@ ordered dom = ltZ (dom .lower .0) (dom .upper .0)
 unfoldable pub narrow : Domain → Bool
 narrow dom = leZ (dom .upper .0 -ℤ dom .lower .0) (pos widthLimit)
 
-abbrev same : ℤ → ℤ → Bool
+abbrev pub same : ℤ → ℤ → Bool
 same a b = leZ a b && leZ b a
 
 unfoldable pub sameDomain : Domain → Domain → Bool

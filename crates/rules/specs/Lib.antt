@@ -8,7 +8,7 @@ pub mod Fields
 pub mod Descriptions
 -- reading: bytes, lines and words; a file that keeps the specification, as a property; reading, as a function, in the order of the checks
 pub mod Reading
--- interpolation, look and picture
+-- interpolation; look, by its two halves; picture
 pub mod Looking
 pub mod Picturing
 -- a table as the bytes of a file
@@ -18,5 +18,5 @@ pub mod Answers
 pub mod Promises
 pub mod Reporting
 pub mod Boundary
--- demands 2 and 3: where an accepted file's numbers stand, and what is asked of an accepted look and picture
+-- demands 2 and 3: where an accepted file's numbers stand, and what is asked of an accepted look and picture, and of rows and weights that anybody wrote
 pub mod Demands

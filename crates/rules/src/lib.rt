@@ -1,4 +1,4 @@
-// The types of document 01. What the calls answer and promise over them is in specs/, the theorems are in proofs/.
+// The types of documents 01 and 02. What the calls answer and promise over them is in specs/, the theorems are in proofs/.
 ghost use mathlib.Core.Path.{_≡_};
 ghost use Rattle.rules.specs.Answers.{refusalNumber};
 ghost use Rattle.rules.specs.Units.{depthOf, depthWith, depthsOf};
@@ -280,7 +280,7 @@ pub struct Share {
     pub weight: i64,
 }
 
-// The six rows and weights of a look: in 1D two for each colour, in 3D four for the pixel and two of zeros.
+// Six rows and weights: in 1D two for each colour, in 3D four for the pixel. Two are left there: zeros where they are answered, and of no account where they are given.
 pub struct Shares {
     pub first: Share,
     pub second: Share,
@@ -288,6 +288,14 @@ pub struct Shares {
     pub fourth: Share,
     pub fifth: Share,
     pub sixth: Share,
+}
+
+// What six rows and weights are found to be, where anybody may have written them.
+pub enum Judged {
+    Fit,
+    RowBeyond,
+    NegativeWeight,
+    WrongSum,
 }
 
 // ---- answers
@@ -318,6 +326,7 @@ pub enum Refusal {
     OutputTooShort,
     CodeTooGreat,
     CouldNotBeRead,
+    RowsOrWeightsWrong,
     TitleNotPlain,
     InputTooLong,
 }
@@ -352,6 +361,7 @@ impl Refusal {
             Refusal::OutputTooShort => 22,
             Refusal::CodeTooGreat => 23,
             Refusal::CouldNotBeRead => 24,
+            Refusal::RowsOrWeightsWrong => 26,
             Refusal::TitleNotPlain => 27,
             Refusal::InputTooLong => 30,
         }
@@ -367,6 +377,18 @@ pub enum Read {
 // What look answers.
 pub enum Look {
     Accepted { codes: Codes, shares: Shares },
+    Refused(Refusal),
+}
+
+// What the first half of a look answers: the six rows and weights of a pixel.
+pub enum FirstHalf {
+    Accepted(Shares),
+    Refused(Refusal),
+}
+
+// What the second half answers: the codes of six rows and weights.
+pub enum SecondHalf {
+    Accepted(Codes),
     Refused(Refusal),
 }
 

@@ -6,12 +6,14 @@ pub mod Numbers
 -- the demands, of each call itself, and of one after another
 pub mod Reads
 pub mod Looks
+pub mod Halves
 pub mod Pictures
 pub mod Writes
 pub mod Together
 pub mod Checks
--- what plays no part in writing
+-- what plays no part in writing, and in the halves of a look
 pub mod NoPart
+pub mod HalvesNoPart
 -- what the two depths decide
 pub mod Depths
 -- with one depth they are document 01's
@@ -22,5 +24,6 @@ pub mod OneDomain
 pub mod WrongReads
 pub mod WrongChecks
 pub mod WrongLooks
+pub mod WrongHalves
 pub mod WrongPictures
 pub mod WrongWrites

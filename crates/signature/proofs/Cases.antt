@@ -23,12 +23,13 @@ use Rattle.rules.specs.Fields.{parted}
 use Rattle.rules.specs.Decimals.{decimalIn, decimal, sign, placesOf, afterPoint, decimalsOf}
 use Rattle.rules.specs.Writing.{titleText, sizeText, boundsText, rowText, rowsText, headText, fileText, titleFits, write, bytesAfter}
 use Rattle.rules.specs.Looking.Interpolation.{offset, position, index, fraction, brought, pairBy, chart, order, climb, pathBy, pair, path, codeBy}
-use Rattle.rules.specs.Looking.{within, shown, lookAt, look}
+use Rattle.rules.specs.Looking.Judging.{shareJudged, eachJudged, sumJudged}
+use Rattle.rules.specs.Looking.{within, shown, rowsWith, firstHalf, judgedAll, secondHalf, lookAt, look}
 use Rattle.rules.specs.Picturing.{eachPixel, pictureWith, picture, outputAfter}
 use Rattle.rules.specs.Answers.{refusalNumber, readNumber, readLine}
 use Rattle.rules.proofs.Tests.{and-both}
 use Rattle.rules.proofs.Reading.Wordings.{same-eq}
-use Rattle.signature.specs.Cases.{Outcome, Case, outcome, marked, numbered, halves, mixed, points, twoDepths, written, AllMet, ReadA3}
+use Rattle.signature.specs.Cases.{Outcome, Case, outcome, marked, numbered, halves, mixed, points, twoDepths, written, twoHalves, AllMet, ReadA3}
 
 -- ---- a test that antt computes over a whole table, and what it tells
 
@@ -109,15 +110,19 @@ unfolding boundsFit ordered narrow sameDomain oneDomain wholeBounds agree common
 tables-opened = 0
 
 unfoldable looks-opened : ℕ
-unfolding offset position index fraction brought pairBy chart order climb pathBy pair path codeBy code within shown lookAt look
+unfolding offset position index fraction brought pairBy chart order climb pathBy pair path codeBy code within shown rowsWith lookAt look
 looks-opened = 0
+
+unfoldable halves-opened : ℕ
+unfolding firstHalf shareJudged eachJudged sumJudged judgedAll secondHalf
+halves-opened = 0
 
 unfoldable writes-opened : ℕ
 unfolding decimalIn decimal sign placesOf afterPoint decimalsOf parted titleText sizeText boundsText rowText rowsText headText fileText titleFits write bytesAfter
 writes-opened = 0
 
 unfoldable pub opened : ℕ
-unfolding words-opened numbers-opened contents-opened lines-opened tables-opened looks-opened writes-opened eachPixel pictureWith picture outputAfter refusalNumber
+unfolding words-opened numbers-opened contents-opened lines-opened tables-opened looks-opened halves-opened writes-opened eachPixel pictureWith picture outputAfter refusalNumber
 opened = 0
 
 marked-pass : test marked ≡ true
@@ -148,6 +153,10 @@ written-pass : test written ≡ true
 unfolding opened
 written-pass = refl
 
+two-halves-pass : test twoHalves ≡ true
+unfolding opened
+two-halves-pass = refl
+
 -- the cases of document 01 that are marked P
 pub marked-met : AllMet marked
 marked-met = tested marked marked-pass
@@ -175,6 +184,10 @@ mixed-met = tested mixed mixed-pass
 -- document 02's tables that are written
 pub written-met : AllMet written
 written-met = tested written written-pass
+
+-- document 02's two halves of a look
+pub two-halves-met : AllMet twoHalves
+two-halves-met = tested twoHalves two-halves-pass
 
 -- 30, on line 0
 pub report-30 : (input : List ℕ) → reportBytes < length input → (readNumber (report input) ≡ 30) × (readLine (report input) ≡ 0)

@@ -3,8 +3,9 @@
 -- demand 1: each promise decides its answer; titles change no answer
 pub mod Unique
 pub mod Untitled
--- laws of tests that several of them use
+-- laws of tests that several of them use; what stands in a lent table past its rows
 pub mod Either
+pub mod LaterPlaces
 -- the demands, of reading, look, picture and writing, and the wrong programs that their promises rule out
 pub mod Reading
 pub mod Looking

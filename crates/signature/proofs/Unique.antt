@@ -3,19 +3,31 @@ use Prim.Native.Nat.{ℕ}
 use mathlib.Core.Path.{_≡_, sym, _∙_}
 use mathlib.Core.List.{List}
 use lib.IntN.{ℤ}
-use Rattle.rules.specs.Promises.{Reads, Checks, Looks, Pictures, Writes}
+use Rattle.rules.specs.Promises.{Reads, Checks, Looks, FindsRows, GivesCodes, Pictures, Writes}
 use Rattle.rules.specs.declared.Bits.{Bits}
 use Rattle.rules.specs.declared.Codes.{Codes}
 use Rattle.rules.specs.declared.Description.{Description}
+use Rattle.rules.specs.declared.FirstHalf.{FirstHalf}
 use Rattle.rules.specs.declared.Look.{Look}
 use Rattle.rules.specs.declared.Picture.{Picture}
 use Rattle.rules.specs.declared.Read.{Read}
+use Rattle.rules.specs.declared.SecondHalf.{SecondHalf}
+use Rattle.rules.specs.declared.Shares.{Shares}
 use Rattle.rules.specs.declared.Write.{Write}
-use Rattle.rules.proofs.Answers.{checks-is, looks-is, pictures-is, reads-is, writes-is}
+use Rattle.rules.proofs.Answers.{checks-is, looks-is, finds-is, gives-is, pictures-is, reads-is, writes-is}
 
 module _ {d : Description} {table : List ℤ} {bits : Bits} {pixel : Codes} where
   pub looks-one : {r s : Look} → Looks d table bits pixel r → Looks d table bits pixel s → r ≡ s
   looks-one p q = looks-is p ∙ sym (looks-is q)
+
+-- of the first half of a look its number, rows and weights
+pub finds-one : {d : Description} {table : List ℤ} {raw : ℕ} {pixel : Codes} {r s : FirstHalf} → FindsRows d table raw pixel r → FindsRows d table raw pixel s → r ≡ s
+finds-one p q = finds-is p ∙ sym (finds-is q)
+
+-- of the second its number and codes
+pub gives-one : {d : Description} {table : List ℤ} {bits : Bits} {shares : Shares} {r s : SecondHalf}
+    → GivesCodes d table bits shares r → GivesCodes d table bits shares s → r ≡ s
+gives-one p q = gives-is p ∙ sym (gives-is q)
 
 module _ {d : Description} {table : List ℤ} {bits : Bits} {src dst : List ℕ} where
   pub pictures-one : {r s : Picture} {dst′ dst″ : List ℕ} → Pictures d table bits src dst r dst′ → Pictures d table bits src dst s dst″ → (r ≡ s) × (dst′ ≡ dst″)

@@ -1,33 +1,39 @@
--- The title's fields change no answer of look and picture: neither looks further than kind, N and the three domains.
+-- The title's fields change no answer of look, its halves and picture: none looks further than kind, N and the three domains.
 use Prim.Native.Nat.{ℕ, _*_}
 use mathlib.Core.Path.{_≡_, refl, ap, ap₂}
 use mathlib.Core.Bool.{cond}
 use mathlib.Core.List.{List, _++_}
 use lib.IntN.{ℤ}
 use lib.ListN.{length, drop}
-use Rattle.rules.specs.Units.{rawM, depthsOf, codeIn}
+use Rattle.rules.specs.Units.{rawM, depthOf, depthsOf, codeIn}
 use Rattle.rules.specs.Descriptions.{domain, width, oneDomain, agree, commonSpan, spanIn, roomy, couldBeRead}
-use Rattle.rules.specs.Looking.Interpolation.{den, index, fraction, brought}
-use Rattle.rules.specs.Looking.{lookAt, look}
+use Rattle.rules.specs.Looking.Interpolation.{den, index, fraction, brought, denOf}
+use Rattle.rules.specs.Looking.{rowsAt, firstHalf, secondHalf, lookAt, look}
 use Rattle.rules.specs.Answers.{codesIn}
 use Rattle.rules.specs.Demands.{pixelAt}
 use Rattle.rules.specs.Picturing.{corrected, picture, outputAfter}
 use Rattle.rules.specs.declared.Bits.{Bits}
+use Rattle.rules.specs.declared.DepthFound.{DepthFound}
+use Rattle.rules.specs.declared.DepthFound.the-variants.{Known, Unknown}
 use Rattle.rules.specs.declared.DepthsFound.{DepthsFound}
 use Rattle.rules.specs.declared.DepthsFound.the-variants.{Both, NotBoth}
 use Rattle.rules.specs.declared.Codes.{Codes}
 use Rattle.rules.specs.declared.Colour.{Colour}
 use Rattle.rules.specs.declared.Colour.the-variants.{Red, Green, Blue}
 use Rattle.rules.specs.declared.Description.{Description}
+use Rattle.rules.specs.declared.FirstHalf.the-variants as F
 use Rattle.rules.specs.declared.Kind.{Kind}
 use Rattle.rules.specs.declared.Kind.the-variants.{OneD, ThreeD}
 use Rattle.rules.specs.declared.Look.the-variants.{Refused}
 use Rattle.rules.specs.declared.Picture.{Picture}
 use Rattle.rules.specs.declared.Picture.the-variants as P
 use Rattle.rules.specs.declared.Refusal.the-variants.{CouldNotBeRead}
+use Rattle.rules.specs.declared.SecondHalf.the-variants as S
+use Rattle.rules.specs.declared.Shares.{Shares}
 use Rattle.rules.specs.declared.Title.{Title}
 use Rattle.rules.proofs.Picturing.Checks.{each-same}
-use Rattle.signature.proofs.Looking.SamePlaces.{SamePlaces, same-look}
+use Rattle.signature.proofs.Looking.SamePlaces.{SamePlaces, same-look, same-rows}
+use Rattle.signature.proofs.Looking.SameShares.{same-given}
 
 -- the same description with another title
 abbrev pub retitled : Description → Title → Description
@@ -46,6 +52,9 @@ module _ (d : Description) (t : Title) where
   unfolding commonSpan oneDomain
   same-span OneD c = ap width (same-domain c)
   same-span ThreeD c = refl
+
+  same-dens : (m : ℕ) (c : Colour) → denOf e m c ≡ denOf d m c
+  same-dens m c = ap (λ s. m * s) (same-span (d .kind) c)
 
   -- ---- 24
 
@@ -66,7 +75,7 @@ module _ (d : Description) (t : Title) where
       kind = refl;
       n = refl;
       inside = refl;
-      dens = λ c. ap (λ s. m * s) (same-span (d .kind) c);
+      dens = same-dens m;
       indices = λ c. ap (λ dom. index m dom (d .n) (codeIn pixel c)) (same-domain c);
       fractions = λ c i. brought (den m (same-domain c i)) (m * same-span (d .kind) c i) (fraction m (same-domain c i) (d .n) (codeIn pixel c));
     }
@@ -79,6 +88,22 @@ module _ (d : Description) (t : Title) where
     pub untitled-look : (bits : Bits) → look e table bits pixel ≡ look d table bits pixel
     unfolding look
     untitled-look bits = ap₂ (λ could x. cond could x (Refused CouldNotBeRead)) (same-24 table) (same-at (depthsOf bits))
+
+    -- ---- its halves
+
+    same-rows-at : (x : DepthFound) → rowsAt e pixel x ≡ rowsAt d pixel x
+    same-rows-at Unknown = refl
+    same-rows-at (Known depth) = same-rows (same-places (depth .greatest))
+
+    pub untitled-first : (raw : ℕ) → firstHalf e table raw pixel ≡ firstHalf d table raw pixel
+    unfolding firstHalf
+    untitled-first raw = ap₂ (λ could x. cond could x (F.Refused CouldNotBeRead)) (same-24 table) (same-rows-at (depthOf raw))
+
+  pub untitled-second : (table : List ℤ) (bits : Bits) (shares : Shares) → secondHalf e table bits shares ≡ secondHalf d table bits shares
+  unfolding secondHalf
+  untitled-second table bits shares =
+      ap₂ (λ could x. cond could x (S.Refused CouldNotBeRead)) (same-24 table)
+      (same-given table (λ m. record { count = refl; dens = same-dens m; shares = λ c. refl }) (depthsOf bits))
 
   -- ---- picture
 

@@ -9,18 +9,21 @@ use lib.ListN.{length, replicate}
 use Rattle.rules.specs.Units.{bitsOf, sameBits}
 use Rattle.rules.specs.Reading.Lines.{bytes, after}
 use Rattle.rules.specs.Reading.{read, tableAfter}
-use Rattle.rules.specs.Looking.{look}
+use Rattle.rules.specs.Looking.{firstHalf, secondHalf, look}
 use Rattle.rules.specs.Picturing.{picture, outputAfter}
 use Rattle.rules.specs.Writing.{write, bytesAfter}
-use Rattle.rules.specs.Answers.{readNumber, readLine, readDescription, lookNumber, lookCodes, lookRows, lookWeights, pictureNumber, writeNumber, writtenLength}
+use Rattle.rules.specs.Answers.{readNumber, readLine, readDescription, lookNumber, lookCodes, lookRows, lookWeights, firstNumber, firstRows, firstWeights, secondNumber, secondCodes, pictureNumber, writeNumber, writtenLength}
+use Rattle.rules.specs.Boundary.{sharesIn}
 use Rattle.rules.specs.declared.Bits.{Bits}
 use Rattle.rules.specs.declared.Codes.{Codes}
 use Rattle.rules.specs.declared.Description.{Description}
+use Rattle.rules.specs.declared.FirstHalf.{FirstHalf}
 use Rattle.rules.specs.declared.Kind.the-variants.{OneD}
 use Rattle.rules.specs.declared.Look.{Look}
 use Rattle.rules.specs.declared.Picture.{Picture}
 use Rattle.rules.specs.declared.Read.{Read}
 use Rattle.rules.specs.declared.Read.the-variants.{Accepted}
+use Rattle.rules.specs.declared.SecondHalf.{SecondHalf}
 use Rattle.rules.specs.declared.Write.{Write}
 use Rattle.signature.specs.OneDomain.{redWider, greenHigher, redLower, allWider, greenFirst, cubeTo}
 
@@ -35,6 +38,10 @@ pub data Question : Type 0 where
   picturing : Description → List ℤ → Bits → List ℕ → ℕ → Question
   -- writing a table with a title into so many bytes that hold 77
   writing : Description → List ℤ → List ℕ → ℕ → Question
+  -- finding the rows and weights of one pixel, at a raw depth
+  finding : Description → List ℤ → ℕ → Codes → Question
+  -- giving the codes of six rows and six weights
+  giving : Description → List ℤ → Bits → List ℕ → List ℤ → Question
 
 -- in the paper's numbers; what a call does not give is empty
 pub record Outcome : Type 0 where
@@ -76,6 +83,12 @@ outcome (writing d table title places) =
       text = bytesAfter d table title (replicate places 77) r;
       count = writtenLength r;
     }
+outcome (finding d table raw pixel) =
+    let r : FirstHalf = firstHalf d table raw pixel in
+    record { number = firstNumber r; line = 0; table = []; codes = []; rows = firstRows r; weights = firstWeights r; text = []; count = 0 }
+outcome (giving d table bits rows weights) =
+    let r : SecondHalf = secondHalf d table bits (sharesIn rows weights) in
+    record { number = secondNumber r; line = 0; table = []; codes = secondCodes r; rows = []; weights = []; text = []; count = 0 }
 
 -- ---- cases, from the text of a file on
 
@@ -109,10 +122,13 @@ looked file bits pixel codes rows weights = record {
   expected = record { number = 0; line = 0; table = []; codes = codes; rows = rows; weights = weights; text = []; count = 0 };
 }
 
+-- two for each colour, all colours alike
+abbrev pub thrice : {A : Type 0} → A → A → List A
+thrice v w = v ∷ w ∷ v ∷ w ∷ v ∷ w ∷ []
+
 -- 1D with N = 2, all colours alike: a code, its answer, its two weights
 abbrev pub twoRows : String → Bits → ℕ → ℕ → ℕ → ℕ → Case
-twoRows file bits c r v w =
-    looked file bits (grey c) (r ∷ r ∷ r ∷ []) (0 ∷ 1 ∷ 0 ∷ 1 ∷ 0 ∷ 1 ∷ []) (pos v ∷ pos w ∷ pos v ∷ pos w ∷ pos v ∷ pos w ∷ [])
+twoRows file bits c r v w = looked file bits (grey c) (r ∷ r ∷ r ∷ []) (thrice 0 1) (thrice (pos v) (pos w))
 
 abbrev pub zeroAndHalf : String
 zeroAndHalf = "LUT_1D_SIZE 2\n0 0 0\n0.5 0.5 0.5\n"
@@ -395,6 +411,88 @@ written =
     ∷ notWritten (describedBy titledHalf) (tableFrom titledHalf) (bytes "a\tb") 100 27
     ∷ notWritten (describedBy titledHalf) (tableFrom titledHalf) (replicate 243 65) 3 27
     ∷ notWritten (describedBy titledHalf) (tableFrom titledHalf) (replicate 242 65) 3 13
+    ∷ []
+
+-- ---- document 02, Req 09: the two halves of a look
+
+-- the rows and weights of a pixel at a raw depth
+abbrev pub found : String → ℕ → Codes → List ℕ → List ℤ → Case
+found file raw pixel rows weights = record {
+  asked = finding (describedBy file) (tableFrom file) raw pixel;
+  expected = record { number = 0; line = 0; table = []; codes = []; rows = rows; weights = weights; text = []; count = 0 };
+}
+
+-- a refusal, of the table of two rows, gives zeros
+abbrev pub notFound : Description → ℕ → Codes → ℕ → Case
+notFound d raw pixel number = record {
+  asked = finding d (tableFrom zeroAndHalf) raw pixel;
+  expected = record { number = number; line = 0; table = []; codes = []; rows = replicate 6 0; weights = replicate 6 (pos 0); text = []; count = 0 };
+}
+
+-- the codes of six rows and six weights
+abbrev pub gave : String → Bits → List ℕ → List ℤ → List ℕ → Case
+gave file bits rows weights codes = record {
+  asked = giving (describedBy file) (tableFrom file) bits rows weights;
+  expected = record { number = 0; line = 0; table = []; codes = codes; rows = []; weights = []; text = []; count = 0 };
+}
+
+-- a refusal gives zeros here too
+abbrev pub notGiven : Description → List ℤ → Bits → List ℕ → List ℤ → ℕ → Case
+notGiven d table bits rows weights number = record {
+  asked = giving d table bits rows weights;
+  expected = record { number = number; line = 0; table = []; codes = replicate 3 0; rows = []; weights = []; text = []; count = 0 };
+}
+
+-- 26, with D of 8 bits
+abbrev pub wrong : String → List ℕ → List ℤ → Case
+wrong file rows weights = notGiven (describedBy file) (tableFrom file) (sameBits 8) rows weights 26
+
+-- the rule's own rows and weights of that pixel
+abbrev pub cornerRows : List ℕ
+cornerRows = 0 ∷ 4 ∷ 6 ∷ 7 ∷ 0 ∷ 0 ∷ []
+
+abbrev pub cornerWeights : List ℤ
+cornerWeights = pos 51_000 ∷ pos 102_000 ∷ pos 51_000 ∷ pos 51_000 ∷ pos 0 ∷ pos 0 ∷ []
+
+-- of sample A.3, where each colour has its own D
+abbrev pub rowsA3 : List ℕ
+rowsA3 = 1 ∷ 2 ∷ 1 ∷ 2 ∷ 0 ∷ 1 ∷ []
+
+abbrev pub weightsA3 : List ℤ
+weightsA3 = pos 0 ∷ pos 255_000 ∷ pos 510_000 ∷ pos 0 ∷ pos 255_000 ∷ pos 510_000 ∷ []
+
+-- The first half: 1D and 3D; a code above M in blue alone; 20 before 23, and 24 before both.
+-- The second: the rule's own rows and weights, one time at two depths; others that add up to D, by which blue is 63.75, and of which row 7 of 3D carries 155 parts
+-- of 255; anything at all in the last two places of 3D. 24 before 20, for either depth, before 26. 26 where the raw depth is another than that of the weights, for
+-- the row after the last, also where it carries nothing, a negative weight whose sum is right, a sum one below and one above, and the D of another colour.
+abbrev pub twoHalves : List Case
+twoHalves =
+    found zeroAndHalf 8 (grey 1) (thrice 0 1) (thrice (pos 254_000) (pos 1_000))
+    ∷ found sampleA3 8 (grey 255) rowsA3 weightsA3
+    ∷ found corner 8 cornerPixel cornerRows cornerWeights
+    ∷ notFound (describedBy zeroAndHalf) 8 (record { red = 0; green = 0; blue = 256 }) 23
+    ∷ notFound (describedBy zeroAndHalf) 9 (grey 256) 20
+    ∷ notFound oneRow 9 (grey 256) 24
+    ∷ gave zeroAndHalf (sameBits 8) (thrice 0 1) (thrice (pos 254_000) (pos 1_000)) (1 ∷ 1 ∷ 1 ∷ [])
+    ∷ gave sampleA3 (sameBits 8) rowsA3 weightsA3 (255 ∷ 255 ∷ 255 ∷ [])
+    ∷ gave corner (bitsOf 8 16) cornerRows cornerWeights (13107 ∷ 13107 ∷ 13107 ∷ [])
+    ∷ gave zeroAndHalf (sameBits 8) (1 ∷ 1 ∷ 0 ∷ 0 ∷ 1 ∷ 0 ∷ []) (pos 255_000 ∷ pos 0 ∷ pos 0 ∷ pos 255_000 ∷ pos 127_500 ∷ pos 127_500 ∷ []) (128 ∷ 0 ∷ 64 ∷ [])
+    ∷ gave corner (sameBits 8) (7 ∷ 3 ∷ 7 ∷ 0 ∷ 0 ∷ 0 ∷ []) (pos 100_000 ∷ pos 100_000 ∷ pos 55_000 ∷ pos 0 ∷ pos 0 ∷ pos 0 ∷ []) (155 ∷ 155 ∷ 155 ∷ [])
+    ∷ gave corner (sameBits 8) (0 ∷ 4 ∷ 6 ∷ 7 ∷ 8 ∷ 4_000_000_000 ∷ []) (pos 51_000 ∷ pos 102_000 ∷ pos 51_000 ∷ pos 51_000 ∷ negsuc 4 ∷ pos 9 ∷ []) (51 ∷ 51 ∷ 51 ∷ [])
+    ∷ notGiven oneRow (tableFrom zeroAndHalf) (sameBits 9) (thrice 0 2) (thrice (pos 0) (pos 0)) 24
+    ∷ notGiven (describedBy zeroAndHalf) (tableFrom zeroAndHalf) (bitsOf 9 8) (thrice 0 2) (thrice (pos 0) (pos 0)) 20
+    ∷ notGiven (describedBy zeroAndHalf) (tableFrom zeroAndHalf) (bitsOf 8 9) (thrice 0 2) (thrice (pos 0) (pos 0)) 20
+    ∷ notGiven (describedBy zeroAndHalf) (tableFrom zeroAndHalf) (bitsOf 16 8) (thrice 0 1) (thrice (pos 254_000) (pos 1_000)) 26
+    ∷ wrong zeroAndHalf (0 ∷ 1 ∷ 0 ∷ 1 ∷ 0 ∷ 2 ∷ []) (thrice (pos 254_000) (pos 1_000))
+    ∷ wrong zeroAndHalf (0 ∷ 1 ∷ 2 ∷ 1 ∷ 0 ∷ 1 ∷ []) (thrice (pos 0) (pos 255_000))
+    ∷ wrong zeroAndHalf (thrice 0 1) (pos 255_001 ∷ negsuc 0 ∷ pos 255_000 ∷ pos 0 ∷ pos 255_000 ∷ pos 0 ∷ [])
+    ∷ wrong zeroAndHalf (thrice 0 1) (pos 255_000 ∷ pos 0 ∷ pos 255_000 ∷ pos 0 ∷ pos 254_000 ∷ pos 999 ∷ [])
+    ∷ wrong zeroAndHalf (thrice 0 1) (pos 255_000 ∷ pos 0 ∷ pos 254_000 ∷ pos 1_001 ∷ pos 255_000 ∷ pos 0 ∷ [])
+    ∷ wrong sampleA3 rowsA3 (thrice (pos 0) (pos 255_000))
+    ∷ wrong corner (0 ∷ 4 ∷ 6 ∷ 8 ∷ 0 ∷ 0 ∷ []) (pos 102_000 ∷ pos 102_000 ∷ pos 51_000 ∷ pos 0 ∷ pos 0 ∷ pos 0 ∷ [])
+    ∷ wrong corner cornerRows (pos 102_000 ∷ pos 204_000 ∷ negsuc 101_999 ∷ pos 51_000 ∷ pos 0 ∷ pos 0 ∷ [])
+    ∷ wrong corner cornerRows (pos 51_000 ∷ pos 102_000 ∷ pos 51_000 ∷ pos 50_999 ∷ pos 1 ∷ pos 0 ∷ [])
+    ∷ wrong corner cornerRows (pos 51_001 ∷ pos 102_000 ∷ pos 51_000 ∷ pos 51_000 ∷ pos 0 ∷ pos 0 ∷ [])
     ∷ []
 
 -- ---- what the report program prints

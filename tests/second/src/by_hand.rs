@@ -1,8 +1,10 @@
 //! Document 01, "Checked by hand": every case, marked P or not; the order of the checks that
-//! document 02 adds to; looks through its mixed domains, worked by hand; and the files that it writes.
+//! document 02 adds to; looks through its mixed domains, worked by hand; the files that it writes; and
+//! the halves of a look.
 
 use crate::cases::{CUBE, SAMPLE_A2, SAMPLE_A3, SAMPLE_A4, SMALL};
 use crate::decimal::{value, Value, TEN_MILLIONTHS, THOUSANDTHS};
+use crate::halves::{codes, rows, Codes, Rows};
 use crate::look::{look, Look};
 use crate::paper::{Bits, Description, BOUND_PLACES, REFUSED_DESCRIPTION, SAMPLE_PLACES};
 use crate::picture::picture;
@@ -716,4 +718,147 @@ fn the_longest_text() {
     let reading = read(&text, table.len());
     assert_eq!(reading.samples, table);
     assert_eq!(reading.description[8..], [1, 7, 242]);
+}
+
+/// Document 02, Req 09: "joined they equal the present look".
+#[test]
+fn halves_of_a_look() {
+    let (description, table) = cube();
+    let found = rows(&description, &table, 8, [51, 102, 204]);
+    let weights = [51_000, 102_000, 51_000, 51_000, 0, 0];
+    assert_eq!(found, Rows { number: 0, rows: [0, 4, 6, 7, 0, 0], weights });
+    for (corrected, code) in [(8, 51), (10, 205), (12, 819), (16, 13_107)] {
+        let given = codes(&description, &table, Bits { raw: 8, corrected }, &found.rows, &weights);
+        assert_eq!(given, Codes { number: 0, codes: [code; 3] });
+    }
+}
+
+/// A 1D table of the rows 0, 1 and 2 (and another that is not its own), where the weights of red add
+/// up to 255000, of green to 510000 and of blue to 765000; at 8 bits.
+fn line_codes(rows: [u32; 6], weights: [i64; 6]) -> Codes {
+    let description = [1, 3, 0, 0, 0, 1000, 2000, 3000, 0, 0, 0];
+    let table = [0, 1, 2, 3].map(|row| [row * 10_000_000; 3]).concat();
+    codes(&description, &table, Bits::same(8), &rows, &weights)
+}
+
+/// A 3D table whose rows are their own numbers, as parts of 10; at 8 bits.
+fn cube_codes(rows: [u32; 6], weights: [i64; 6]) -> Codes {
+    let description = domained(2, [0; 3], [1000; 3]);
+    let table = [0, 1, 2, 3, 4, 5, 6, 7].map(|row| [row * 1_000_000; 3]).concat();
+    codes(&description, &table, Bits::same(8), &rows, &weights)
+}
+
+const REFUSED_26: Codes = Codes { number: 26, codes: [0; 3] };
+
+/// The rows need not lie as a pixel's do, nor the weights.
+#[test]
+fn rows_and_weights_of_anybody() {
+    let given = line_codes([2, 0, 1, 1, 0, 1], [51_000, 204_000, 510_000, 0, 765_000, 0]);
+    // a fifth of 2, all of 1, all of 0
+    assert_eq!(given, Codes { number: 0, codes: [102, 255, 0] });
+    // 255000 in all: 7 twice and 0 twice, 0.7 and 0 by halves is 89.25
+    let given = cube_codes([7, 0, 0, 7, 0, 0], [127_500, 0, 127_500, 0, 0, 0]);
+    assert_eq!(given, Codes { number: 0, codes: [89; 3] });
+    // 0.3 of 255 is 76 and a half
+    assert_eq!(cube_codes([3; 6], [0, 255_000, 0, 0, 0, 0]).codes, [77; 3]);
+}
+
+/// "unused places aren't judged"
+#[test]
+fn unused_places_of_3d() {
+    for (row, weight) in [(8, 1), (u32::MAX, i64::MIN), (0, i64::MAX), (7, -1)] {
+        let given = cube_codes([7, 7, 7, 7, row, row], [255_000, 0, 0, 0, weight, weight]);
+        assert_eq!(given, Codes { number: 0, codes: [179; 3] });
+    }
+    // and do not make up for what is missing
+    assert_eq!(cube_codes([7; 6], [254_999, 0, 0, 0, 1, 0]), REFUSED_26);
+}
+
+/// "26 for a row number not below the description's count of rows (also with weight 0), a negative
+/// weight, or weights that don't add up to the denominator"
+#[test]
+fn rows_and_weights_that_are_refused() {
+    let (line, line_weights) = ([0, 1, 1, 2, 0, 2], [255_000, 0, 255_000, 255_000, 0, 765_000]);
+    let cube_weights = [51_000, 102_000, 51_000, 51_000, 0, 0];
+    assert_eq!(line_codes(line, line_weights).number, 0);
+    for at in 0..6 {
+        for row in [3, 4, u32::MAX, 1 << 31] {
+            let mut rows = line;
+            rows[at] = row;
+            assert_eq!(line_codes(rows, line_weights), REFUSED_26, "row {row} at {at}");
+        }
+        for by in [-1, 1, i64::from(i32::MIN), 1 << 32] {
+            let mut weights = line_weights;
+            weights[at] += by;
+            assert_eq!(line_codes(line, weights), REFUSED_26, "{by} at {at}");
+        }
+        for end in [i64::MIN, i64::MAX] {
+            let mut weights = line_weights;
+            weights[at] = end;
+            assert_eq!(line_codes(line, weights), REFUSED_26, "{end} at {at}");
+            assert_eq!(line_codes(line, [end; 6]), REFUSED_26);
+            assert_eq!(cube_codes([0; 6], [end; 6]), REFUSED_26);
+        }
+    }
+    for at in 0..4 {
+        let mut rows = [0; 6];
+        rows[at] = 8;
+        assert_eq!(cube_codes(rows, cube_weights), REFUSED_26);
+        // the sum is kept
+        let mut weights = [0, 0, 0, 0, 0, 0];
+        weights[at] = -1;
+        weights[(at + 1) % 4] = 255_001;
+        assert_eq!(cube_codes([0; 6], weights), REFUSED_26);
+    }
+    // 2 to the 64th more than the denominator, of weights that are not negative
+    assert_eq!(cube_codes([0; 6], [i64::MAX, i64::MAX, 2, 255_000, 0, 0]), REFUSED_26);
+    assert_eq!(
+        line_codes(line, [i64::MIN, i64::MIN + 255_000, 0, 510_000, 0, 765_000]),
+        REFUSED_26
+    );
+    // what other colours' weights add up to
+    assert_eq!(line_codes(line, [510_000, 0, 255_000, 0, 0, 765_000]), REFUSED_26);
+}
+
+/// Document 02, Req 07: the common denominator is 255·2·1·1.
+#[test]
+fn weights_of_mixed_domains() {
+    let description = domained(2, [0; 3], [2000, 1000, 1000]);
+    let (_, table) = cube();
+    let given = |weights| codes(&description, &table, Bits::same(8), &[0, 4, 6, 7, 0, 0], &weights);
+    assert_eq!(given([102, 204, 153, 51, 0, 0]), Codes { number: 0, codes: [26; 3] });
+    assert_eq!(given([102, 204, 153, 52, 0, 0]), REFUSED_26);
+    assert_eq!(given([51_000, 102_000, 51_000, 51_000, 0, 0]), REFUSED_26);
+}
+
+/// "the first half 24, 20, 23; the second 24, 20 for the raw depth and then the corrected, then 26
+/// [...]; zeros each time"
+#[test]
+fn order_of_checks_in_halves() {
+    let (good, bad, table) = cube_and_none();
+    let first = |description: &Description, raw, pixel| {
+        let found = rows(description, &table, raw, pixel);
+        assert!(found.number == 0 || (found.rows, found.weights) == ([0; 6], [0; 6]));
+        found.number
+    };
+    assert_eq!(first(&bad, 9, [256, 0, 0]), 24);
+    assert_eq!(first(&bad, 8, [256, 0, 0]), 24);
+    assert_eq!(first(&good, 9, [256, 0, 0]), 20);
+    assert_eq!(first(&good, 8, [256, 0, 0]), 23);
+    assert_eq!(first(&good, 10, [256, 0, 0]), 0);
+    let second = |description: &Description, raw, corrected, last: i64| {
+        let weights = [0, 0, 0, last, 0, 0];
+        let given = codes(description, &table, Bits { raw, corrected }, &[0; 6], &weights);
+        assert!(given.number == 0 || given.codes == [0; 3]);
+        given.number
+    };
+    for (raw, corrected) in [(9, 9), (9, 8), (8, 9)] {
+        assert_eq!(second(&bad, raw, corrected, -1), 24);
+        assert_eq!(second(&good, raw, corrected, -1), 20);
+        assert_eq!(second(&good, raw, corrected, 255_000), 20);
+    }
+    assert_eq!(second(&bad, 8, 8, 255_000), 24);
+    assert_eq!(second(&good, 8, 16, -1), 26);
+    assert_eq!(second(&good, 8, 16, 255_000), 0);
+    assert_eq!(second(&good, 16, 8, 255_000), 26);
 }

@@ -16,6 +16,8 @@
 //! - write: number, length, how many of the lent bytes hold 7 afterwards, and, unless the length
 //!   is 0, so many of the lent bytes from the first on, each newline shown as `|`. Before the call
 //!   every byte held 7. Of write-title-242 these bytes are not shown.
+//! - rows: number, six rows, six weights.
+//! - codes: number, three codes.
 //!
 //! What is read, `NL` standing for a newline and `CR` for a carriage return. WORD(w) is
 //! `LUT_1D_SIZE 2 NL w 0 0 NL 0 0 0 NL` without the blanks around NL, and CUBE is
@@ -173,7 +175,46 @@
 //! By hand: `TITLE "smoke"` and its newline are 14 bytes, and the other five lines 14, 17, 17, 6
 //! and 8, so 76 in all. A line with 242 bytes of title has 250. 24 comes before 27, and 27 before
 //! 13.
+//!
+//! Halves of a look. LINES is the description 1 3 0 0 0 1000 2000 3000 0 0 0 with sample A.3's nine
+//! numbers, 0 0 0 5000000 10000000 15000000 10000000 10000000 10000000; RED-TO-2 is
+//! 3 2 0 0 0 2000 1000 1000 0 0 0 with STAIR's 24 numbers; CUBE has its description and its 24
+//! numbers. KIND-2 is CUBE but 2 for the description's first. LEAST and GREATEST are the ends of 64
+//! signed bits.
+//!
+//! | name | table | raw bits | pixel |
+//! |---|---|---|---|
+//! | rows-lines | LINES | 8 | 51 102 255 |
+//! | rows-cube | CUBE | 8 | 51 102 204 |
+//! | rows-mixed | RED-TO-2 | 12 | 819 1638 3276 |
+//! | rows-kind-2 | KIND-2 | 9 | 0 0 256 |
+//! | rows-9-bits | CUBE | 9 | 0 0 256 |
+//! | rows-code-256 | CUBE | 8 | 0 0 256 |
+//!
+//! | name | table | bits | rows | weights |
+//! |---|---|---|---|---|
+//! | codes-cube | CUBE | 8 to 16 | 0 4 6 7 0 0 | 51000 102000 51000 51000 0 0 |
+//! | codes-mixed | RED-TO-2 | 12 to 16 | 0 4 6 7 0 0 | 1638 3276 2457 819 0 0 |
+//! | codes-lines | LINES | 8 to 8 | 0 1 0 1 0 1 | 153000 102000 306000 204000 255000 510000 |
+//! | codes-any-rows | LINES | 8 to 8 | 2 0 1 1 0 2 | 51000 204000 510000 0 459000 306000 |
+//! | codes-unused-places | CUBE | 8 to 8 | 7 0 0 7 8 4294967295 | 51000 204000 0 0 LEAST -1 |
+//! | codes-kind-2 | KIND-2 | 9 to 9 | 8 0 0 0 0 0 | 255000 0 0 0 0 0 |
+//! | codes-9-to-8 | CUBE | 9 to 8 | 8 0 0 0 0 0 | 255000 0 0 0 0 0 |
+//! | codes-8-to-9 | CUBE | 8 to 9 | 8 0 0 0 0 0 | 255000 0 0 0 0 0 |
+//! | codes-row-8 | CUBE | 8 to 8 | 0 0 0 8 0 0 | 255000 0 0 0 0 0 |
+//! | codes-row-greatest | LINES | 8 to 8 | 0 0 0 4294967295 0 0 | 255000 0 510000 0 765000 0 |
+//! | codes-negative | CUBE | 8 to 8 | 0 0 0 0 0 0 | 255001 -1 0 0 0 0 |
+//! | codes-one-less | LINES | 8 to 8 | 0 0 0 0 0 0 | 255000 0 509999 0 765000 0 |
+//! | codes-one-more | LINES | 8 to 8 | 0 0 0 0 0 0 | 255000 0 510000 0 765000 1 |
+//! | codes-sum-wraps | CUBE | 8 to 8 | 0 0 0 0 0 0 | GREATEST GREATEST 2 255000 0 0 |
+//! | codes-all-least | LINES | 8 to 8 | 0 0 0 0 0 0 | LEAST, six times |
+//!
+//! By hand: with N = 3 a is counted twice, so of LINES 51 is 102000 of 255000 in red, 102 is 204000 of
+//! 510000 in green and 255 is 510000 of 765000 in blue, each in the first cell; 0.2, 0.4 and 1 are the
+//! values, and 51, 102 and 255 the codes. Of any rows: a fifth of 1 in red, all of 1 in green, two
+//! fifths of 1 in blue. GREATEST twice and 2 are 2 to the 64th.
 
+use crate::halves::{codes, rows};
 use crate::look::{look, Look};
 use crate::paper::{place, Bits, Description};
 use crate::picture::picture;
@@ -208,6 +249,8 @@ pub fn printed() -> String {
         .chain(checks)
         .chain(mixed_domains())
         .chain(write_lines())
+        .chain(rows_lines())
+        .chain(codes_lines())
         .map(|line| line + "\n")
         .collect()
 }
@@ -519,5 +562,98 @@ fn write_line(
 
 fn longest_title_line(name: &str) -> String {
     let (fields, _) = write_fields(&line(1), &HALF, &[b'x'; 242], 320);
+    format!("{name}\t{}", list(&fields, "\t"))
+}
+
+// ---- halves of a look
+
+/// A description and a table.
+type Table = (Description, Vec<i64>);
+
+const CUBE_DESCRIPTION: Description = [3, 2, 0, 0, 0, 1000, 1000, 1000, 0, 0, 0];
+
+fn cube() -> Table {
+    (CUBE_DESCRIPTION, cube_table().to_vec())
+}
+
+fn kind_2() -> Table {
+    let mut description = CUBE_DESCRIPTION;
+    description[place::KIND] = 2;
+    (description, cube_table().to_vec())
+}
+
+fn red_to_2() -> Table {
+    ([3, 2, 0, 0, 0, 2000, 1000, 1000, 0, 0, 0], stair().to_vec())
+}
+
+fn lines() -> Table {
+    let samples = [[0, 0, 0], [5_000_000, 10_000_000, 15_000_000], [10_000_000; 3]];
+    ([1, 3, 0, 0, 0, 1000, 2000, 3000, 0, 0, 0], samples.concat())
+}
+
+fn rows_lines() -> [String; 6] {
+    [
+        rows_line("rows-lines", lines(), 8, [51, 102, 255]),
+        rows_line("rows-cube", cube(), 8, [51, 102, 204]),
+        rows_line("rows-mixed", red_to_2(), 12, [819, 1638, 3276]),
+        rows_line("rows-kind-2", kind_2(), 9, [0, 0, 256]),
+        rows_line("rows-9-bits", cube(), 9, [0, 0, 256]),
+        rows_line("rows-code-256", cube(), 8, [0, 0, 256]),
+    ]
+}
+
+fn rows_line(name: &str, (description, table): Table, raw: u32, pixel: [u16; 3]) -> String {
+    let found = rows(&description, &table, raw, pixel);
+    let mut fields = vec![i64::from(found.number)];
+    fields.extend(found.rows.map(i64::from));
+    fields.extend(found.weights);
+    format!("{name}\t{}", list(&fields, "\t"))
+}
+
+fn codes_lines() -> Vec<String> {
+    let (least, greatest) = (i64::MIN, i64::MAX);
+    let met = [0, 4, 6, 7, 0, 0];
+    let of_cube = [51_000, 102_000, 51_000, 51_000, 0, 0];
+    let of_mixed = [1638, 3276, 2457, 819, 0, 0];
+    let of_lines = [153_000, 102_000, 306_000, 204_000, 255_000, 510_000];
+    let any = [51_000, 204_000, 510_000, 0, 459_000, 306_000];
+    let first = [255_000, 0, 0, 0, 0, 0];
+    let firsts = [255_000, 0, 510_000, 0, 765_000, 0];
+    let unused = [51_000, 204_000, 0, 0, least, -1];
+    vec![
+        codes_line("codes-cube", cube(), [8, 16], met, of_cube),
+        codes_line("codes-mixed", red_to_2(), [12, 16], met, of_mixed),
+        codes_line("codes-lines", lines(), [8, 8], [0, 1, 0, 1, 0, 1], of_lines),
+        codes_line("codes-any-rows", lines(), [8, 8], [2, 0, 1, 1, 0, 2], any),
+        codes_line("codes-unused-places", cube(), [8, 8], [7, 0, 0, 7, 8, u32::MAX], unused),
+        codes_line("codes-kind-2", kind_2(), [9, 9], [8, 0, 0, 0, 0, 0], first),
+        codes_line("codes-9-to-8", cube(), [9, 8], [8, 0, 0, 0, 0, 0], first),
+        codes_line("codes-8-to-9", cube(), [8, 9], [8, 0, 0, 0, 0, 0], first),
+        codes_line("codes-row-8", cube(), [8, 8], [0, 0, 0, 8, 0, 0], first),
+        codes_line("codes-row-greatest", lines(), [8, 8], [0, 0, 0, u32::MAX, 0, 0], firsts),
+        codes_line("codes-negative", cube(), [8, 8], [0; 6], [255_001, -1, 0, 0, 0, 0]),
+        codes_line("codes-one-less", lines(), [8, 8], [0; 6], [255_000, 0, 509_999, 0, 765_000, 0]),
+        codes_line("codes-one-more", lines(), [8, 8], [0; 6], [255_000, 0, 510_000, 0, 765_000, 1]),
+        codes_line(
+            "codes-sum-wraps",
+            cube(),
+            [8, 8],
+            [0; 6],
+            [greatest, greatest, 2, 255_000, 0, 0],
+        ),
+        codes_line("codes-all-least", lines(), [8, 8], [0; 6], [least; 6]),
+    ]
+}
+
+fn codes_line(
+    name: &str,
+    (description, table): Table,
+    [raw, corrected]: [u32; 2],
+    rows: [u32; 6],
+    weights: [i64; 6],
+) -> String {
+    let given = codes(&description, &table, Bits { raw, corrected }, &rows, &weights);
+    let mut fields = vec![i64::from(given.number)];
+    fields.extend(given.codes.map(i64::from));
     format!("{name}\t{}", list(&fields, "\t"))
 }

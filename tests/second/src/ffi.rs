@@ -3,7 +3,8 @@
 //! Every buffer is lent from the middle of a larger one, and what stands around it is
 //! compared afterwards; so is what was lent for reading only.
 
-use crate::gen::{FileCase, LookCase, PictureCase, WriteCase};
+use crate::gen::{CodesCase, FileCase, LookCase, PictureCase, WriteCase};
+use crate::halves::{Codes, Rows};
 use crate::look::Look;
 use crate::reading::Check;
 use crate::side::{byte_pattern, code_pattern, pattern};
@@ -36,6 +37,25 @@ extern "C" {
         codes: *mut u16,
         rows: *mut u32,
         weights: *mut i64,
+    ) -> u32;
+    fn erythmoda_rows(
+        description: *const i64,
+        table: *const i64,
+        table_len: usize,
+        raw_bits: u32,
+        pixel: *const u16,
+        rows: *mut u32,
+        weights: *mut i64,
+    ) -> u32;
+    fn erythmoda_codes(
+        description: *const i64,
+        table: *const i64,
+        table_len: usize,
+        raw_bits: u32,
+        corrected_bits: u32,
+        rows: *const u32,
+        weights: *const i64,
+        codes: *mut u16,
     ) -> u32;
     fn erythmoda_picture(
         description: *const i64,
@@ -197,6 +217,64 @@ impl Side for Ours {
         look.rows.copy_from_slice(rows.now());
         look.weights.copy_from_slice(weights.now());
         Ok(look)
+    }
+
+    fn rows(&self, case: &LookCase) -> Result<Rows, String> {
+        let mut description = Lent::of(&case.description, -1);
+        let mut table = Lent::of(&case.table, -2);
+        let mut pixel = Lent::of(&case.pixel, 0xFFFF);
+        let mut rows = Lent::of(&[0xDEAD_BEEF_u32; 6], 7);
+        let mut weights = Lent::new((0..6).map(pattern), -3);
+        // SAFETY: each pointer is to as many places as are told, or as the boundary fixes.
+        let number = unsafe {
+            erythmoda_rows(
+                description.pointer(),
+                table.pointer(),
+                case.table.len(),
+                case.bits.raw,
+                pixel.pointer(),
+                rows.pointer(),
+                weights.pointer(),
+            )
+        };
+        description.unchanged("the description")?;
+        table.unchanged("the table")?;
+        pixel.unchanged("the pixel")?;
+        rows.guarded("the rows")?;
+        weights.guarded("the weights")?;
+        let mut found = Rows { number, rows: [0; 6], weights: [0; 6] };
+        found.rows.copy_from_slice(rows.now());
+        found.weights.copy_from_slice(weights.now());
+        Ok(found)
+    }
+
+    fn codes(&self, case: &CodesCase) -> Result<Codes, String> {
+        let mut description = Lent::of(&case.description, -1);
+        let mut table = Lent::of(&case.table, -2);
+        let mut rows = Lent::of(&case.rows, u32::MAX);
+        let mut weights = Lent::of(&case.weights, -3);
+        let mut codes = Lent::new((0..3).map(code_pattern), 0x5A5A);
+        // SAFETY: each pointer is to as many places as are told, or as the boundary fixes.
+        let number = unsafe {
+            erythmoda_codes(
+                description.pointer(),
+                table.pointer(),
+                case.table.len(),
+                case.bits.raw,
+                case.bits.corrected,
+                rows.pointer(),
+                weights.pointer(),
+                codes.pointer(),
+            )
+        };
+        description.unchanged("the description")?;
+        table.unchanged("the table")?;
+        rows.unchanged("the rows")?;
+        weights.unchanged("the weights")?;
+        codes.guarded("the codes")?;
+        let mut given = Codes { number, codes: [0; 3] };
+        given.codes.copy_from_slice(codes.now());
+        Ok(given)
     }
 
     fn picture(&self, case: &PictureCase) -> Result<PictureAnswer, String> {

@@ -1,4 +1,4 @@
-//! Inputs made from a seed: files, looks, pictures and writes.
+//! Inputs made from a seed: files, looks, pictures, writes, and rows and weights.
 //!
 //! Each case is drawn from the seed, its call and its own number, so one case can
 //! be made again without those before it.
@@ -7,6 +7,7 @@ pub mod damage;
 pub mod draws;
 pub mod files;
 pub mod lookups;
+pub mod shares;
 pub mod words;
 pub mod writes;
 
@@ -43,6 +44,17 @@ pub struct PictureCase {
     pub made: Vec<&'static str>,
 }
 
+/// What the second half of a look is given.
+#[derive(Clone, Debug)]
+pub struct CodesCase {
+    pub description: Description,
+    pub table: Vec<i64>,
+    pub bits: Bits,
+    pub rows: [u32; 6],
+    pub weights: [i64; 6],
+    pub made: Vec<&'static str>,
+}
+
 /// What write is given, and how many bytes are lent for the text.
 #[derive(Clone, Debug)]
 pub struct WriteCase {
@@ -67,6 +79,16 @@ pub fn picture_case(seed: u64, index: u64) -> PictureCase {
 
 pub fn write_case(seed: u64, index: u64) -> WriteCase {
     writes::write(&mut Draws::of(seed, 5, index))
+}
+
+/// What the first half of a look is given, with the corrected depth of the look that it is a half
+/// of.
+pub fn rows_case(seed: u64, index: u64) -> LookCase {
+    lookups::look(&mut Draws::of(seed, 6, index))
+}
+
+pub fn codes_case(seed: u64, index: u64) -> CodesCase {
+    shares::codes(&mut Draws::of(seed, 7, index))
 }
 
 /// A report's input: a file of any sort, or one about the report's limits of bytes or of

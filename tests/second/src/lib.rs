@@ -12,6 +12,7 @@
 //! | `reading` | "Lines", "Answers by number" |
 //! | `look` | "Interpolation" |
 //! | `picture` | "a run of pixels to corrected codes" |
+//! | `halves` | document 02's "Two halves of a look" |
 //! | `writing` | document 02's "Write our own tables" |
 //! | `report` | "The report program" |
 //! | `cases` | "Checked by hand", the cases not marked P |
@@ -24,6 +25,7 @@
 pub mod cases;
 pub mod decimal;
 pub mod gen;
+pub mod halves;
 pub mod look;
 pub mod met;
 pub mod paper;

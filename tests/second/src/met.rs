@@ -1,8 +1,10 @@
 //! What an accepted look met, in 3D also which order of the three fractions; what files did by the
 //! points of their numbers, by one domain line without the other and by the domains of 3D; and what
-//! looks and pictures did by their two depths and by mixed domains; and what writes did. A stream
-//! has to come to each of these places, since they are where a mistake would show.
+//! looks and pictures did by their two depths and by mixed domains; and what writes and the halves
+//! of looks did. A stream has to come to each of these places, since they are where a mistake would
+//! show.
 
+pub mod shares;
 pub mod writes;
 
 use crate::gen::lookups::common_divisor;
@@ -431,27 +433,33 @@ fn colour_met(
     let (lower, upper) = (wide(place::LOWER + colour), wide(place::UPPER + colour));
     let (raw, corrected) = (case.pixel[colour], look.codes[colour]);
     let at = 1000 * i128::from(raw);
-    let weighed = |share: usize| {
-        let sample = case.table[3 * look.rows[share] as usize + colour];
-        i128::from(look.weights[share]) * i128::from(sample)
-    };
-    let sum: i128 = used.clone().map(weighed).sum();
-    let weights = used.map(|share| i128::from(look.weights[share])).filter(|weight| *weight != 0);
-    let one = weights.clone().sum::<i128>() * i128::from(SAMPLE_UNITS);
-    let step = weights.clone().fold(0, |step, weight| common_divisor(step, weight).0);
-    let [tie, nearly] = tie_met(m.corrected, sum, one, step);
+    let shares: Vec<(u32, i64)> = used.map(|at| (look.rows[at], look.weights[at])).collect();
+    let [tie, nearly, below, above] = value_met(m.corrected, &case.table, colour, &shares);
     [
         tie,
         nearly,
-        sum < 0,
-        sum > one,
+        below,
+        above,
         false,
-        weights.count() == 1,
+        shares.iter().filter(|(_, weight)| *weight != 0).count() == 1,
         at < lower * i128::from(m.raw),
         at > upper * i128::from(m.raw),
         raw > m.corrected,
         corrected > m.raw,
     ]
+}
+
+/// For the first four of the names, whether a colour's rows and weights meet it.
+fn value_met(m: u16, table: &[i64], colour: usize, shares: &[(u32, i64)]) -> [bool; DIVIDED] {
+    let weighed = |(row, weight): &(u32, i64)| {
+        i128::from(*weight) * i128::from(table[3 * *row as usize + colour])
+    };
+    let sum: i128 = shares.iter().map(weighed).sum();
+    let weights = shares.iter().map(|(_, weight)| i128::from(*weight));
+    let one = weights.clone().sum::<i128>() * i128::from(SAMPLE_UNITS);
+    let step = weights.fold(0, |step, weight| common_divisor(step, weight).0);
+    let [tie, nearly] = tie_met(m, sum, one, step);
+    [tie, nearly, sum < 0, sum > one]
 }
 
 /// Whether the value of a sum is half way between two codes, or not but at most one step of the

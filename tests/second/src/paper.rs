@@ -1,6 +1,6 @@
 //! Document 01's numbers, units and ranges, each once.
 
-/// "Answers by number", and document 02's 19 and 27. It says 13 of a table and of bytes.
+/// "Answers by number", and document 02's 19, 26 and 27. It says 13 of a table and of bytes.
 pub mod number {
     pub const ACCEPTED: u32 = 0;
     pub const LINE_TOO_LONG: u32 = 1;
@@ -27,6 +27,7 @@ pub mod number {
     pub const OUTPUT_SHORT: u32 = 22;
     pub const CODE_ABOVE_M: u32 = 23;
     pub const NOT_FROM_READING: u32 = 24;
+    pub const ROWS_OR_WEIGHTS_WRONG: u32 = 26;
     pub const TITLE_NOT_PLAIN: u32 = 27;
     pub const INPUT_TOO_LONG: u32 = 30;
 }

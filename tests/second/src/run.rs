@@ -1,12 +1,15 @@
 //! A whole stream of cases: each is made, put to one side or two, and counted.
 
-use crate::gen::{file_case, look_case, picture_case, write_case};
-use crate::gen::{FileCase, LookCase, PictureCase, WriteCase};
+use crate::gen::{codes_case, file_case, look_case, picture_case, rows_case, write_case};
+use crate::gen::{CodesCase, FileCase, LookCase, PictureCase, WriteCase};
+use crate::halves::{denominator, used, Codes, Rows};
 use crate::look::{look, Cube, Look};
-use crate::met::writes::{writes_met, GROUPS, MOST_NAMES};
+use crate::met::shares::{codes_met, rows_met, CODES_GROUPS, ROWS_GROUPS};
+use crate::met::writes::{writes_met, GROUPS};
 use crate::met::{bound_of_12_met, bound_of_24_met, domains_met};
 use crate::met::{depth_refusals_met, halves_met, met, order_met, pair_met, points_met};
 use crate::met::{is_mixed, mixed_met, shapes_met, widths_met};
+use crate::met::{shares, writes};
 use crate::met::{BOUNDS, DEPTH_REFUSALS, DEPTH_REFUSALS_OF_LOOK, DIVIDED, DOMAINS, HALVES};
 use crate::met::{JUDGED, MIXED, NAMES, ORDERS, PAIRS, POINTS, SHAPES, WIDTHS};
 use crate::paper::{number, place, Bits, Description};
@@ -15,7 +18,7 @@ use crate::reading::Check;
 use crate::show::{list, quoted, shortened, where_not_zero};
 use crate::side::{byte_pattern, pattern};
 use crate::side::{PictureAnswer, ReadAnswer, Second, Side, WriteAnswer};
-use crate::small::{smaller_file, smaller_look, smaller_picture, smaller_write};
+use crate::small::{smaller_codes, smaller_file, smaller_look, smaller_picture, smaller_write};
 use crate::writing::{is_marked, longest_text};
 use std::collections::BTreeMap;
 use std::fmt::Write;
@@ -28,6 +31,8 @@ pub struct Wanted {
     pub looks: u64,
     pub pictures: u64,
     pub writes: u64,
+    /// Of each half of a look.
+    pub halves: u64,
 }
 
 /// The numbers that each call can answer.
@@ -44,6 +49,13 @@ const PICTURE_NUMBERS: [u32; 6] = [
     number::CODE_ABOVE_M,
     number::NOT_FROM_READING,
 ];
+const ROWS_NUMBERS: [u32; 4] = LOOK_NUMBERS;
+const CODES_NUMBERS: [u32; 4] = [
+    number::ACCEPTED,
+    number::DEPTH_UNKNOWN,
+    number::NOT_FROM_READING,
+    number::ROWS_OR_WEIGHTS_WRONG,
+];
 const WRITE_NUMBERS: [u32; 4] =
     [number::ACCEPTED, number::TOO_LITTLE_ROOM, number::NOT_FROM_READING, number::TITLE_NOT_PLAIN];
 
@@ -55,6 +67,8 @@ pub struct Counts {
     look: BTreeMap<u32, u64>,
     picture: BTreeMap<u32, u64>,
     write: BTreeMap<u32, u64>,
+    rows: BTreeMap<u32, u64>,
+    codes: BTreeMap<u32, u64>,
     points: [u64; POINTS.len()],
     halves: [[u64; HALVES.len()]; JUDGED.len()],
     domains: [u64; DOMAINS.len()],
@@ -68,7 +82,9 @@ pub struct Counts {
     looks_by_domains: ByDomains,
     pictures: ByDepths,
     pictures_by_domains: ByDomains,
-    writes: [[u64; MOST_NAMES]; GROUPS.len()],
+    writes: [[u64; writes::MOST_NAMES]; GROUPS.len()],
+    first_halves: [[u64; shares::MOST_NAMES]; ROWS_GROUPS.len()],
+    second_halves: [[u64; shares::MOST_NAMES]; CODES_GROUPS.len()],
 }
 
 /// What accepted looks met, of all domains or of mixed ones.
@@ -106,7 +122,9 @@ impl Counts {
             ("check", &self.check, Vec::new()),
             ("look", &self.look, self.looks_met()),
             ("picture", &self.picture, self.pictures_met()),
-            ("write", &self.write, self.writes_met()),
+            ("write", &self.write, grouped(&GROUPS, &self.writes)),
+            ("rows", &self.rows, grouped(&ROWS_GROUPS, &self.first_halves)),
+            ("codes", &self.codes, grouped(&CODES_GROUPS, &self.second_halves)),
         ];
         let made = calls.into_iter().filter(|(_, counts, _)| !counts.is_empty());
         made.map(|(name, counts, met)| {
@@ -141,11 +159,6 @@ impl Counts {
     fn pictures_met(&self) -> Vec<Met<'_>> {
         let by_depths = self.pictures.met("pictures", &DEPTH_REFUSALS);
         by_depths.into_iter().chain(self.pictures_by_domains.met("pictures")).collect()
-    }
-
-    fn writes_met(&self) -> Vec<Met<'_>> {
-        let groups = GROUPS.into_iter().zip(&self.writes);
-        groups.map(|((title, names), counts)| (title.to_string(), names, &counts[..])).collect()
     }
 
     fn note_file(&mut self, case: &FileCase, answer: &ReadAnswer) {
@@ -193,6 +206,20 @@ impl Counts {
         }
     }
 
+    fn note_rows(&mut self, case: &LookCase, answer: &Rows) {
+        *self.rows.entry(answer.number).or_default() += 1;
+        for (counts, met) in self.first_halves.iter_mut().zip(rows_met(case, answer)) {
+            add_met(counts, &met);
+        }
+    }
+
+    fn note_codes(&mut self, case: &CodesCase, answer: &Codes) {
+        *self.codes.entry(answer.number).or_default() += 1;
+        for (counts, met) in self.second_halves.iter_mut().zip(codes_met(case, answer)) {
+            add_met(counts, &met);
+        }
+    }
+
     /// The numbers never seen on a call that was asked for, and what none of its cases met.
     pub fn missing(&self, wanted: &Wanted) -> Vec<String> {
         let of_check: Vec<u32> = READ_NUMBERS.filter(|n| *n != NEVER_BY_CHECK).collect();
@@ -202,7 +229,21 @@ impl Counts {
             ("check", wanted.tables, &self.check, &of_check, Vec::new()),
             ("look", wanted.looks, &self.look, &LOOK_NUMBERS, self.looks_met()),
             ("picture", wanted.pictures, &self.picture, &PICTURE_NUMBERS, self.pictures_met()),
-            ("write", wanted.writes, &self.write, &WRITE_NUMBERS, self.writes_met()),
+            ("write", wanted.writes, &self.write, &WRITE_NUMBERS, grouped(&GROUPS, &self.writes)),
+            (
+                "rows",
+                wanted.halves,
+                &self.rows,
+                &ROWS_NUMBERS,
+                grouped(&ROWS_GROUPS, &self.first_halves),
+            ),
+            (
+                "codes",
+                wanted.halves,
+                &self.codes,
+                &CODES_NUMBERS,
+                grouped(&CODES_GROUPS, &self.second_halves),
+            ),
         ];
         let mut missing = Vec::new();
         for (name, _, counts, numbers, met) in calls.iter().filter(|(_, asked, ..)| *asked > 0) {
@@ -276,6 +317,15 @@ impl ByDomains {
     }
 }
 
+/// What was met of groups of names, each behind its title.
+fn grouped<'a, const MOST: usize>(
+    groups: &[(&str, &'static [&'static str])],
+    counts: &'a [[u64; MOST]],
+) -> Vec<Met<'a>> {
+    let counted = groups.iter().zip(counts);
+    counted.map(|((title, names), counts)| (title.to_string(), *names, &counts[..])).collect()
+}
+
 fn add_met(counts: &mut [u64], met: &[bool]) {
     for (many, on) in counts.iter_mut().zip(met) {
         *many += u64::from(*on);
@@ -320,6 +370,14 @@ pub fn run(wanted: &Wanted, other: Option<&dyn Side>) -> Result<Counts, String> 
         let case = write_case(wanted.seed, index);
         let answer = one_write(&case, other).map_err(|d| told(index, d))?;
         counts.note_write(&case, &answer);
+    }
+    for index in 0..wanted.halves {
+        let case = rows_case(wanted.seed, index);
+        let answer = one_rows(&case, other).map_err(|d| told(index, d))?;
+        counts.note_rows(&case, &answer);
+        let case = codes_case(wanted.seed, index);
+        let answer = one_codes(&case, other).map_err(|d| told(index, d))?;
+        counts.note_codes(&case, &answer);
     }
     Ok(counts)
 }
@@ -375,7 +433,8 @@ fn one_look(case: &LookCase, other: Option<&dyn Side>) -> Result<Look, String> {
     let own = Second.look(case)?;
     match other {
         Some(side) if side.look(case).as_ref() != Ok(&own) => {
-            Err(tell_look(&smaller_look(case, side), side))
+            let differs = |case: &LookCase| side.look(case) != Second.look(case);
+            Err(tell_look(&smaller_look(case, differs), side))
         }
         _ => Ok(own),
     }
@@ -438,6 +497,87 @@ fn written(side: &dyn Side, case: &WriteCase) -> Result<WriteAnswer, String> {
     Ok(answer)
 }
 
+fn one_rows(case: &LookCase, other: Option<&dyn Side>) -> Result<Rows, String> {
+    let own = joined(&Second, case)?;
+    match other {
+        Some(side) if joined(side, case).as_ref() != Ok(&own) => {
+            let differs = |case: &LookCase| joined(side, case) != joined(&Second, case);
+            Err(tell_rows(&smaller_look(case, differs), side))
+        }
+        _ => Ok(own),
+    }
+}
+
+/// What a side answers for the first half of a look, put to its second half and to its look. "With
+/// known depths, joined they equal the present look and its refusals."
+fn joined(side: &dyn Side, case: &LookCase) -> Result<Rows, String> {
+    let found = side.rows(case)?;
+    if case.bits.greatest().is_none() {
+        return Ok(found);
+    }
+    let codes = match found.number {
+        number::ACCEPTED => side.codes(&CodesCase {
+            description: case.description,
+            table: case.table.clone(),
+            bits: case.bits,
+            rows: found.rows,
+            weights: found.weights,
+            made: Vec::new(),
+        })?,
+        number => Codes { number, codes: [0; 3] },
+    };
+    let (rows, weights) = (found.rows, found.weights);
+    let both = Look { number: codes.number, codes: codes.codes, rows, weights };
+    let seen = side.look(case)?;
+    match both == seen {
+        true => Ok(found),
+        false => Err(format!("{}, joined, and looked at {}", tell_seen(&both), tell_seen(&seen))),
+    }
+}
+
+fn one_codes(case: &CodesCase, other: Option<&dyn Side>) -> Result<Codes, String> {
+    let own = between(&Second, case)?;
+    match other {
+        Some(side) if between(side, case).as_ref() != Ok(&own) => {
+            let differs = |case: &CodesCase| between(side, case) != between(&Second, case);
+            Err(tell_codes(&smaller_codes(case, differs), side))
+        }
+        _ => Ok(own),
+    }
+}
+
+/// What a side answers for the second half of a look, put to what it answers for each of the rows
+/// alone. "Any weights the second half accepts give codes between those of the rows that carry
+/// weight."
+fn between(side: &dyn Side, case: &CodesCase) -> Result<Codes, String> {
+    let answer = side.codes(case)?;
+    let (number::ACCEPTED, Some(cube), Some(m)) =
+        (answer.number, Cube::of(&case.description, &case.table), case.bits.greatest())
+    else {
+        // refused, or accepted by a mistake that shows without all this
+        return Ok(answer);
+    };
+    let (mut least, mut greatest) = ([u16::MAX; 3], [0; 3]);
+    for step in used(cube.kind, 0) {
+        let mut alone = CodesCase { weights: [0; 6], ..case.clone() };
+        for colour in 0..3 {
+            let at = used(cube.kind, colour).start + step;
+            alone.weights[at] = denominator(&cube, m.raw, colour) as i64;
+        }
+        let row = side.codes(&alone)?;
+        for colour in 0..3 {
+            if case.weights[used(cube.kind, colour).start + step] > 0 {
+                least[colour] = least[colour].min(row.codes[colour]);
+                greatest[colour] = greatest[colour].max(row.codes[colour]);
+            }
+        }
+    }
+    match (0..3).all(|c| (least[c]..=greatest[c]).contains(&answer.codes[c])) {
+        true => Ok(answer),
+        false => Err(format!("{}, not between the rows' codes", tell_given(&answer))),
+    }
+}
+
 /// The description with the title's mark, place and length that reading its text has to give: the
 /// title stands after `TITLE`, a space and a quote.
 fn fitted(case: &WriteCase) -> Description {
@@ -487,11 +627,37 @@ fn tell_look(case: &LookCase, side: &dyn Side) -> String {
     text += &tell_lent(&case.description, &case.table);
     let _ = writeln!(text, "bits: {}", tell_bits(case.bits));
     let _ = writeln!(text, "pixel: {}", list(&case.pixel, " "));
-    text + &two(Second.look(case), side.look(case), |answer: &Look| {
-        let (codes, rows) = (list(&answer.codes, " "), list(&answer.rows, " "));
-        let weights = list(&answer.weights, " ");
-        format!("number {} codes {codes} rows {rows} weights {weights}", answer.number)
+    text + &two(Second.look(case), side.look(case), tell_seen)
+}
+
+fn tell_seen(answer: &Look) -> String {
+    let (codes, rows) = (list(&answer.codes, " "), list(&answer.rows, " "));
+    let weights = list(&answer.weights, " ");
+    format!("number {} codes {codes} rows {rows} weights {weights}", answer.number)
+}
+
+fn tell_rows(case: &LookCase, side: &dyn Side) -> String {
+    let mut text = format!("rows, made by: {}\n", case.made.join("; "));
+    text += &tell_lent(&case.description, &case.table);
+    let _ = writeln!(text, "bits: {}", tell_bits(case.bits));
+    let _ = writeln!(text, "pixel: {}", list(&case.pixel, " "));
+    text + &two(joined(&Second, case), joined(side, case), |answer: &Rows| {
+        let (rows, weights) = (list(&answer.rows, " "), list(&answer.weights, " "));
+        format!("number {} rows {rows} weights {weights}", answer.number)
     })
+}
+
+fn tell_codes(case: &CodesCase, side: &dyn Side) -> String {
+    let mut text = format!("codes, made by: {}\n", case.made.join("; "));
+    text += &tell_lent(&case.description, &case.table);
+    let _ = writeln!(text, "bits: {}", tell_bits(case.bits));
+    let _ = writeln!(text, "rows: {}", list(&case.rows, " "));
+    let _ = writeln!(text, "weights: {}", list(&case.weights, " "));
+    text + &two(between(&Second, case), between(side, case), tell_given)
+}
+
+fn tell_given(answer: &Codes) -> String {
+    format!("number {} codes {}", answer.number, list(&answer.codes, " "))
 }
 
 fn tell_picture(case: &PictureCase, side: &dyn Side) -> String {
@@ -547,15 +713,15 @@ mod tests {
 
     #[test]
     fn every_number_is_seen() {
-        let (tables, looks, pictures, writes) = (10_000, 20_000, 4_000, 10_000);
-        let wanted = Wanted { seed: 1, tables, looks, pictures, writes };
+        let (tables, looks, pictures, writes, halves) = (10_000, 20_000, 4_000, 10_000, 20_000);
+        let wanted = Wanted { seed: 1, tables, looks, pictures, writes, halves };
         let counts = run(&wanted, None).unwrap_or_default();
         assert_eq!(counts.missing(&wanted), Vec::<String>::new(), "{}", counts.shown());
     }
 
     #[test]
     fn what_is_never_met_is_missing() {
-        let wanted = Wanted { seed: 1, tables: 1, looks: 1, pictures: 1, writes: 1 };
+        let wanted = Wanted { seed: 1, tables: 1, looks: 1, pictures: 1, writes: 1, halves: 1 };
         let missing = Counts::default().missing(&wanted);
         let said = |title: &str, names: &[&str]| {
             for name in names {
@@ -582,8 +748,11 @@ mod tests {
         }
         said("looks refused", &DEPTH_REFUSALS[..DEPTH_REFUSALS_OF_LOOK]);
         said("pictures refused", &DEPTH_REFUSALS);
-        for (title, names) in GROUPS {
+        for (title, names) in GROUPS.iter().chain(&ROWS_GROUPS).chain(&CODES_GROUPS) {
             said(title, names);
+        }
+        for number in ["rows 23", "codes 20", "codes 24", "codes 26"] {
+            assert!(missing.contains(&number.to_string()), "{number}");
         }
     }
 
@@ -600,6 +769,8 @@ mod tests {
             assert_eq!(look_case(9, index).table, look_case(9, index).table);
             assert_eq!(picture_case(9, index).source, picture_case(9, index).source);
             assert_eq!(write_case(9, index).title, write_case(9, index).title);
+            assert_eq!(rows_case(9, index).pixel, rows_case(9, index).pixel);
+            assert_eq!(codes_case(9, index).weights, codes_case(9, index).weights);
         }
         assert_ne!(file_case(9, 0).file, file_case(10, 0).file);
     }
@@ -613,6 +784,8 @@ mod tests {
         look: Call<LookCase, Look>,
         picture: Call<PictureCase, PictureAnswer>,
         write: Call<WriteCase, WriteAnswer>,
+        rows: Call<LookCase, Rows>,
+        codes: Call<CodesCase, Codes>,
     }
 
     impl Default for Mistaken {
@@ -623,6 +796,8 @@ mod tests {
                 look: Box::new(|case| Second.look(case)),
                 picture: Box::new(|case| Second.picture(case)),
                 write: Box::new(|case| Second.write(case)),
+                rows: Box::new(|case| Second.rows(case)),
+                codes: Box::new(|case| Second.codes(case)),
             }
         }
     }
@@ -646,6 +821,14 @@ mod tests {
 
         fn write(&self, case: &WriteCase) -> Result<WriteAnswer, String> {
             (self.write)(case)
+        }
+
+        fn rows(&self, case: &LookCase) -> Result<Rows, String> {
+            (self.rows)(case)
+        }
+
+        fn codes(&self, case: &CodesCase) -> Result<Codes, String> {
+            (self.codes)(case)
         }
     }
 
@@ -854,5 +1037,136 @@ mod tests {
             assert!(told.contains("write, made by"), "mistake {at}");
             assert!(told_length(&told, "table:") < 40, "{told}");
         }
+    }
+
+    type ChangedShares = fn(&mut CodesCase);
+    type ChangedCodes = fn(&CodesCase, &mut Codes);
+
+    /// A case's places that are judged, and how many rows there are.
+    fn judged(case: &CodesCase) -> (usize, usize) {
+        let cube = Cube::of(&case.description, &case.table);
+        cube.map_or((0, 0), |cube| (used(cube.kind, 2).end, cube.kind.rows(cube.n)))
+    }
+
+    #[test]
+    fn other_halves_are_found() {
+        let as_others: [ChangedShares; 7] = [
+            // a row without weight is not judged
+            |case| (0..6).filter(|at| case.weights[*at] == 0).for_each(|at| case.rows[at] = 0),
+            // rows are those of the whole table
+            |case| {
+                let (_, count) = judged(case);
+                let later = count..case.table.len() / 3;
+                let rows = case.rows.iter_mut().filter(|row| later.contains(&(**row as usize)));
+                rows.for_each(|row| *row = 0);
+            },
+            // the places of a row's samples have 32 bits
+            |case| case.rows = case.rows.map(|row| row.wrapping_mul(3) / 3),
+            // weights have 32 bits
+            |case| case.weights = case.weights.map(|weight| i64::from(weight as i32)),
+            // the weights go by the other depth
+            |case| case.bits.raw = case.bits.corrected,
+            // the codes have the raw depth
+            |case| case.bits.corrected = case.bits.raw,
+            // the second and the third place are exchanged
+            |case| {
+                case.rows.swap(1, 2);
+                case.weights.swap(1, 2);
+            },
+        ];
+        let with_others: [ChangedCodes; 5] = [
+            // all six places are judged
+            |case, answer| {
+                let (_, count) = judged(case);
+                if answer.number == 0 && case.rows.iter().any(|row| *row as usize >= count) {
+                    *answer = Codes { number: 26, codes: [0; 3] };
+                }
+            },
+            |case, answer| {
+                if answer.number == 0 && case.weights.iter().any(|weight| *weight < 0) {
+                    *answer = Codes { number: 26, codes: [0; 3] };
+                }
+            },
+            // sums wrap
+            |case, answer| {
+                let weights = &case.weights[..judged(case).0.min(4)];
+                let wide: i128 = weights.iter().map(|weight| i128::from(*weight)).sum();
+                let wraps = i64::try_from(wide).is_err() && wide as i64 > 0;
+                if answer.number == 26 && weights.iter().all(|weight| *weight >= 0) && wraps {
+                    answer.number = 0;
+                }
+            },
+            // 26 is tried before 20
+            |case, answer| {
+                if answer.number == 20 && case.rows[0] == u32::MAX {
+                    answer.number = 26;
+                }
+            },
+            // a refusal leaves a code
+            |_, answer| answer.codes[2] |= u16::from(answer.number == 26),
+        ];
+        let sides = as_others.map(|change| Mistaken {
+            codes: Box::new(move |case| {
+                let mut case = case.clone();
+                change(&mut case);
+                Second.codes(&case)
+            }),
+            ..Mistaken::default()
+        });
+        let others = with_others.map(|change| Mistaken {
+            codes: Box::new(move |case| {
+                let mut answer = Second.codes(case)?;
+                change(case, &mut answer);
+                Ok(answer)
+            }),
+            ..Mistaken::default()
+        });
+        for (at, side) in sides.iter().chain(&others).enumerate() {
+            let told = found(Wanted { halves: 10_000, ..Wanted::default() }, side);
+            assert!(told.contains("codes, made by") || told.contains("joined"), "mistake {at}");
+        }
+    }
+
+    #[test]
+    fn other_first_halves_are_found() {
+        let mistakes: [fn(&LookCase, &mut Rows); 3] = [
+            // the corrected depth is asked for
+            |case, answer| {
+                let seen = look(&case.description, &case.table, case.bits, case.pixel);
+                answer.number = seen.number;
+            },
+            |_, answer| answer.rows.swap(4, 5),
+            |_, answer| answer.weights[5] |= i64::from(answer.number == 23),
+        ];
+        for (at, mistake) in mistakes.into_iter().enumerate() {
+            let side = Mistaken {
+                rows: Box::new(move |case| {
+                    let mut answer = Second.rows(case)?;
+                    mistake(case, &mut answer);
+                    Ok(answer)
+                }),
+                ..Mistaken::default()
+            };
+            let told = found(Wanted { halves: 1_000, ..Wanted::default() }, &side);
+            assert!(told.contains("rows, made by"), "mistake {at}");
+        }
+    }
+
+    #[test]
+    fn halves_that_do_not_join_are_found() {
+        // of a row alone the code is another
+        let side = Mistaken {
+            codes: Box::new(|case| {
+                let mut answer = Second.codes(case)?;
+                let alone = case.weights.iter().filter(|weight| **weight != 0).count() == 3;
+                answer.codes = answer.codes.map(|code| if alone { code / 2 } else { code });
+                Ok(answer)
+            }),
+            ..Mistaken::default()
+        };
+        let looks = (0..1_000).map(|index| look_case(1, index));
+        assert!(looks.into_iter().any(|case| joined(&side, &case).is_err()));
+        let shares = (0..1_000).map(|index| codes_case(1, index));
+        assert!(shares.into_iter().any(|case| between(&side, &case).is_err()));
     }
 }

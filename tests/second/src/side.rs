@@ -1,7 +1,8 @@
-//! The five calls as a comparison sees them: each side is given the same lent memory,
+//! The seven calls as a comparison sees them: each side is given the same lent memory,
 //! filled with the same pattern, and answers with all of it.
 
-use crate::gen::{FileCase, LookCase, PictureCase, WriteCase};
+use crate::gen::{CodesCase, FileCase, LookCase, PictureCase, WriteCase};
+use crate::halves::{codes, rows, Codes, Rows};
 use crate::look::{look, Look};
 use crate::paper::Description;
 use crate::picture::picture;
@@ -32,7 +33,7 @@ pub struct WriteAnswer {
     pub out: Vec<u8>,
 }
 
-/// A program that answers the five calls. An error tells of memory changed that was not
+/// A program that answers the seven calls. An error tells of memory changed that was not
 /// lent, or lent for reading only.
 pub trait Side {
     fn read(&self, case: &FileCase) -> Result<ReadAnswer, String>;
@@ -40,6 +41,9 @@ pub trait Side {
     fn look(&self, case: &LookCase) -> Result<Look, String>;
     fn picture(&self, case: &PictureCase) -> Result<PictureAnswer, String>;
     fn write(&self, case: &WriteCase) -> Result<WriteAnswer, String>;
+    /// The first half of a look, which takes its raw depth alone.
+    fn rows(&self, case: &LookCase) -> Result<Rows, String>;
+    fn codes(&self, case: &CodesCase) -> Result<Codes, String>;
 }
 
 /// What a lent table holds beforehand: no number that reading writes, each place its own.
@@ -86,5 +90,13 @@ impl Side for Second {
         let mut out: Vec<u8> = (0..case.out_len).map(byte_pattern).collect();
         let writing = write_into(&case.description, &case.table, &case.title, &mut out);
         Ok(WriteAnswer { number: writing.number, length: writing.text.len() as u64, out })
+    }
+
+    fn rows(&self, case: &LookCase) -> Result<Rows, String> {
+        Ok(rows(&case.description, &case.table, case.bits.raw, case.pixel))
+    }
+
+    fn codes(&self, case: &CodesCase) -> Result<Codes, String> {
+        Ok(codes(&case.description, &case.table, case.bits, &case.rows, &case.weights))
     }
 }

@@ -1,6 +1,6 @@
 //! Makes a case on which two programs differ smaller, while they still differ.
 
-use crate::gen::{FileCase, LookCase, PictureCase, WriteCase};
+use crate::gen::{CodesCase, FileCase, LookCase, PictureCase, WriteCase};
 use crate::met::has_bounds;
 use crate::paper::{place, Bits};
 use crate::side::{Second, Side};
@@ -31,8 +31,7 @@ pub fn smaller_file(case: &FileCase, differs: impl Fn(&FileCase) -> bool) -> Fil
 }
 
 /// A look at one depth, if the difference allows, with a table of as many zeros as it allows.
-pub fn smaller_look(case: &LookCase, side: &dyn Side) -> LookCase {
-    let differs = |case: &LookCase| side.look(case) != Second.look(case);
+pub fn smaller_look(case: &LookCase, differs: impl Fn(&LookCase) -> bool) -> LookCase {
     let with_bits = |bits: Bits| LookCase { bits, ..case.clone() };
     let case = with_bits(fewer_depths(case.bits, |bits| differs(&with_bits(bits))));
     let with_table = |table: Vec<i64>| LookCase { table, ..case.clone() };
@@ -54,6 +53,22 @@ pub fn smaller_picture(case: &PictureCase, side: &dyn Side) -> PictureCase {
     let pixels: Vec<Vec<u16>> = case.source.chunks(3).map(<[u16]>::to_vec).collect();
     let case = with_pixels(&fewer(pixels, 1_000, |pixels| differs(&with_pixels(pixels))));
     let with_table = |table: Vec<i64>| PictureCase { table, ..case.clone() };
+    with_table(with_zeros(&case.table, |table| differs(&with_table(table.to_vec()))))
+}
+
+/// Rows and weights at one depth, if the difference allows, with zeros in their table and in the
+/// places that 3D does not use.
+pub fn smaller_codes(case: &CodesCase, differs: impl Fn(&CodesCase) -> bool) -> CodesCase {
+    let with_bits = |bits: Bits| CodesCase { bits, ..case.clone() };
+    let mut case = with_bits(fewer_depths(case.bits, |bits| differs(&with_bits(bits))));
+    for at in 4..6 {
+        let mut plain = case.clone();
+        (plain.rows[at], plain.weights[at]) = (0, 0);
+        if differs(&plain) {
+            case = plain;
+        }
+    }
+    let with_table = |table: Vec<i64>| CodesCase { table, ..case.clone() };
     with_table(with_zeros(&case.table, |table| differs(&with_table(table.to_vec()))))
 }
 

@@ -3,7 +3,7 @@ use mathlib.Core.Path.{refl}
 use borrow.Author.Needs.{needs}
 use Rattle.rules.specs.declared.Colour.the-variants.{Red}
 use Rattle.colour.proofs.Plans.{codable}
-use Rattle.colour.proofs.Weighing.{kind-fit, kind-codes, cube-codes}
+use Rattle.colour.proofs.Weighing.{kind-fit, kind-codes, cube-codes, plan-codes}
 use Rattle.colour.proofs.codes_of.Statement.{statement}
 use Rattle.colour.proofs.codes_of.Tie as tie
 
@@ -29,14 +29,15 @@ returns : tie.Need-returns
 returns c =
     let told = c .before in
     let s = told .before .before in
-    λ p. kind-codes p (s .args .shares) (told .enum-told .given .1) (c .line-codes .ensures _ (codable p))
+    λ p. plan-codes p (s .args .shares) (kind-codes p (s .args .shares) (told .enum-told .given .1) (c .line-codes .ensures _ (codable p)))
 
 returns-2 : tie.Need-returns-2
 returns-2 c =
     let summed = c .before in
     let told = summed .before in
     let s = told .before .before in
-    λ p. let e = told .enum-told2 .given .1 in kind-codes p (s .args .shares) e (cube-codes p (s .args .shares) e refl (summed .cube-sums .ensures) (c .codes-by .ensures _ (codable p Red)))
+    λ p. let e = told .enum-told2 .given .1 in
+    plan-codes p (s .args .shares) (kind-codes p (s .args .shares) e (cube-codes p (s .args .shares) e refl (summed .cube-sums .ensures) (c .codes-by .ensures _ (codable p Red))))
 
 pub codes-of-spec : {M : Type 1} → statement M
 codes-of-spec =

@@ -1,13 +1,12 @@
 -- What is shown may be weighed, and the codes made of it are the corrected ones, for either kind.
 use borrow.Author.Needs.{needs}
 use denote.Ref.{now}
-use mathlib.Core.Path.{_≡_, refl, _∙_}
+use mathlib.Core.Path.{_≡_, refl, ap, _∙_}
 use mathlib.Core.List.{List}
 use lib.IntN.{ℤ}
 use Rattle.rules.specs.Units.{correctedM, codeIn}
 use Rattle.rules.specs.Looking.Interpolation.{codeBy}
-use Rattle.rules.specs.Looking.{correct}
-use Rattle.rules.specs.Demands.{used}
+use Rattle.rules.specs.Looking.{used, codesBy, correct}
 use Rattle.rules.specs.declared.Codes.{Codes}
 use Rattle.rules.specs.declared.Colour.{Colour}
 use Rattle.rules.specs.declared.Colour.the-variants.{Red}
@@ -18,7 +17,7 @@ use Rattle.colour.specs.Plans.{axisIn, Planned}
 use Rattle.colour.specs.Places.{shownBy}
 use Rattle.colour.specs.Adding.{SharesFit}
 use Rattle.colour.proofs.Plans.{codable, shown-is, path-shown, steps-fit}
-use Rattle.colour.proofs.Weighing.{kind-fit, kind-codes, cube-codes, shown-weighable, shown-corrects}
+use Rattle.colour.proofs.Weighing.{kind-fit, kind-codes, cube-codes, plan-codes, shown-weighable}
 use Rattle.colour.proofs.correct.Statement.{statement}
 use Rattle.colour.proofs.correct.Tie as tie
 
@@ -29,11 +28,11 @@ module _ (s : tie.Start) {k : Kind} (e : s .args .plan .kind ≡ k) {shares : Sh
   table = now (s .args .table)
 
   fit : (c : Colour) → SharesFit table (used k c shares)
-  fit = kind-fit (s .pre) shares e (shown-weighable (s .pre) (s .args .pixel) (h ∙ shown-is (s .pre) (s .args .pixel) e))
+  fit = kind-fit (s .pre) shares e (shown-weighable (s .pre) shares (s .args .pixel) (h ∙ shown-is (s .pre) (s .args .pixel) e))
 
   made : (p : Planned (s .args .plan) table) {r : Codes} → ((c : Colour) → codeIn r c ≡ codeBy (correctedM (p .depths)) (axisIn (s .args .plan) c .den) table c (used k c shares))
       → r ≡ correct (p .d) table (p .depths) (s .args .pixel)
-  made p codes = shown-corrects p (s .args .pixel) (h ∙ shown-is p (s .args .pixel) e) (kind-codes p shares e codes)
+  made p codes = plan-codes p shares (kind-codes p shares e codes) ∙ ap (codesBy (p .d) table (p .depths)) (h ∙ shown-is p (s .args .pixel) e)
 
 -- 3D: the path of the steps
 

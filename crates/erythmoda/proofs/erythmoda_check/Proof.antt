@@ -15,7 +15,7 @@ use Rattle.rules.specs.declared.Read.the-variants.{Accepted, Refused}
 use Rattle.rules.proofs.Answers.{checks-is}
 use Rattle.rules.proofs.Reading.Bridge.{accepted-in-range}
 use Rattle.rules.proofs.Boundary.Fits.{description-fits}
-use Rattle.erythmoda.specs.Layout.{Countable}
+use Rattle.crossing.specs.Layout.{Countable}
 use Rattle.erythmoda.proofs.erythmoda_check.Statement.{statement}
 use Rattle.erythmoda.proofs.erythmoda_check.Tie as tie
 

@@ -5,7 +5,7 @@ use mathlib.Core.List.{List}
 use lib.IntN.{ℤ}
 use Rattle.rules.specs.Units.{depthsOf, rawM}
 use Rattle.rules.specs.Descriptions.{couldBeRead}
-use Rattle.rules.specs.Looking.{within, shown, correct, lookAt, look}
+use Rattle.rules.specs.Looking.{within, shown, rowsWith, correct, lookBy, lookAt, look}
 use Rattle.rules.specs.Answers.{lookNumber}
 use Rattle.rules.specs.declared.Bits.{Bits}
 use Rattle.rules.specs.declared.Codes.{Codes}
@@ -17,6 +17,7 @@ use Rattle.rules.specs.declared.Look.the-variants as L
 use Rattle.rules.specs.declared.Refusal.{Refusal}
 use Rattle.rules.specs.declared.Refusal.the-variants.{DepthUnknown, CodeTooGreat, CouldNotBeRead}
 use Rattle.rules.proofs.Answers.{refused-not-0}
+use Rattle.rules.proofs.Looking.Halves.{rows-23, rows-0}
 
 module _ (d : Description) (table : List ℤ) (bits : Bits) (pixel : Codes) where
   pub look-24 : couldBeRead d table ≡ false → look d table bits pixel ≡ L.Refused CouldNotBeRead
@@ -32,14 +33,17 @@ module _ (d : Description) (table : List ℤ) (bits : Bits) (pixel : Codes) wher
   look-20 e u = passed-24 e ∙ ap (lookAt d table pixel) u
 
   module _ (depths : Depths) (e : couldBeRead d table ≡ true) (k : depthsOf bits ≡ Both depths) where
-    pub look-23 : within (rawM depths) pixel ≡ false → look d table bits pixel ≡ L.Refused CodeTooGreat
+    -- past 20 it joins the halves
+    pub look-joins : look d table bits pixel ≡ lookBy d table depths (rowsWith d (rawM depths) pixel)
     unfolding lookAt
-    look-23 w = passed-24 e ∙ ap (lookAt d table pixel) k ∙ rw w
+    look-joins = passed-24 e ∙ ap (lookAt d table pixel) k
+
+    pub look-23 : within (rawM depths) pixel ≡ false → look d table bits pixel ≡ L.Refused CodeTooGreat
+    look-23 w = look-joins ∙ ap (lookBy d table depths) (rows-23 d (rawM depths) pixel w)
 
     pub look-0 : within (rawM depths) pixel ≡ true
         → look d table bits pixel ≡ L.Accepted (correct d table depths pixel) (shown d (rawM depths) pixel (d .kind))
-    unfolding lookAt
-    look-0 w = passed-24 e ∙ ap (lookAt d table pixel) k ∙ rw w
+    look-0 w = look-joins ∙ ap (lookBy d table depths) (rows-0 d (rawM depths) pixel w)
 
 -- what an accepted look has passed
 pub record LookPassed (d : Description) (table : List ℤ) (bits : Bits) (pixel : Codes) : Type 0 where

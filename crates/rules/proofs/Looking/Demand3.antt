@@ -14,13 +14,13 @@ use Rattle.whole.proofs.Halves as H
 use Rattle.whole.proofs.NearestLaws.{code-nearest}
 use Rattle.whole.proofs.Between.{codes-below, codes-above}
 use Rattle.rules.specs.Units.{rawM, correctedM, rowsOf, rowAt, sampleAt, codeIn}
-use Rattle.rules.specs.Descriptions.{domain, commonSpan, spanIn, couldBeRead, Sound}
+use Rattle.rules.specs.Descriptions.{rows, domain, commonSpan, spanIn, couldBeRead, Sound}
 use Rattle.rules.specs.Looking.Interpolation.{den, denOf, positionOf, indexOf, fractionOf, order, pairBy, pathBy, climb, pair, path, sharesFor, weighed, total, denominator, codeBy, rowCode}
-use Rattle.rules.specs.Looking.{shown, codeOf, correct}
+use Rattle.rules.specs.Looking.{shown, used, codeOf, codesBy, correct}
 use Rattle.rules.specs.Answers.{lookNumber}
 use Rattle.rules.specs.Promises.{Looks}
 use Rattle.rules.specs.Looking.Readings.{Reading}
-use Rattle.rules.specs.Demands.{used, Each, Carried, ByReading, line, cube, LookRight, AllRight}
+use Rattle.rules.specs.Demands.{Each, Carried, ByReading, line, cube, LookRight, AllRight, Weighable, CodesRight}
 use Rattle.rules.specs.declared.Bits.{Bits}
 use Rattle.rules.specs.declared.Codes.{Codes}
 use Rattle.rules.specs.declared.Colour.{Colour}
@@ -31,6 +31,7 @@ use Rattle.rules.specs.declared.Kind.{Kind}
 use Rattle.rules.specs.declared.Kind.the-variants.{OneD, ThreeD}
 use Rattle.rules.specs.declared.Look.{Look}
 use Rattle.rules.specs.declared.Share.{Share}
+use Rattle.rules.specs.declared.Shares.{Shares}
 use Rattle.rules.proofs.Sound.{sound-of, wide-enough}
 use Rattle.rules.proofs.KnownDepths.{depths-bounds}
 use Rattle.rules.proofs.Looking.Layers.{level, level-own, Stairs, layered, layered-own, stairs-total}
@@ -39,7 +40,8 @@ use Rattle.rules.proofs.Looking.Rule.{rule-reads}
 use Rattle.rules.proofs.Looking.Spans.{span-some}
 use Rattle.rules.proofs.Looking.Brought.{brought-reading}
 use Rattle.rules.proofs.Looking.Chart.{order-rule}
-use Rattle.rules.proofs.Looking.RowsAndWeights.{weights-not-negative, weights-unsigned, weights-add-up, pair-rows, path-rows}
+use Rattle.rules.proofs.Looking.RowsAndWeights.{weights-not-negative, weights-add-up, pair-rows, path-rows}
+use Rattle.rules.proofs.Looking.Judging.{weights-sum, not-negative-unsigned}
 use Rattle.rules.proofs.Answers.{looks-is}
 use Rattle.rules.proofs.Looking.Checks.{LookPassed, look-passed, look-0}
 
@@ -59,12 +61,12 @@ layerRow d m pixel ThreeD c = rowIn (d .n) (denOf d m c) (positionOf d m pixel)
 pub one-den : (d : Description) (raw : ℕ) → d .kind ≡ ThreeD → (c k : Colour) → denOf d raw c ≡ denOf d raw k
 one-den d raw e c k = let one : (c : Colour) → denOf d raw c ≡ raw * commonSpan d = λ c. ap (λ x. raw * spanIn x d c) e in one c ∙ sym (one k)
 
+pub den-above-0 : (d : Description) (table : List ℤ) (raw : ℕ) → couldBeRead d table ≡ true → 0 < raw → (c : Colour) → 0 < denOf d raw c
+den-above-0 d table raw could deep c = NatL.mul-pos deep (span-some d (sound-of d table could) c)
+
 module _ (d : Description) (table : List ℤ) (raw : ℕ) (pixel : Codes) (could : couldBeRead d table ≡ true) (deep : 0 < raw) where
   abbrev g : Sound d table
   g = sound-of d table could
-
-  pub den-above-0 : (c : Colour) → 0 < denOf d raw c
-  den-above-0 c = NatL.mul-pos deep (span-some d g c)
 
   -- over the D of the weights, from the colour's own domain
   pub reads : (c : Colour) → Reading (d .n) (denOf d raw c) (positionOf d raw pixel c) (indexOf d raw pixel c) (fractionOf d raw pixel c)
@@ -185,53 +187,76 @@ used-shown d m pixel OneD Green = refl
 used-shown d m pixel OneD Blue = refl
 used-shown d m pixel ThreeD c = refl
 
-pub code-corrected : (d : Description) (table : List ℤ) (depths : Depths) (pixel : Codes) (c : Colour) → codeIn (correct d table depths pixel) c ≡ codeOf d table depths pixel c
-code-corrected d table depths pixel Red = refl
-code-corrected d table depths pixel Green = refl
-code-corrected d table depths pixel Blue = refl
+pub code-by : (d : Description) (table : List ℤ) (depths : Depths) (shares : Shares) (c : Colour) → codeIn (codesBy d table depths shares) c ≡ codeOf d table depths shares c
+code-by d table depths shares Red = refl
+code-by d table depths shares Green = refl
+code-by d table depths shares Blue = refl
 
+-- any rows and weights that may be weighed, whoever wrote them
+pub codes-right : (d : Description) (table : List ℤ) (depths : Depths) (shares : Shares) → couldBeRead d table ≡ true → 0 < rawM depths → (c : Colour)
+    → Weighable (rows d) (denOf d (rawM depths) c) (used (d .kind) c shares) → CodesRight d table depths shares (codesBy d table depths shares) c
+codes-right d table depths shares could deep c w =
+    let code-is = code-by d table depths shares c in
+    record {
+      s = total table c ss;
+      read-so = refl;
+      read-otherwise = λ t e. e;
+      nearest = rw code-is (code-is-nearest table c den m wide ss);
+      by-rule = refl;
+      shown = refl;
+      add-up = add-up;
+      not-negative = w .not-negative;
+      in-table = w .in-table;
+      below = λ a h. rw code-is (code-below table c den m wide ss unsigned add-up a h);
+      above = λ a h. rw code-is (code-above table c den m wide ss unsigned add-up a h);
+    }
+  where
+    m : ℕ
+    m = correctedM depths
+
+    den : ℕ
+    den = denOf d (rawM depths) c
+
+    wide : 0 < den
+    wide = den-above-0 d table (rawM depths) could deep c
+
+    ss : List Share
+    ss = used (d .kind) c shares
+
+    add-up : weights (weighed table c ss) ≡ pos den
+    add-up = weights-sum table c ss ∙ w .add-up
+
+    unsigned : Unsigned (weighed table c ss)
+    unsigned = not-negative-unsigned table c ss (w .not-negative)
+
+-- the rule's own are such
+pub rule-weighable : (d : Description) (table : List ℤ) (raw : ℕ) (pixel : Codes) → couldBeRead d table ≡ true → 0 < raw → (c : Colour)
+    → Weighable (rows d) (denOf d raw c) (used (d .kind) c (shown d raw pixel (d .kind)))
+rule-weighable d table raw pixel could deep c =
+    let stairs = rule-stairs d table raw pixel could deep (d .kind) refl c in
+    rw (used-shown d raw pixel (d .kind) c)
+    (record { in-table = rows-below d table raw pixel could deep (d .kind) c; not-negative = weights-not-negative stairs; add-up = weights-add-up stairs })
+
+-- and their exact value is that of every admissible reading
 pub right : (d : Description) (table : List ℤ) (depths : Depths) (pixel : Codes) → couldBeRead d table ≡ true → 0 < rawM depths → (c : Colour)
     → LookRight d table depths pixel (correct d table depths pixel) (shown d (rawM depths) pixel (d .kind)) c
 right d table depths pixel could deep c =
+    let raw = rawM depths in
     let used-are = used-shown d raw pixel (d .kind) c in
-    let code-is = code-corrected d table depths pixel c in
+    let r = codes-right d table depths (shown d raw pixel (d .kind)) could deep c (rule-weighable d table raw pixel could deep c) in
     record {
-      s = total table c ss;
-      read-so = rule-reading d table raw pixel could deep (d .kind) refl c;
-      read-otherwise = one-value d table raw pixel could deep c;
-      nearest = rw code-is (code-is-nearest table c den corrected wide ss);
+      s = total table c (used (d .kind) c (shown d raw pixel (d .kind)));
+      read-so = rw used-are (rule-reading d table raw pixel could deep (d .kind) refl c);
+      read-otherwise = λ t by. one-value d table raw pixel could deep c t by ∙ ap (total table c) (sym used-are);
+      nearest = subst (λ z. Nearest (pos (correctedM depths) *ℤ z) (denominator (denOf d raw c)) (correctedM depths) (codeIn (correct d table depths pixel) c)) (r .read-so) (r .nearest);
       by-rule = used-are;
-      shown = rw used-are;
-      add-up = rw used-are add-up;
-      not-negative = rw used-are (weights-not-negative stairs);
-      in-table = rw used-are (rows-below d table raw pixel could deep (d .kind) c);
-      below = λ a h. rw code-is (code-below table c den corrected wide ss unsigned add-up a (rw used-are at h));
-      above = λ a h. rw code-is (code-above table c den corrected wide ss unsigned add-up a (rw used-are at h));
+      shown = refl;
+      add-up = r .add-up;
+      not-negative = r .not-negative;
+      in-table = r .in-table;
+      below = r .below;
+      above = r .above;
     }
-  where
-    raw : ℕ
-    raw = rawM depths
-
-    corrected : ℕ
-    corrected = correctedM depths
-
-    den : ℕ
-    den = denOf d raw c
-
-    wide : 0 < den
-    wide = den-above-0 d table raw pixel could deep c
-
-    ss : List Share
-    ss = sharesFor d raw pixel (d .kind) c
-
-    stairs : Stairs (layerRow d raw pixel (d .kind) c) den ss
-    stairs = rule-stairs d table raw pixel could deep (d .kind) refl c
-
-    add-up : weights (weighed table c ss) ≡ pos den
-    add-up = weights-add-up table c stairs
-
-    unsigned : Unsigned (weighed table c ss)
-    unsigned = weights-unsigned table c stairs
 
 -- ---- of every answer that meets the promise and is accepted
 

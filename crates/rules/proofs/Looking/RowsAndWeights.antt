@@ -4,12 +4,12 @@ use mathlib.Core.Path.{_≡_, refl, ap, _∙_}
 use mathlib.Core.List.{List}
 use native.Mathlib.Nat as NatL
 use native.Mathlib.Omega.{arith}
-use lib.IntN.{ℤ, pos, _+ℤ_}
+use lib.IntN.{pos, _+ℤ_}
 use lib.Signed.{_≤ℤ_}
-use Rattle.whole.specs.Nearest.{weights, Unsigned}
 use Rattle.whole.proofs.Halves as H
 use Rattle.rules.specs.Units.{rowAt, stride}
-use Rattle.rules.specs.Looking.Interpolation.{Order, 1st, 2nd, 3rd, pairBy, pathBy, climb, weighed}
+use Rattle.rules.specs.Looking.Interpolation.{Order, 1st, 2nd, 3rd, pairBy, pathBy, climb}
+use Rattle.rules.specs.Looking.Judging.{sumOf}
 use Rattle.rules.specs.Demands.{Each}
 use Rattle.rules.specs.declared.Colour.{Colour}
 use Rattle.rules.specs.declared.Colour.the-variants.{Red, Green, Blue}
@@ -24,14 +24,9 @@ module _ {rowIn : ℕ → ℕ} where
   weights-not-negative ground = tt
   weights-not-negative (stair {weight = w} next e same below) = (H.le-by (pos 0) (pos w) (omega arith), weights-not-negative below)
 
-  module _ (table : List ℤ) (c : Colour) where
-    pub weights-unsigned : {top : ℕ} {ss : List Share} → Stairs rowIn top ss → Unsigned (weighed table c ss)
-    weights-unsigned ground = tt
-    weights-unsigned (stair next e same below) = (tt, weights-unsigned below)
-
-    pub weights-add-up : {top : ℕ} {ss : List Share} → Stairs rowIn top ss → weights (weighed table c ss) ≡ pos top
-    weights-add-up ground = refl
-    weights-add-up (stair {weight = w} next e same below) = ap (λ x. pos w +ℤ x) (weights-add-up below) ∙ ap pos (NatL.add-comm w next ∙ e)
+  pub weights-add-up : {top : ℕ} {ss : List Share} → Stairs rowIn top ss → sumOf ss ≡ pos top
+  weights-add-up ground = refl
+  weights-add-up (stair {weight = w} next e same below) = ap (λ x. pos w +ℤ x) (weights-add-up below) ∙ ap pos (NatL.add-comm w next ∙ e)
 
 -- ---- rows
 

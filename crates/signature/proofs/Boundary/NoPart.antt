@@ -36,7 +36,7 @@ same-promise answer memory h =
     record { number-so = h .number-so ∙ ap writeNumber answer; length-so = h .length-so ∙ ap writtenLength answer; memory = h .memory ∙ memory }
 
 -- two calls that are the same of the description that eleven numbers give
-same-of-both : (eleven : List ℤ) {A : Type 0} (refusal : A) (call call₂ : Description → A) → ((d : Description) → describedIn eleven ≡ some d → call d ≡ call₂ d)
+pub same-of-both : (eleven : List ℤ) {A : Type 0} (refusal : A) (call call₂ : Description → A) → ((d : Description) → describedIn eleven ≡ some d → call d ≡ call₂ d)
     → called refusal call eleven ≡ called refusal call₂ eleven
 same-of-both eleven refusal call call₂ so =
     by-description eleven (λ e. called-none refusal call eleven e ∙ sym (called-none refusal call₂ eleven e))

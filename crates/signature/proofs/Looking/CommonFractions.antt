@@ -15,8 +15,8 @@ use Rattle.rules.specs.Units.{rawM, boundOne, codeIn}
 use Rattle.rules.specs.Descriptions.{domain, units, everyColour, oneDomain, wholeBounds, agree, span, couldBeRead, WholeBounds, Agreed, one, whole, Sound}
 use Rattle.rules.specs.Looking.Interpolation.{den, offset, position, index, fraction, denOf, positionOf, indexOf, fractionOf, weighed}
 use Rattle.rules.specs.Looking.Readings.{Reading}
-use Rattle.rules.specs.Looking.{look}
-use Rattle.rules.specs.Demands.{used, LookRight}
+use Rattle.rules.specs.Looking.{look, used}
+use Rattle.rules.specs.Demands.{LookRight}
 use Rattle.rules.specs.declared.Bits.{Bits}
 use Rattle.rules.specs.declared.Codes.{Codes}
 use Rattle.rules.specs.declared.Colour.{Colour}
@@ -71,7 +71,7 @@ module _ (d : Description) (table : List ℤ) (m : ℕ) (pixel : Codes) (could :
     pub readings : {j g : ℕ} → Reading (d .n) (denOf d m c) (positionOf d m pixel c) j g
         → ((j ≡ indexOf d m pixel c) × (g ≡ fractionOf d m pixel c)) ⊎ ((fractionOf d m pixel c ≡ 0) × ((j + 1 ≡ indexOf d m pixel c) × (g ≡ denOf d m c)))
     readings r =
-        paper-readings m (domain d c) (d .n) (codeIn pixel c) (denOf d m c) (own-some d table m could deep c) (den-above-0 d table m pixel could deep c) (s .least) r
+        paper-readings m (domain d c) (d .n) (codeIn pixel c) (denOf d m c) (own-some d table m could deep c) (den-above-0 d table m could deep c) (s .least) r
 
   -- in 3D the order of the fractions is that of their exact values
   module _ (cube : d .kind ≡ ThreeD) where
@@ -82,7 +82,7 @@ module _ (d : Description) (table : List ℤ) (m : ℕ) (pixel : Codes) (could :
         (fraction-kept b ∙ ap (λ x. ownFraction d m pixel b * x) (one-den d m cube b a))
         (own-some d table m could deep a)
         (own-some d table m could deep b)
-        (den-above-0 d table m pixel could deep a)
+        (den-above-0 d table m could deep a)
 
     -- and those are equal whose exact values are
     pub equal-exact : (a b : Colour)

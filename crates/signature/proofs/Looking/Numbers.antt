@@ -28,7 +28,7 @@ use Rattle.signature.specs.Numbers.{OneOf}
 
 -- ---- a code above M
 
-above-of : (m : ℕ) (pixel : Codes) → within m pixel ≡ false → (c : Colour) × (m < codeIn pixel c)
+pub above-of : (m : ℕ) (pixel : Codes) → within m pixel ≡ false → (c : Colour) × (m < codeIn pixel c)
 unfolding within
 above-of m pixel e = by (leb (pixel .red) m) (leb (pixel .green) m) (leb (pixel .blue) m) refl refl refl e
   where
@@ -38,7 +38,7 @@ above-of m pixel e = by (leb (pixel .red) m) (leb (pixel .green) m) (leb (pixel 
     by true true false p q s e = (Blue, leb-false _ _ s)
     by true true true p q s e = absurd (true≢false e)
 
-of-above : (m : ℕ) (pixel : Codes) (c : Colour) → m < codeIn pixel c → within m pixel ≡ false
+pub of-above : (m : ℕ) (pixel : Codes) (c : Colour) → m < codeIn pixel c → within m pixel ≡ false
 unfolding within
 of-above m pixel Red h = and-fails (leb (pixel .red) m) _ (inr (lt-leb (pixel .red) m h))
 of-above m pixel Green h = and-fails (leb (pixel .red) m) _ (inl (and-fails (leb (pixel .green) m) _ (inr (lt-leb (pixel .green) m h))))

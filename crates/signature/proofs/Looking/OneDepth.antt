@@ -1,13 +1,14 @@
 -- Document 02, Req 06: with one width for both depths look is document 01's, for all input: M falls out of the division, and nothing else knew a second depth.
-use Prim.Native.Nat.{ℕ, _<_}
+use Prim.Native.Nat.{ℕ, _*_, _<_}
 use mathlib.Core.Path.{_≡_, refl, ap, _∙_}
 use mathlib.Core.Bool.{cond}
 use mathlib.Core.List.{List}
 use lib.IntN.{ℤ}
-use Rattle.rules.specs.Units.{depthOf, together, sameBits, sameDepth}
+use Rattle.whole.specs.Nearest.{code}
+use Rattle.rules.specs.Units.{sampleOne, depthOf, together, sameBits, sameDepth}
 use Rattle.rules.specs.Descriptions.{span, couldBeRead}
-use Rattle.rules.specs.Looking.Interpolation.{sharesFor}
-use Rattle.rules.specs.Looking.{within, shown, codeOf, correct, lookAt, look}
+use Rattle.rules.specs.Looking.Interpolation.{total}
+use Rattle.rules.specs.Looking.{within, shown, used, codeOf, correct, lookAt, look}
 use Rattle.rules.specs.Promises.{Looks}
 use Rattle.rules.specs.declared.Codes.{Codes}
 use Rattle.rules.specs.declared.Colour.{Colour}
@@ -21,16 +22,23 @@ use Rattle.rules.specs.declared.Look.the-variants.{Accepted, Refused}
 use Rattle.rules.specs.declared.Refusal.the-variants.{CodeTooGreat, CouldNotBeRead}
 use Rattle.rules.proofs.KnownDepths.{depth-bounds}
 use Rattle.rules.proofs.Answers.{looks-is}
+use Rattle.rules.proofs.Looking.Demand3.{used-shown}
 use Rattle.signature.specs.OneDepth.{codeOne, correctOne, lookOneAt, lookOne}
+use Rattle.signature.proofs.Looking.Undivided.{look-undivided}
 use Rattle.signature.proofs.Looking.ShortDivision.{short-division}
 
 -- ---- the codes
 
 module _ (d : Description) (table : List ℤ) (depth : Depth) (pixel : Codes) (deep : 0 < depth .greatest) where
-  code-one : (c : Colour) → codeOf d table (sameDepth depth) pixel c ≡ codeOne d table (depth .greatest) pixel c
-  code-one c = short-division table (depth .greatest) (span d c) c (sharesFor d (depth .greatest) pixel (d .kind) c) deep
+  abbrev m : ℕ
+  m = depth .greatest
 
-  correct-one : correct d table (sameDepth depth) pixel ≡ correctOne d table (depth .greatest) pixel
+  code-one : (c : Colour) → codeOf d table (sameDepth depth) (shown d m pixel (d .kind)) c ≡ codeOne d table m pixel c
+  code-one c =
+      short-division table m (span d c) c (used (d .kind) c (shown d m pixel (d .kind))) deep
+      ∙ ap (λ ss. code (total table c ss) (span d c * sampleOne) m) (used-shown d m pixel (d .kind) c)
+
+  correct-one : correct d table (sameDepth depth) pixel ≡ correctOne d table m pixel
   correct-one i = record { red = code-one Red i; green = code-one Green i; blue = code-one Blue i }
 
 -- ---- the answer
@@ -41,7 +49,8 @@ unfolding lookAt lookOneAt
 look-one-at d table bits pixel Unknown e = refl
 look-one-at d table bits pixel (Known depth) e =
     let m = depth .greatest in
-    ap (λ codes. cond (within m pixel) (Accepted codes (shown d m pixel (d .kind))) (Refused CodeTooGreat))
+    look-undivided d table (sameDepth depth) pixel
+    ∙ ap (λ codes. cond (within m pixel) (Accepted codes (shown d m pixel (d .kind))) (Refused CodeTooGreat))
     (correct-one d table depth pixel (depth-bounds bits depth e .0))
 
 pub look-one : (d : Description) (table : List ℤ) (bits : ℕ) (pixel : Codes) → look d table (sameBits bits) pixel ≡ lookOne d table bits pixel

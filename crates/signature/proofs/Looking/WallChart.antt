@@ -9,7 +9,8 @@ use lib.IntN.{ℤ}
 use Rattle.rules.specs.Units.{rawM}
 use Rattle.rules.specs.Looking.Interpolation.{Order, rgb, rbg, grb, gbr, brg, bgr, chart, order, fractionOf, pathIn, path, sharesFor}
 use Rattle.rules.specs.Looking.Readings.{ByRule}
-use Rattle.rules.specs.Demands.{used, LookRight}
+use Rattle.rules.specs.Looking.{used}
+use Rattle.rules.specs.Demands.{LookRight}
 use Rattle.rules.specs.declared.Codes.{Codes}
 use Rattle.rules.specs.declared.Colour.{Colour}
 use Rattle.rules.specs.declared.Colour.the-variants.{Red, Green, Blue}

@@ -1,16 +1,13 @@
 -- What plays no part in writing: the title's bytes where the mark is not set, the place and the length that the description itself has for its title, and what
 -- stands in the table past 3·rows.
-use Prim.Native.Nat.{ℕ, _*_, _≤_, _<_}
-use mathlib.Core.Path.{_≡_, refl, sym, ap, _∙_}
+use Prim.Native.Nat.{ℕ, _*_}
+use mathlib.Core.Path.{_≡_, refl, ap, _∙_}
 use mathlib.Core.Bool.{Bool, true, false, cond, true≢false}
 use mathlib.Core.List.{List, _++_}
-use native.Mathlib.Decide.{decLe}
-use native.Mathlib.Omega.{arith}
-use borrow.Author.Tests.{le-leb, lt-leb}
 use lib.Dec.{leb}
 use lib.IntN.{ℤ}
-use lib.ListN.{length, take, drop, length-take}
-use Rattle.rules.specs.Descriptions.{couldBeRead, roomy, rows}
+use lib.ListN.{length, take, drop}
+use Rattle.rules.specs.Descriptions.{couldBeRead, rows}
 use Rattle.rules.specs.Reading.Grammar.{lowers, uppers}
 use Rattle.rules.specs.Writing.{boundsText, bytesAfter, fileText, headText, rowsText, sizeText, titleFits, titleText, write}
 use Rattle.rules.specs.Promises.{Writes}
@@ -21,6 +18,7 @@ use Rattle.rules.specs.declared.Title.{Title}
 use Rattle.rules.specs.declared.Write.{Write}
 use Rattle.rules.specs.declared.Write.the-variants as W
 use Rattle.rules.proofs.Answers.{is-writes, writes-is}
+use Rattle.signature.proofs.LaterPlaces.{later-24}
 use Rattle.signature.proofs.Untitled.{retitled, same-24}
 
 -- two inputs that are written alike: the same answer, and the same bytes afterwards
@@ -77,16 +75,5 @@ module _ (d : Description) (table : List ℤ) (title : List ℕ) where
 
   -- tables with the same 3·rows first places, whatever stands after them
   pub later-places : (other : List ℤ) → take (3 * rows d) table ≡ take (3 * rows d) other → WrittenAlike d table title d other title
-  unfolding fileText couldBeRead roomy
-  later-places other same = alike-by d d table other title title same-readable refl (ap (λ samples. headText d title ++ rowsText samples) same)
-    where
-      by : Dec (3 * rows d ≤ length table) → roomy (length table) d ≡ roomy (length other) d
-      by (yes long) =
-          let also : 3 * rows d ≤ length other = omega (arith, long, ap length same, length-take (3 * rows d) table, length-take (3 * rows d) other) in
-          le-leb _ _ long ∙ sym (le-leb _ _ also)
-      by (no short) =
-          let also : length other < 3 * rows d = omega (arith, short, ap length same, length-take (3 * rows d) table, length-take (3 * rows d) other) in
-          lt-leb (3 * rows d) (length table) (omega arith) ∙ sym (lt-leb (3 * rows d) (length other) also)
-
-      same-readable : couldBeRead d table ≡ couldBeRead d other
-      same-readable = rw (by (decLe (3 * rows d) (length table)), same)
+  unfolding fileText
+  later-places other same = alike-by d d table other title title (later-24 table other d same) refl (ap (λ samples. headText d title ++ rowsText samples) same)

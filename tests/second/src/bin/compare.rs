@@ -1,4 +1,4 @@
-//! Compares the proved program with this one: `compare SEED TABLES LOOKS PICTURES WRITES`.
+//! Compares the proved program with this one: `compare SEED TABLES LOOKS PICTURES WRITES HALVES`.
 //!
 //! Both sides are given the same stream, made from the seed, and every number of their
 //! answers and of lent memory is compared. At the end the seed and how often each call
@@ -12,11 +12,11 @@ use std::process::ExitCode;
 fn main() -> ExitCode {
     let numbers: Option<Vec<u64>> =
         std::env::args().skip(1).map(|word| word.parse().ok()).collect();
-    let Some(&[seed, tables, looks, pictures, writes]) = numbers.as_deref() else {
-        eprintln!("usage: compare SEED TABLES LOOKS PICTURES WRITES");
+    let Some(&[seed, tables, looks, pictures, writes, halves]) = numbers.as_deref() else {
+        eprintln!("usage: compare SEED TABLES LOOKS PICTURES WRITES HALVES");
         return ExitCode::FAILURE;
     };
-    let wanted = Wanted { seed, tables, looks, pictures, writes };
+    let wanted = Wanted { seed, tables, looks, pictures, writes, halves };
     match run(&wanted, Some(&Ours)) {
         Err(difference) => {
             println!("the two differ: seed {seed}, {difference}");

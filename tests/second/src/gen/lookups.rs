@@ -5,7 +5,8 @@
 use super::draws::Draws;
 use super::files::{one_bound_not_whole, some_bounds, some_sample, two_colours_not_whole, Bounds};
 use super::{LookCase, PictureCase};
-use crate::look::{look as looked, Look};
+use crate::halves::used;
+use crate::look::look as looked;
 use crate::paper::{greatest_code, number, place, Bits, Description, Greatest, Kind};
 use crate::paper::{BOUND_UNITS, DEPTHS, GREATEST_BOUND, GREATEST_SAMPLE, SAMPLE_UNITS};
 use std::cmp::Reverse;
@@ -94,7 +95,7 @@ fn some_output_len(draws: &mut Draws, length: usize) -> usize {
     }
 }
 
-fn lent_and_bits(draws: &mut Draws) -> (Lent, Bits, Vec<&'static str>) {
+pub fn lent_and_bits(draws: &mut Draws) -> (Lent, Bits, Vec<&'static str>) {
     let mut lent = kept(draws);
     let made = broken(draws, &mut lent);
     (lent, some_bits(draws), made)
@@ -129,7 +130,7 @@ fn some_depth(draws: &mut Draws) -> u32 {
 }
 
 /// The raw M, or one to draw codes by if there is none.
-fn some_m(bits: Bits) -> u16 {
+pub fn some_m(bits: Bits) -> u16 {
     greatest_code(bits.raw).unwrap_or(255)
 }
 
@@ -151,21 +152,29 @@ fn above(draws: &mut Draws, m: u16) -> u16 {
     }
 }
 
-/// Now and then the two samples that weigh most for a colour are set so that its value is that of
-/// a tie of two corrected codes, or as near to one as the weights allow, from below or from above.
-/// Its other samples are set from 0 to 1, so that these two can make up for them.
+/// Now and then the samples that a look weighs are set as `aim_at` sets them.
 fn aim(draws: &mut Draws, lent: &mut Lent, bits: Bits, pixel: [u16; 3]) {
     let seen = looked(&lent.description, &lent.table, bits, pixel);
-    let (Some(m), number::ACCEPTED) = (bits.greatest(), seen.number) else {
+    if seen.number == number::ACCEPTED && draws.one_in(4) {
+        aim_at(draws, lent, bits, &seen.rows, &seen.weights);
+    }
+}
+
+/// Of a table that reading could have given, sets the two samples that weigh most for a colour so
+/// that its value is that of a tie of two corrected codes, or as near to one as the weights allow,
+/// from below or from above. Its other samples are set from 0 to 1, so that these two can make up
+/// for them.
+pub fn aim_at(draws: &mut Draws, lent: &mut Lent, bits: Bits, rows: &[u32; 6], weights: &[i64; 6]) {
+    let (Some(m), Some(kind)) = (bits.greatest(), Kind::of_mark(lent.description[place::KIND]))
+    else {
         return;
     };
-    if !draws.one_in(4) {
-        return;
-    }
     let colour = draws.below(3);
-    let shares = heaviest_first(&lent.description, &seen, colour);
-    let at = |share: &usize| 3 * seen.rows[*share] as usize + colour;
-    let weight = |share: &usize| i128::from(seen.weights[*share]);
+    // the greatest weight first
+    let mut shares: Vec<usize> = used(kind, colour).collect();
+    shares.sort_by_key(|share| Reverse(weights[*share]));
+    let at = |share: &usize| 3 * rows[*share] as usize + colour;
+    let weight = |share: &usize| i128::from(weights[*share]);
     let (heavy, light) = shares.split_at(2);
     let mut rest = 0;
     for share in light {
@@ -177,14 +186,6 @@ fn aim(draws: &mut Draws, lent: &mut Lent, bits: Bits, pixel: [u16; 3]) {
     for (share, sample) in heavy.iter().zip(weighing(weights, sum)) {
         lent.table[at(share)] = sample as i64;
     }
-}
-
-/// The places of a colour's rows among those that a look shows, the greatest weight first.
-fn heaviest_first(description: &Description, seen: &Look, colour: usize) -> Vec<usize> {
-    let one_d = description[place::KIND] == Kind::OneD.mark();
-    let mut shares = if one_d { vec![2 * colour, 2 * colour + 1] } else { vec![0, 1, 2, 3] };
-    shares.sort_by_key(|share| Reverse(seen.weights[*share]));
-    shares
 }
 
 /// Of the sums that can be made with the weights, the one that makes with the rest the half
@@ -260,7 +261,7 @@ fn some_n(draws: &mut Draws, kind: Kind) -> i64 {
 }
 
 /// Three codes: apart, all alike, two alike, whole cells apart, or equally far along their domains.
-fn some_pixel(draws: &mut Draws, description: &Description, m: u16) -> [u16; 3] {
+pub fn some_pixel(draws: &mut Draws, description: &Description, m: u16) -> [u16; 3] {
     let mut pixel = [0, 1, 2].map(|colour| some_code(draws, description, colour, m));
     match draws.below(6) {
         0 => pixel = [pixel[0]; 3],

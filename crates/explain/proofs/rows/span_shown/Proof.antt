@@ -3,7 +3,8 @@ use denote.Ref.{now}
 use mathlib.Core.Path.{ap, _∙_}
 use Rattle.rules.specs.Units.{rawM}
 use Rattle.rules.specs.Looking.Interpolation.{denOf, rowCode}
-use Rattle.explain.specs.Spans.{spanOf, listed}
+use Rattle.halves.specs.Listed.{listed}
+use Rattle.explain.specs.Spans.{spanOf}
 use Rattle.explain.proofs.Spanning.{listed-stand, four-shown, den-there}
 use borrow.Author.Needs.{needs}
 use Rattle.explain.proofs.rows.span_shown.Statement.{statement}

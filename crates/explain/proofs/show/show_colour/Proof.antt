@@ -3,7 +3,7 @@ use Prim.Native.Nat.{_*_}
 use denote.Ref.{now}
 use Rattle.rules.specs.Demands.{Each}
 use Rattle.colour.specs.Adding.{RowAt}
-use Rattle.explain.specs.Spans.{listed}
+use Rattle.halves.specs.Listed.{listed}
 use Rattle.explain.proofs.Spanning.{listed-stand}
 use borrow.Author.Needs.{needs}
 use Rattle.explain.proofs.show.show_colour.Statement.{statement}
