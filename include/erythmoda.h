@@ -24,9 +24,9 @@ extern "C" {
  * a call changes, so that a program never meets a library with other calls than it was compiled for. MINOR grows when a
  * call is new, or a rule changes, so that some file or pixel is answered otherwise. */
 #define ERYTHMODA_VERSION_MAJOR 1
-#define ERYTHMODA_VERSION_MINOR 3
+#define ERYTHMODA_VERSION_MINOR 4
 #define ERYTHMODA_VERSION_PATCH 0
-#define ERYTHMODA_VERSION "1.3.0"
+#define ERYTHMODA_VERSION "1.4.0"
 
 /* What a table is, in eleven numbers:
  *
@@ -76,7 +76,7 @@ enum erythmoda_number {
     ERYTHMODA_SAMPLE_TOO_FINE = 17,
     ERYTHMODA_TOO_FEW_ROWS = 18,
     ERYTHMODA_HALF_A_DOMAIN = 19,
-    /* of a look, its halves or a picture; 24 of a write too */
+    /* of a look, its halves or a picture; 20, 23 and 24 of an inverse, and 24 of a write too */
     ERYTHMODA_DEPTH_UNKNOWN = 20,
     ERYTHMODA_PICTURE_LENGTH = 21,
     ERYTHMODA_OUTPUT_TOO_SHORT = 22,
@@ -86,6 +86,8 @@ enum erythmoda_number {
     ERYTHMODA_ROWS_OR_WEIGHTS_WRONG = 26,
     /* of a write alone */
     ERYTHMODA_TITLE_NOT_PLAIN = 27,
+    /* of an inverse alone */
+    ERYTHMODA_NONE_WITHIN_TOLERANCE = 28,
     /* of the report program alone */
     ERYTHMODA_REPORT_INPUT_TOO_LONG = 30
 };
@@ -116,10 +118,11 @@ static inline const char *erythmoda_words(uint32_t number) {
     case ERYTHMODA_DEPTH_UNKNOWN: return "the depth of raw or of corrected codes is not 8, 10, 12 or 16 bits";
     case ERYTHMODA_PICTURE_LENGTH: return "the picture's length is no multiple of 3";
     case ERYTHMODA_OUTPUT_TOO_SHORT: return "the output is shorter than the picture";
-    case ERYTHMODA_CODE_ABOVE_M: return "a raw code is above the raw depth's M";
-    case ERYTHMODA_COULD_NOT_BE_READ: return "reading could not have given this description and this table";
+    case ERYTHMODA_CODE_ABOVE_M: return "a raw code is above the raw depth's M, or a wanted code above the corrected depth's M";
+    case ERYTHMODA_COULD_NOT_BE_READ: return "reading could not have given this description and this table; of an inverse also a 3D table, or a colour that is none";
     case ERYTHMODA_ROWS_OR_WEIGHTS_WRONG: return "a row number not below the count of rows, a negative weight, or weights that do not add up to the denominator";
     case ERYTHMODA_TITLE_NOT_PLAIN: return "the title has more than 242 bytes, a quote, or a byte other than 0x20 to 0x7E";
+    case ERYTHMODA_NONE_WITHIN_TOLERANCE: return "no raw code comes within the tolerance of the wanted code";
     case ERYTHMODA_REPORT_INPUT_TOO_LONG: return "the report's input has more than 65536 bytes";
     default: return "unknown number";
     }
@@ -221,6 +224,26 @@ uint32_t erythmoda_codes(const int64_t description[11], const int64_t *table, si
 uint32_t erythmoda_picture(const int64_t description[11], const int64_t *table, size_t table_len,
                            uint32_t raw_bits, uint32_t corrected_bits,
                            const uint16_t *src, size_t src_len, uint16_t *dst, size_t dst_len);
+
+/* The inverse on one colour of a 1D table: the raw code whose corrected code is nearest to a wanted one, the lowest of several
+ * that are equally near.
+ *
+ * `colour` is 0 for red, 1 for green, 2 for blue. `wanted` is a code of `corrected_bits`, and `tolerance` is how many codes at
+ * most the corrected code may lie from it, below or above: 0 asks for that very code, and from 65535 on any code will do. Raw
+ * codes of `raw_bits` are tried from 0 upward, each corrected as erythmoda_look corrects this colour, up to the raw M or to the
+ * first that is corrected to the wanted code itself, an exact hit. One that is only within the tolerance does not end the
+ * search. A call tries 65536 codes at most, and nothing is kept between calls.
+ *
+ * Accepted: `*code` is that raw code, and `*count` is how many codes were tried: `*code` + 1 where it is an exact hit, and
+ * otherwise the raw M + 1, the whole range. An exact hit at the raw M has the same count as none.
+ *
+ * Refused: the answer is 24, 20, 23 or 28, tried in that order, and `*code` is 0. 24 is also for a 3D table, and for another
+ * colour. 20 is for either depth, the raw one tried first, and 23 for a wanted code above the corrected M, whatever the raw M.
+ * 28 is given exactly if no raw code comes within the tolerance of the wanted code; `*count` is then the raw M + 1, since all
+ * were tried, and with the other numbers it is 0. Places 8 to 10 of `description` change no answer. */
+uint32_t erythmoda_inverse(const int64_t description[11], const int64_t *table, size_t table_len,
+                           uint32_t raw_bits, uint32_t corrected_bits, uint32_t colour, uint16_t wanted, uint32_t tolerance,
+                           uint16_t *code, uint64_t *count);
 
 /* Writes the bytes of a .cube file of a description, a table and the bytes of a title. The lines of the text, in their order:
  *

@@ -6,6 +6,8 @@
     table.picture(12, array("H", [819, 1638, 3276]), corrected_bits=16)
     found = table.rows(8, (51, 102, 204))       # a look by halves: rows and weights, to be kept,
     table.codes(8, *found, corrected_bits=16)   # and their codes
+    line = erythmoda.read(open("line.cube", "rb").read())
+    line.inverse(12, "red", 13107, 3, corrected_bits=16)    # the raw code of a 1D table that gives this code, or one near it
     open("new.cube", "wb").write(table.write())
 
 What the library refuses raises `Refused`. A wrong argument raises TypeError or ValueError before anything is called.
@@ -24,8 +26,8 @@ from ctypes import POINTER, byref, c_int64, c_size_t, c_uint8, c_uint16, c_uint3
 from pathlib import Path
 from typing import NamedTuple, Optional, Tuple
 
-__version__ = "1.3.0"
-__all__ = ["Description", "Look", "Refused", "Rows", "Table", "WORDS", "check", "read"]
+__version__ = "1.4.0"
+__all__ = ["Description", "Inverse", "Look", "Refused", "Rows", "Table", "WORDS", "check", "read"]
 
 WORDS = {
     1: "a line over 250 bytes",
@@ -50,19 +52,22 @@ WORDS = {
     20: "the depth of raw or of corrected codes is not 8, 10, 12 or 16 bits",
     21: "the picture's length is no multiple of 3",
     22: "the output is shorter than the picture",
-    23: "a raw code is above the raw depth's M",
-    24: "reading could not have given this description and this table",
+    23: "a raw code is above the raw depth's M, or a wanted code above the corrected depth's M",
+    24: "reading could not have given this description and this table; of an inverse also a 3D table, or a colour that is none",
     26: "a row number not below the count of rows, a negative weight, or weights that do not add up to the denominator",
     27: "the title has more than 242 bytes, a quote, or a byte other than 0x20 to 0x7E",
+    28: "no raw code comes within the tolerance of the wanted code",
 }
 
 
 class Refused(ValueError):
-    """The library's refusal: its `number`, the `words` for it, and for a file the `line`, counted from 1 (else None)."""
+    """The library's refusal: its `number`, the `words` for it, for a file the `line`, counted from 1 (else None), and for 28
+    the `count` of raw codes that were tried (else None)."""
 
-    def __init__(self, number, line=None):
+    def __init__(self, number, line=None, count=None):
         self.number = number
         self.line = line
+        self.count = count
         self.words = WORDS.get(number, "unknown number")
         where = "" if line is None else f" on line {line}"
         super().__init__(f"refused {number}{where}: {self.words}")
@@ -103,6 +108,13 @@ class Rows(NamedTuple):
 
     rows: Tuple[int, ...]
     weights: Tuple[int, ...]
+
+
+class Inverse(NamedTuple):
+    """A raw code, and the count of raw codes tried: this code plus 1 where it is an exact hit, else all there are."""
+
+    code: int
+    count: int
 
 
 class Table:
@@ -182,6 +194,23 @@ class Table:
         if _overlap(dst, src) or _overlap(dst, table[1]):
             raise ValueError("the output overlaps the source or the table's samples")
         return _library.erythmoda_picture(*table, *depths, src, src_count, dst, dst_count), output
+
+    def inverse(self, bits, colour, wanted, tolerance=0, *, corrected_bits=None):
+        """Finds, in one colour of a 1D table, the raw code whose corrected code is nearest to a wanted one: an `Inverse`.
+
+        The colour is "red", "green" or "blue". The wanted code is of `corrected_bits`, or of as many bits as the raw ones
+        without them; the corrected code may lie at most `tolerance` codes from it. Of several raw codes that come equally
+        near, the lowest is given. Raw codes are tried from 0 upward, to the greatest or to the first exact hit.
+
+        Where none comes within the tolerance, 28 is raised, and its `count` says that all were tried. A 3D table is refused
+        as 24.
+        """
+        aim = _colour(colour), _code(wanted), _tolerance(tolerance)
+        code, count = c_uint16(), c_uint64()
+        number = _library.erythmoda_inverse(*self._lent(), *_depths(bits, corrected_bits), *aim, byref(code), byref(count))
+        if number:
+            raise Refused(number, count=count.value if number == 28 else None)
+        return Inverse(code.value, count.value)
 
     def write(self):
         """Gives the bytes of a .cube file with this table, and with its title if it has one.
@@ -306,6 +335,31 @@ def _three_codes(pixel):
     return (c_uint16 * 3).from_buffer(codes)
 
 
+_COLOURS = ("red", "green", "blue")
+
+
+def _colour(name):
+    """A colour's number: no other name reaches the library."""
+    if name not in _COLOURS:
+        raise ValueError(f"a colour is one of {', '.join(_COLOURS)}, and not {name!r}")
+    return _COLOURS.index(name)
+
+
+def _code(wanted):
+    wanted = operator.index(wanted)
+    if not 0 <= wanted < 1 << 16:
+        raise ValueError(f"codes are from 0 to 65535, and the wanted one is {wanted}")
+    return wanted
+
+
+def _tolerance(codes):
+    """The tolerance as a 32-bit number. No two codes lie further apart than that, so a greater one is the same."""
+    codes = operator.index(codes)
+    if codes < 0:
+        raise ValueError(f"a tolerance is 0 or more, and not {codes}")
+    return min(codes, (1 << 32) - 1)
+
+
 # the type of a row number and of a weight, the letter of an array of them, and what they are
 _ROWS = (c_uint32, "I", "from 0 to 4294967295")
 _WEIGHTS = (c_int64, "q", "of 64 bits with their sign")
@@ -345,6 +399,7 @@ _TAKES = {
     "erythmoda_rows": (*_TABLE, c_uint32, POINTER(c_uint16), POINTER(c_uint32), POINTER(c_int64)),
     "erythmoda_codes": (*_TABLE, *_DEPTHS, POINTER(c_uint32), POINTER(c_int64), POINTER(c_uint16)),
     "erythmoda_picture": (*_TABLE, *_DEPTHS, POINTER(c_uint16), c_size_t, POINTER(c_uint16), c_size_t),
+    "erythmoda_inverse": (*_TABLE, *_DEPTHS, c_uint32, c_uint16, c_uint32, POINTER(c_uint16), POINTER(c_uint64)),
     "erythmoda_write": (*_TABLE, POINTER(c_uint8), c_size_t, POINTER(c_uint8), c_size_t, POINTER(c_uint64)),
 }
 

@@ -1,6 +1,6 @@
-/* The seven calls from C: document 01's 3D file is judged, read, looked at, at once and by halves, and applied, with one domain
- * and with mixed ones, and written; every answer is compared, and so is everything lent that a call may not change; then the
- * header's words and version. Prints what is wrong, and exits 1 if anything is. */
+/* The eight calls from C: document 01's 3D file is judged, read, looked at, at once and by halves, and applied, with one domain
+ * and with mixed ones, and written; raw codes are found through a 1D table; every answer is compared, and so is everything lent
+ * that a call may not change; then the header's words and version. Prints what is wrong, and exits 1 if anything is. */
 #include <stdio.h>
 #include <stdlib.h>
 #include <string.h>
@@ -433,6 +433,104 @@ static void short_table(const struct colour_table *table) {
     expect(memcmp(dst, KEPT_OUTPUT, sizeof dst) == 0, "a picture through a short table keeps the output");
 }
 
+enum colour { RED = 0, GREEN = 1, BLUE = 2 };
+
+/* What an inverse is asked for. */
+struct aim {
+    uint32_t raw_bits, corrected_bits, colour;
+    uint16_t wanted;
+    uint32_t tolerance;
+};
+
+/* The places beside the code and the count that are lent hold what they held before, and so does all that is read. */
+static void expect_inverse(const struct colour_table *table, size_t table_len, struct aim aim, enum erythmoda_number number,
+                           uint16_t code, uint64_t count, const char *what) {
+    struct colour_table before;
+    uint16_t codes[3] = {KEPT, KEPT, KEPT};
+    uint64_t counts[3] = {KEPT, KEPT, KEPT};
+    uint32_t answer;
+    memcpy(&before, table, sizeof before);
+    answer = erythmoda_inverse(table->description, table->samples, table_len, aim.raw_bits, aim.corrected_bits, aim.colour,
+                               aim.wanted, aim.tolerance, codes + 1, counts + 1);
+    expect_number(answer, number, what);
+    expect(codes[1] == code && counts[1] == count, what);
+    expect(codes[0] == KEPT && codes[2] == KEPT && counts[0] == KEPT && counts[2] == KEPT, what);
+    expect(memcmp(&before, table, sizeof before) == 0, what);
+}
+
+static void expect_found(const struct colour_table *table, struct aim aim, uint16_t code, uint64_t count, const char *what) {
+    expect_inverse(table, ROW_PLACES, aim, ERYTHMODA_ACCEPTED, code, count, what);
+}
+
+/* Red rises from 0 to 1 and green falls from 1 to 0; blue rises to 0.5, stays there, and rises to 1. */
+static struct colour_table three_lines(void) {
+    static const int64_t description[ERYTHMODA_DESCRIPTION_PLACES] = {1, 4, 0, 0, 0, 1000, 1000, 1000, 0, 0, 0};
+    static const int64_t samples[12] = {0,       10000000, 0,       3333333,  6666667, 5000000,
+                                        6666667, 3333333,  5000000, 10000000, 0,       10000000};
+    struct colour_table table;
+    memcpy(table.description, description, sizeof description);
+    fill(table.samples, TABLE_PLACES, INT64_MAX);
+    memcpy(table.samples, samples, sizeof samples);
+    return table;
+}
+
+static void inverse(void) {
+    static const struct aim first = {8, 8, RED, 0, 0}, fifth = {8, 8, RED, 51, 0}, last = {8, 8, RED, 255, UINT32_MAX};
+    static const struct aim falls = {8, 8, GREEN, 51, 7}, falls_last = {8, 8, GREEN, 0, 0}, flat = {8, 8, BLUE, 128, 0};
+    static const struct aim deeper = {8, 16, RED, 65535, 0}, beside = {8, 16, RED, 65534, 1}, tie = {8, 10, RED, 2, 2};
+    static const struct aim any = {8, 16, RED, 65534, UINT32_MAX}, greatest = {16, 8, RED, 255, 0};
+    static const struct aim last_of_16 = {16, 16, RED, 65535, 0};
+    struct colour_table table = three_lines();
+    expect_found(&table, first, 0, 1, "the raw code of red 0");
+    expect_found(&table, fifth, 51, 52, "the raw code of red 51");
+    expect_found(&table, last, 255, 256, "the raw code of red 255, with the greatest tolerance");
+    expect_found(&table, falls, 204, 205, "the raw code of green 51, which falls");
+    expect_found(&table, falls_last, 255, 256, "the raw code of green 0, which falls");
+    expect_found(&table, flat, 85, 86, "the lowest raw code of a flat stretch");
+    expect_found(&table, deeper, 255, 256, "the raw code of 8 bits for 65535 of 16");
+    expect_found(&table, beside, 255, 256, "the raw code of 8 bits that comes within one code of 65534");
+    expect_found(&table, any, 255, 256, "the same with the greatest tolerance");
+    expect_found(&table, tie, 0, 256, "the lowest of two raw codes that come equally near");
+    expect_found(&table, greatest, 65407, 65408, "the first raw code of 16 bits for 255 of 8");
+    expect_found(&table, last_of_16, 65535, 65536, "the raw code of red 65535, the last of 16 bits");
+    table.description[8] = table.description[9] = table.description[10] = INT64_MIN;
+    expect_found(&table, fifth, 51, 52, "an inverse whatever the title");
+}
+
+/* Each refusal, and those before it where several are due; 28 alone has a count. */
+static void refused_inverse(const struct colour_table *cube) {
+    static const struct aim unknown = {9, 9, RED, 256, 0}, from_9 = {9, 8, RED, 256, 0}, to_9 = {8, 9, RED, 256, 0};
+    static const struct aim above = {8, 8, RED, 256, UINT32_MAX}, above_from_16 = {16, 8, RED, 256, UINT32_MAX};
+    static const struct aim good = {8, 8, BLUE, 51, 255}, beside = {8, 16, RED, 65534, 0}, far_off = {16, 16, GREEN, 65535, 0};
+    static const uint32_t no_colours[] = {3, 4, 256, 65536, UINT32_MAX};
+    struct colour_table table = three_lines(), unsound;
+    size_t at;
+    expect_inverse(cube, ROW_PLACES, good, ERYTHMODA_COULD_NOT_BE_READ, 0, 0, "an inverse through a 3D table");
+    expect_inverse(cube, ROW_PLACES, unknown, ERYTHMODA_COULD_NOT_BE_READ, 0, 0, "an inverse through a 3D table with 9 bits");
+    for (at = 0; at < sizeof no_colours / sizeof no_colours[0]; at++) {
+        struct aim aim = good, worse = unknown;
+        aim.colour = worse.colour = no_colours[at];
+        expect_inverse(&table, ROW_PLACES, aim, ERYTHMODA_COULD_NOT_BE_READ, 0, 0, "an inverse on no colour");
+        expect_inverse(&table, ROW_PLACES, worse, ERYTHMODA_COULD_NOT_BE_READ, 0, 0, "an inverse on no colour with 9 bits");
+    }
+    memcpy(&unsound, &table, sizeof unsound);
+    unsound.description[0] = 2;
+    expect_inverse(&unsound, ROW_PLACES, unknown, ERYTHMODA_COULD_NOT_BE_READ, 0, 0, "an inverse through a table of no kind");
+    expect_inverse(&table, 11, good, ERYTHMODA_COULD_NOT_BE_READ, 0, 0, "an inverse through a short table");
+    /* of the other colours' samples too */
+    table.samples[0] = INT64_MAX;
+    expect_inverse(&table, ROW_PLACES, good, ERYTHMODA_COULD_NOT_BE_READ, 0, 0, "an inverse beside a sample beyond 1000");
+    table.samples[0] = 0;
+    expect_inverse(&table, ROW_PLACES, unknown, ERYTHMODA_DEPTH_UNKNOWN, 0, 0, "an inverse with 9 bits");
+    expect_inverse(&table, ROW_PLACES, from_9, ERYTHMODA_DEPTH_UNKNOWN, 0, 0, "an inverse from 9 bits to 8");
+    expect_inverse(&table, ROW_PLACES, to_9, ERYTHMODA_DEPTH_UNKNOWN, 0, 0, "an inverse from 8 bits to 9");
+    expect_inverse(&table, ROW_PLACES, above, ERYTHMODA_CODE_ABOVE_M, 0, 0, "an inverse for 256 of 8 bits");
+    expect_inverse(&table, ROW_PLACES, above_from_16, ERYTHMODA_CODE_ABOVE_M, 0, 0, "an inverse from 16 bits for 256 of 8");
+    expect_inverse(&table, ROW_PLACES, beside, ERYTHMODA_NONE_WITHIN_TOLERANCE, 0, 256, "an inverse beside a code that is reached");
+    fill(table.samples, 12, 0);
+    expect_inverse(&table, ROW_PLACES, far_off, ERYTHMODA_NONE_WITHIN_TOLERANCE, 0, 65536, "an inverse through zeros alone");
+}
+
 #define TEXT_BYTES 360 /* a little more than the longest text here */
 #define HEAD_LINES "LUT_3D_SIZE 2\nDOMAIN_MIN 0 0 0\nDOMAIN_MAX 1 1 1\n"
 
@@ -537,8 +635,8 @@ static void written_and_read(const struct colour_table *table) {
     expect(same_length == length && memcmp(same, text, (size_t)length) == 0, "it is the same text");
 }
 
-/* Document 01 uses the numbers 0 to 18, 20 to 24 and 30, and document 02 adds 19, 26 and 27. */
-static int is_used(uint32_t number) { return number <= 24 || number == 26 || number == 27 || number == 30; }
+/* Document 01 uses the numbers 0 to 18, 20 to 24 and 30, and document 02 adds 19, 26, 27 and 28. */
+static int is_used(uint32_t number) { return number <= 24 || (number >= 26 && number <= 28) || number == 30; }
 
 static void words(void) {
     uint32_t number;
@@ -577,11 +675,14 @@ int main(void) {
     refused_picture(&table);
     mixed_domains();
     short_table(&table);
+    inverse();
+    refused_inverse(&table);
     written(&table);
     written_numbers();
     refused_write(&table);
     written_and_read(&table);
-    expect(memcmp(&before, &table, sizeof table) == 0, "look, its halves, picture and write change neither description nor table");
+    expect(memcmp(&before, &table, sizeof table) == 0,
+           "look, its halves, picture, inverse and write change neither description nor table");
     words();
     version();
     if (!wrong) puts("every answer through C is as it should be");

@@ -3,6 +3,7 @@
 // tests/second/src/cases.rs has the format, and prints the same bytes by other means.
 mod checks;
 mod halves;
+mod inverses;
 mod longest;
 mod looks;
 mod mixed;
@@ -24,4 +25,5 @@ fn main() {
     mixed::run();
     writes::run();
     halves::run();
+    inverses::run();
 }

@@ -6,3 +6,4 @@ pub mod Plans
 pub mod Totals
 pub mod Weighing
 pub mod RowCodes
+pub mod Lining

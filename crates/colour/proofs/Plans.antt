@@ -1,7 +1,7 @@
 -- What the plan of a description that could have been read says: how great its numbers are, that its places are those of the rule, and that so are
 -- the rows and weights by it.
 use Prim.Native.Nat.{ℕ, suc, _+_, _-_, _*_, _≤_, _<_}
-use mathlib.Core.Path.{_≡_, refl, sym, ap, subst, _∙_}
+use mathlib.Core.Path.{_≡_, refl, sym, ap, ap₂, subst, _∙_}
 use mathlib.Core.Bool.{true}
 use mathlib.Core.List.{List}
 use native.Mathlib.Nat as NatL
@@ -183,12 +183,13 @@ module _ {plan : Plan} {table : List ℤ} (p : Planned plan table) where
   pub shown-is : (pixel : Codes) {k : Kind} → plan .kind ≡ k → shownBy plan pixel k ≡ shown d m pixel (d .kind)
   shown-is pixel {k} e = ap (λ x. shownBy x pixel k) (p .is) ∙ shown-of d could-sound (p .depths) (p .deep) pixel k ∙ ap (shown d m pixel) (sym e ∙ kind-is)
 
-  -- 1D: a colour's code of its own code, by its axis alone
+  -- 1D: a colour's two rows, and its code, are a matter of its own axis and code alone
+  pub pair-is : (c : Colour) (code : ℕ) → pairOf (axisIn plan c) (plan .cells) code ≡ pairAt d m c code
+  pair-is c code = ap (λ x. pairOf (axisIn x c) (x .cells) code) (p .is) ∙ pairs-of d could-sound (p .depths) (p .deep) c code
+
   pub line-code : (c : Colour) (code : ℕ)
       → codeBy (correctedM (p .depths)) (axisIn plan c .den) table c (pairOf (axisIn plan c) (plan .cells) code) ≡ lineCode d table (p .depths) c code
-  line-code c code =
-      ap (λ x. codeBy (correctedM (p .depths)) (axisIn x c .den) table c (pairOf (axisIn x c) (x .cells) code)) (p .is)
-      ∙ rw (pairs-of d could-sound (p .depths) (p .deep) c code, axis-of d (p .depths) c)
+  line-code c code = ap₂ (λ x y. codeBy (correctedM (p .depths)) x table c y) (den-is c) (pair-is c code)
 
   -- 3D: the path of the pixel's steps
   pub path-shown : (pixel : Codes) {steps : Steps} {r : Shares} → steps ≡ stepsOf plan pixel → r ≡ six (pathBySteps steps) → r ≡ shownBy plan pixel ThreeD

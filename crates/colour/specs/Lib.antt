@@ -4,3 +4,4 @@ pub mod Ratios
 pub mod Plans
 pub mod Places
 pub mod Adding
+pub mod Lines

@@ -35,7 +35,7 @@ fn code_of(p: u64, axis: Axis, sum: Whole) -> u16
 // ---- 1D
 
 // A colour's code of its two rows: a matter of its own axis and rows.
-fn pair_code(p: u64, axis: Axis, table: &[i64], c: Colour, pair: Pair) -> u16
+pub fn pair_code(p: u64, axis: Axis, table: &[i64], c: Colour, pair: Pair) -> u16
     requires { ⌜ ((m : ℕ) × Codable p axis m) ⌝ }
     requires { ⌜ SharesFit (now table) (ofPair pair) ⌝ }
     ensures { λ r. ⌜ ((m : ℕ) → Codable p axis m → r ≡ codeBy m (axis .den) (now (table .entry)) c (ofPair pair)) ⌝ }

@@ -1,6 +1,9 @@
 // One pixel to three corrected codes, with the rows and weights used: a plan, the two halves of the way over it, and both in one.
 use codes::codes_by;
 use codes::line_codes;
+pub use lines::Line;
+pub use lines::line_code;
+pub use lines::line_of;
 pub use plan::Plan;
 pub use plan::plan_of;
 pub use rows::den_of;
@@ -22,6 +25,7 @@ ghost use Rattle.colour.specs.Plans.{axisIn, rowsIn, Planned, Made};
 ghost use Rattle.rules.specs.Demands.{Weighable};
 
 mod codes;
+mod lines;
 mod place;
 mod plan;
 mod ratio;

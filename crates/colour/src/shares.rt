@@ -34,7 +34,7 @@ pub struct Pair {
 }
 
 // Rows i and i+1, weights D−f and f: a matter of the colour's own axis and code.
-fn pair_of(axis: Axis, cells: usize, code: u16) -> Pair
+pub fn pair_of(axis: Axis, cells: usize, code: u16) -> Pair
     requires { ⌜ AxisFits axis ⌝ }
     requires { ⌜ CellsFit cells ⌝ }
     ensures { λ r. ⌜ ofPair r ≡ pairOf axis cells code ⌝ }

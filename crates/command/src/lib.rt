@@ -7,6 +7,7 @@ use desk::Outcome;
 use desk::report_input;
 use desk::write;
 use explain::answer;
+use invert::invert;
 use libc::STDERR_FILENO;
 use libc::STDOUT_FILENO;
 use rewrite::rewrite;
@@ -36,6 +37,7 @@ fn show_help(verb: Verb) -> Outcome {
         Verb::Explain => explain::help(STDOUT_FILENO),
         Verb::Correct => correct::help(STDOUT_FILENO),
         Verb::Rewrite => rewrite::help(STDOUT_FILENO),
+        Verb::Invert => invert::help(STDOUT_FILENO),
         Verb::Help => words::help(STDOUT_FILENO),
         Verb::Version => words::help(STDOUT_FILENO),
         Verb::Unknown => words::help(STDOUT_FILENO),
@@ -78,6 +80,7 @@ fn obey(
         Verb::Explain => answer(file, table),
         Verb::Correct => correct(file, table, bytes, raw, corrected),
         Verb::Rewrite => rewrite(file, table, text),
+        Verb::Invert => invert(file, table),
         Verb::Help => show_help(verb),
         Verb::Version => show_version(),
         Verb::Unknown => refuse_call(),

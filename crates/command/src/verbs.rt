@@ -8,6 +8,7 @@ pub enum Verb {
     Explain,
     Correct,
     Rewrite,
+    Invert,
     Help,
     Version,
     Unknown,
@@ -20,6 +21,8 @@ const EXPLAIN: [u8; 7] = *b"explain";
 const CORRECT: [u8; 7] = *b"correct";
 
 const REWRITE: [u8; 7] = *b"rewrite";
+
+const INVERT: [u8; 6] = *b"invert";
 
 const VERSION: [u8; 9] = *b"--version";
 
@@ -51,6 +54,9 @@ pub fn verb_of(word: &[u8]) -> Verb
     }
     if is_named(word, &REWRITE) {
         return Verb::Rewrite;
+    }
+    if is_named(word, &INVERT) {
+        return Verb::Invert;
     }
     if is_named(word, &VERSION) {
         return Verb::Version;

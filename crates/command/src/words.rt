@@ -1,9 +1,9 @@
 // What the command says of itself.
 use desk::write;
 
-// As `erythmoda 1.3.0`; tests hold it to the version of the header.
+// As `erythmoda 1.4.0`; tests hold it to the version of the header.
 pub fn version(fd: i32) -> bool {
-    write(fd, b"erythmoda 1.3.0\n")
+    write(fd, b"erythmoda 1.4.0\n")
 }
 
 // What there is, with an example of each.
@@ -31,6 +31,11 @@ pub fn help(fd: i32) -> bool {
         && write(
             fd,
             b"    the table written anew in its plainest form, with its title, another one or none\n",
+        )
+        && write(fd, b"erythmoda invert table.cube 8 red 128 0\n")
+        && write(
+            fd,
+            b"    which raw code a 1D table corrects to a wanted code in one colour, exactly or within a tolerance, and how many codes were tried\n",
         )
         && write(fd, b"erythmoda VERB --help, erythmoda --version\n\n")
         && write(

@@ -4,6 +4,7 @@ use rules::Codes;
 use rules::Description;
 use rules::Domain;
 use rules::FirstHalf;
+use rules::Inverse;
 use rules::Kind;
 use rules::Look;
 use rules::Picture;
@@ -18,7 +19,7 @@ ghost use mathlib.Core.Path.{_≡_};
 ghost use mathlib.Core.List.{[], _∷_};
 ghost use Rattle.rules.specs.Descriptions.{zeros};
 ghost use Rattle.rules.specs.Looking.{six};
-ghost use Rattle.rules.specs.Answers.{readNumber, readLine, readDescription, placesNeeded, lookNumber, lookCodes, lookShares, firstNumber, firstShares, secondNumber, secondCodes, codesOf, sharesOf, pictureNumber, writeNumber, writtenLength};
+ghost use Rattle.rules.specs.Answers.{readNumber, readLine, readDescription, placesNeeded, lookNumber, lookCodes, lookShares, firstNumber, firstShares, secondNumber, secondCodes, codesOf, sharesOf, pictureNumber, writeNumber, writtenLength, inverseNumber, inverseCode, inverseCount};
 ghost use Rattle.crossing.specs.Layout.{Countable};
 
 // ---- reading
@@ -209,5 +210,37 @@ pub fn written_length(answer: Write) -> u64
     match answer {
         Write::Accepted(length) => length as u64,
         Write::Refused(_) => 0,
+    }
+}
+
+// ---- the inverse
+
+pub fn inverse_number(answer: Inverse) -> u32
+    ensures { λ r. ⌜ r ≡ inverseNumber answer ⌝ }
+{
+    match answer {
+        Inverse::Accepted { code: _, count: _ } => 0,
+        Inverse::Refused { reason, count: _ } => reason.number(),
+    }
+}
+
+pub fn inverse_code(answer: Inverse) -> u16
+    ensures { λ r. ⌜ r ≡ inverseCode answer ⌝ }
+{
+    match answer {
+        Inverse::Accepted { code, count: _ } => code,
+        Inverse::Refused {
+            reason: _,
+            count: _,
+        } => 0,
+    }
+}
+
+pub fn inverse_count(answer: Inverse) -> u64
+    ensures { λ r. ⌜ r ≡ inverseCount answer ⌝ }
+{
+    match answer {
+        Inverse::Accepted { code: _, count } => count,
+        Inverse::Refused { reason: _, count } => count,
     }
 }

@@ -1,5 +1,6 @@
 // How descriptions, pixels, codes, rows and weights lie in the numbers that C lends.
 use rules::Codes;
+use rules::Colour;
 use rules::Description;
 use rules::Domain;
 use rules::Kind;
@@ -12,8 +13,8 @@ ghost use mathlib.Core.Path.{_≡_};
 ghost use mathlib.Core.List.{map};
 ghost use Prim.Native.Nat.{_<_};
 ghost use Rattle.rules.specs.Answers.{codesOf, sharesOf};
-ghost use Rattle.rules.specs.Boundary.{Crossable, RowsFit, elevenOf, descriptionIn, describedIn, domainIn, countIn, titleAt, pixelIn, shareIn, sharesIn, kindNumber, markNumber};
-ghost use Rattle.crossing.specs.Layout.{crossed};
+ghost use Rattle.rules.specs.Boundary.{Crossable, RowsFit, elevenOf, descriptionIn, describedIn, domainIn, countIn, titleAt, pixelIn, shareIn, sharesIn, kindNumber, markNumber, colourIn};
+ghost use Rattle.crossing.specs.Layout.{crossed, crossedColour};
 
 // ---- a description as eleven numbers
 
@@ -211,5 +212,23 @@ pub fn shares_in(rows: &[u32; 6], weights: &[i64; 6]) -> Shares
         fourth: share_at(rows, weights, 3),
         fifth: share_at(rows, weights, 4),
         sixth: share_at(rows, weights, 5),
+    }
+}
+
+// ---- a colour as a number
+
+pub enum ColourFound {
+    Known(Colour),
+    Unknown,
+}
+
+pub fn colour_of(number: u32) -> ColourFound
+    ensures { λ r. ⌜ r ≡ crossedColour (colourIn number) ⌝ }
+{
+    match number {
+        0 => ColourFound::Known(Colour::Red),
+        1 => ColourFound::Known(Colour::Green),
+        2 => ColourFound::Known(Colour::Blue),
+        _ => ColourFound::Unknown,
     }
 }

@@ -1,7 +1,10 @@
-// What crosses the C boundary: descriptions, pixels, codes, rows and weights as the numbers that C lends, and an answer's number and values.
+// What crosses the C boundary: descriptions, colours, pixels, codes, rows and weights as the numbers that C lends, and an answer's number and values.
 pub use answers::description_of;
 pub use answers::first_number;
 pub use answers::first_shares;
+pub use answers::inverse_code;
+pub use answers::inverse_count;
+pub use answers::inverse_number;
 pub use answers::look_codes;
 pub use answers::look_number;
 pub use answers::look_shares;
@@ -13,8 +16,10 @@ pub use answers::second_codes;
 pub use answers::second_number;
 pub use answers::write_number;
 pub use answers::written_length;
+pub use layout::ColourFound;
 pub use layout::DescriptionFound;
 pub use layout::codes_laid;
+pub use layout::colour_of;
 pub use layout::described;
 pub use layout::eleven_of;
 pub use layout::pixel_of;

@@ -4,14 +4,17 @@ use mathlib.Core.Path.{_≡_, refl, ap, subst, _∙_}
 use mathlib.Core.List.{List}
 use mathlib.Core.Option.{Option, none, some}
 use lib.IntN.{ℤ}
-use Rattle.rules.specs.Answers.{lookNumber, lookCodes, lookRows, lookWeights, firstNumber, firstRows, firstWeights, secondNumber, secondCodes, pictureNumber}
-use Rattle.rules.specs.Boundary.{describedIn, pixelIn, sharesIn, lookIn, firstIn, secondIn, LooksC, FindsRowsC, GivesCodesC, PicturesC}
-use Rattle.rules.specs.Promises.{Looks, FindsRows, GivesCodes, Pictures, Writes}
+use Rattle.rules.specs.Answers.{lookNumber, lookCodes, lookRows, lookWeights, firstNumber, firstRows, firstWeights, secondNumber, secondCodes, pictureNumber, inverseNumber, inverseCode, inverseCount}
+use Rattle.rules.specs.Boundary.{describedIn, colourIn, pixelIn, sharesIn, aimAt, lookIn, firstIn, secondIn, inverseIn, LooksC, FindsRowsC, GivesCodesC, PicturesC}
+use Rattle.rules.specs.Promises.{Looks, FindsRows, GivesCodes, Pictures, Writes, Inverts}
 use Rattle.rules.specs.declared.Bits.{Bits}
 use Rattle.rules.specs.declared.Codes.{Codes}
+use Rattle.rules.specs.declared.Colour.{Colour}
 use Rattle.rules.specs.declared.Description.{Description}
 use Rattle.rules.specs.declared.FirstHalf.{FirstHalf}
 use Rattle.rules.specs.declared.FirstHalf.the-variants as F
+use Rattle.rules.specs.declared.Inverse.{Inverse}
+use Rattle.rules.specs.declared.Inverse.the-variants as I
 use Rattle.rules.specs.declared.Look.{Look}
 use Rattle.rules.specs.declared.Look.the-variants as L
 use Rattle.rules.specs.declared.Picture.{Picture}
@@ -22,9 +25,11 @@ use Rattle.rules.specs.declared.SecondHalf.the-variants as S
 use Rattle.rules.specs.declared.Shares.{Shares}
 use Rattle.rules.specs.declared.Write.{Write}
 use Rattle.rules.specs.declared.Write.the-variants as W
-use Rattle.rules.proofs.Answers.{looks-is, finds-is, gives-is}
-use Rattle.crossing.specs.Layout.{crossed, LooksIn, FindsRowsIn, GivesCodesIn, WritesIn}
+use Rattle.rules.proofs.Answers.{looks-is, finds-is, gives-is, inverts-is}
+use Rattle.crossing.specs.Layout.{crossed, crossedColour}
+use Rattle.crossing.specs.declared.layout.ColourFound.the-variants as C
 use Rattle.crossing.specs.declared.layout.DescriptionFound.the-variants.{Known, Unknown}
+use Rattle.erythmoda.specs.Described.{LooksIn, FindsRowsIn, GivesCodesIn, WritesIn, InvertsIn}
 
 known : (o : Option Description) (d : Description) → crossed o ≡ Known d → o ≡ some d
 known none d e = cc
@@ -115,3 +120,28 @@ module _ {eleven table : List ℤ} {title out : List ℕ} where
   write-unknown e =
       let missing = unknown (describedIn eleven) e in
       record { number = rw missing; length-so = rw missing; memory = rw missing }
+
+-- ---- the inverse
+
+known-colour : (o : Option Colour) (c : Colour) → crossedColour o ≡ C.Known c → o ≡ some c
+known-colour none c e = cc
+known-colour (some x) c e = cc
+
+unknown-colour : (o : Option Colour) → crossedColour o ≡ C.Unknown → o ≡ none
+unknown-colour none e = refl
+unknown-colour (some x) e = cc
+
+module _ {eleven table : List ℤ} {bits : Bits} {colour wanted tolerance : ℕ} where
+  inverts-as : {r : Inverse} → r ≡ inverseIn eleven table bits colour wanted tolerance → InvertsIn eleven table bits colour wanted tolerance r
+  inverts-as e = record { number = ap inverseNumber e; code = ap inverseCode e; count = ap inverseCount e }
+
+  pub inverse-known : {d : Description} {c : Colour} {r : Inverse} → crossed (describedIn eleven) ≡ Known d → crossedColour (colourIn colour) ≡ C.Known c
+      → Inverts d table bits (aimAt c wanted tolerance) r → InvertsIn eleven table bits colour wanted tolerance r
+  inverse-known {d} {c} e k p = inverts-as (rw (known (describedIn eleven) d e, known-colour (colourIn colour) c k) (inverts-is p))
+
+  pub inverse-unknown : crossed (describedIn eleven) ≡ Unknown → InvertsIn eleven table bits colour wanted tolerance (I.Refused CouldNotBeRead 0)
+  inverse-unknown e = inverts-as (rw (unknown (describedIn eleven) e))
+
+  pub inverse-colourless : {d : Description} → crossed (describedIn eleven) ≡ Known d → crossedColour (colourIn colour) ≡ C.Unknown
+      → InvertsIn eleven table bits colour wanted tolerance (I.Refused CouldNotBeRead 0)
+  inverse-colourless {d} e k = inverts-as (rw (known (describedIn eleven) d e, unknown-colour (colourIn colour) k))

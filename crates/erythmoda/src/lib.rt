@@ -1,11 +1,16 @@
 // The C boundary: what loggers link. Each call asks the proved call behind it and lays the answer out in lent memory.
+use crossing::ColourFound;
 use crossing::DescriptionFound;
 use crossing::codes_laid;
+use crossing::colour_of;
 use crossing::described;
 use crossing::description_of;
 use crossing::eleven_of;
 use crossing::first_number;
 use crossing::first_shares;
+use crossing::inverse_code;
+use crossing::inverse_count;
+use crossing::inverse_number;
 use crossing::look_codes;
 use crossing::look_number;
 use crossing::look_shares;
@@ -24,12 +29,15 @@ use crossing::written_length;
 use halves::first_half;
 use halves::look;
 use halves::second_half;
+use inverse::inverse;
 use picture::picture;
 use reading::check;
 use reading::read;
+use rules::Aim;
 use rules::Bits;
 use rules::Codes;
 use rules::FirstHalf;
+use rules::Inverse;
 use rules::Look;
 use rules::Picture;
 use rules::Refusal;
@@ -38,8 +46,8 @@ use rules::Shares;
 use rules::Write;
 use writing::write;
 ghost use Rattle.rules.specs.Units.{bitsOf};
-ghost use Rattle.rules.specs.Boundary.{ReadsC, ChecksC, LooksC, FindsRowsC, GivesCodesC, PicturesC, WritesC};
-ghost use Rattle.crossing.specs.Layout.{LooksIn, FindsRowsIn, GivesCodesIn, WritesIn};
+ghost use Rattle.rules.specs.Boundary.{ReadsC, ChecksC, LooksC, FindsRowsC, GivesCodesC, PicturesC, WritesC, InvertsC};
+ghost use Rattle.erythmoda.specs.Described.{LooksIn, FindsRowsIn, GivesCodesIn, WritesIn, InvertsIn};
 
 // Reads a file into the lent table; the description as eleven numbers, and the line of a refusal.
 #[no_mangle]
@@ -208,4 +216,55 @@ pub extern "C" fn erythmoda_write(
     let answer = write_in(description, table, title, out);
     *length = written_length(answer);
     write_number(answer)
+}
+
+// The inverse, of a description as eleven numbers and a colour as one.
+fn inverse_in(
+    description: &[i64; 11],
+    table: &[i64],
+    bits: Bits,
+    colour: u32,
+    wanted: u16,
+    tolerance: u32,
+) -> Inverse
+    ensures { λ r. ⌜ InvertsIn (now (description .entry)) (now (table .entry)) bits colour wanted tolerance r ⌝ }
+{
+    let none = Inverse::Refused {
+        reason: Refusal::CouldNotBeRead,
+        count: 0,
+    };
+    let DescriptionFound::Known(d) = described(description) else {
+        return none;
+    };
+    let ColourFound::Known(c) = colour_of(colour) else {
+        return none;
+    };
+    let aim = Aim {
+        colour: c,
+        wanted,
+        tolerance,
+    };
+    inverse(d, table, bits, aim)
+}
+
+// The raw code of a colour whose corrected code is nearest to a wanted one, and the count of codes tried. The colour is 0 for red, 1 for green, 2 for blue.
+#[no_mangle]
+pub extern "C" fn erythmoda_inverse(
+    description: &[i64; 11],
+    table: &[i64],
+    raw: u32,
+    corrected: u32,
+    colour: u32,
+    wanted: u16,
+    tolerance: u32,
+    code: &mut u16,
+    count: &mut u64,
+) -> u32
+    ensures { λ r. ⌜ InvertsC (now (description .entry)) (now (table .entry)) (bitsOf raw corrected) colour wanted tolerance r (now (code .exit)) (now (count .exit)) ⌝ }
+{
+    let bits = Bits { raw, corrected };
+    let answer = inverse_in(description, table, bits, colour, wanted, tolerance);
+    *code = inverse_code(answer);
+    *count = inverse_count(answer);
+    inverse_number(answer)
 }

@@ -5,6 +5,4 @@ pub mod RowsOwnLine
 pub mod Spanning
 pub mod Between
 pub mod GivenLine
-pub mod AsWritten
-mod FirstByte
 mod Ends

@@ -1,7 +1,6 @@
 // The auditor's question at the desk: which rows of a table made a pixel's corrected codes, and can a code lie outside those of its rows; and the record
 // keeper's, who keeps rows and weights as a line of numbers and asks for the codes later.
 mod answers;
-mod given;
 mod kept;
 mod lines;
 mod question;

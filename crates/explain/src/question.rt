@@ -1,12 +1,12 @@
 // The arguments after the verb and the table: a depth and a pixel, or a line of rows and weights, and what is asked about them.
-use crate::given::Given;
-use crate::given::MOST;
-use crate::given::MOST_ROW;
-use crate::given::Weight;
-use crate::given::corrected_width;
-use crate::given::value_at;
-use crate::given::weight_at;
 use desk::is_word_at;
+use given::Given;
+use given::MOST;
+use given::MOST_ROW;
+use given::Weight;
+use given::corrected_width;
+use given::value_at;
+use given::weight_at;
 use rules::Bits;
 use rules::Codes;
 use rules::Share;

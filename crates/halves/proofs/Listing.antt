@@ -1,6 +1,6 @@
 -- A colour's rows and weights as the code keeps them, and how they are judged.
 use Prim.Native.Nat.{ℕ, suc, min, _+_, _≤_, _<_}
-use mathlib.Core.Path.{_≡_, refl, ap, ap₂, sym, _∙_}
+use mathlib.Core.Path.{_≡_, refl, ap, ap₂, sym, subst, _∙_}
 use mathlib.Core.Bool.{Bool, true, false, cond}
 use mathlib.Core.Logic.{⊎-elim}
 use mathlib.Core.List.{[], _∷_}
@@ -69,10 +69,8 @@ last-then WrongSum = refl
 
 -- one of the three others is not fit
 pub not-fit : (j : Judged) → OneOf (1 ∷ 2 ∷ 3 ∷ []) (tagOf the-type j) → j ≡ Fit → ⊥
-not-fit Fit h e = ⊎-elim (λ k. omega arith) (⊎-elim (λ k. omega arith) (λ k. omega arith)) h
-not-fit RowBeyond h e = let z : _≡_ {A = ℕ} 0 1 = cc in omega arith
-not-fit NegativeWeight h e = let z : _≡_ {A = ℕ} 0 1 = cc in omega arith
-not-fit WrongSum h e = let z : _≡_ {A = ℕ} 0 1 = cc in omega arith
+not-fit j h e =
+    ⊎-elim (λ k. omega arith) (⊎-elim (λ k. omega arith) (λ k. omega arith)) (subst (λ j. OneOf (1 ∷ 2 ∷ 3 ∷ []) (tagOf the-type j)) e h)
 
 -- ---- the sum
 

@@ -12,14 +12,18 @@ use Rattle.rules.specs.Reading.{read, check, tableAfter}
 use Rattle.rules.specs.Looking.{firstHalf, secondHalf, look}
 use Rattle.rules.specs.Picturing.{picture, outputAfter}
 use Rattle.rules.specs.Writing.{write, bytesAfter}
-use Rattle.rules.specs.Answers.{refusalNumber, readNumber, readLine, readDescription, lookNumber, lookCodes, lookRows, lookWeights, firstNumber, firstRows, firstWeights, secondNumber, secondCodes, pictureNumber, writeNumber, writtenLength}
-use Rattle.rules.specs.Promises.{Reads, Checks, Looks, FindsRows, GivesCodes, Pictures, Writes}
+use Rattle.rules.specs.Inverting.{inverse}
+use Rattle.rules.specs.Answers.{refusalNumber, readNumber, readLine, readDescription, lookNumber, lookCodes, lookRows, lookWeights, firstNumber, firstRows, firstWeights, secondNumber, secondCodes, pictureNumber, writeNumber, writtenLength, inverseNumber, inverseCode, inverseCount}
+use Rattle.rules.specs.Promises.{Reads, Checks, Looks, FindsRows, GivesCodes, Pictures, Writes, Inverts}
 use Rattle.rules.specs.Boundary.{pixelIn, sharesIn}
+use Rattle.rules.specs.declared.Aim.{Aim}
 use Rattle.rules.specs.declared.Bits.{Bits}
 use Rattle.rules.specs.declared.Codes.{Codes}
 use Rattle.rules.specs.declared.Description.{Description}
 use Rattle.rules.specs.declared.FirstHalf.{FirstHalf}
 use Rattle.rules.specs.declared.FirstHalf.the-variants as F
+use Rattle.rules.specs.declared.Inverse.{Inverse}
+use Rattle.rules.specs.declared.Inverse.the-variants as I
 use Rattle.rules.specs.declared.Look.{Look}
 use Rattle.rules.specs.declared.Look.the-variants as L
 use Rattle.rules.specs.declared.Picture.{Picture}
@@ -27,7 +31,7 @@ use Rattle.rules.specs.declared.Picture.the-variants as P
 use Rattle.rules.specs.declared.Read.{Read}
 use Rattle.rules.specs.declared.Read.the-variants as R
 use Rattle.rules.specs.declared.Refusal.{Refusal}
-use Rattle.rules.specs.declared.Refusal.the-variants.{LineTooLong, ByteNotPermitted, NeitherDataNorKeyword, KeywordAfterData, KeywordRepeated, ParametersWrong, SizeOutOfRange, DomainNumberWrong, NoSize, LowerNotBelowUpper, DomainTooWide, DomainsDiffer, TooLittleRoom, TooManyRows, NotThreeNumbers, SampleBeyond, SampleTooFine, TooFewRows, HalfADomain, DepthUnknown, PictureNotPixels, OutputTooShort, CodeTooGreat, CouldNotBeRead, RowsOrWeightsWrong, TitleNotPlain, InputTooLong}
+use Rattle.rules.specs.declared.Refusal.the-variants.{LineTooLong, ByteNotPermitted, NeitherDataNorKeyword, KeywordAfterData, KeywordRepeated, ParametersWrong, SizeOutOfRange, DomainNumberWrong, NoSize, LowerNotBelowUpper, DomainTooWide, DomainsDiffer, TooLittleRoom, TooManyRows, NotThreeNumbers, SampleBeyond, SampleTooFine, TooFewRows, HalfADomain, DepthUnknown, PictureNotPixels, OutputTooShort, CodeTooGreat, CouldNotBeRead, RowsOrWeightsWrong, TitleNotPlain, NoneWithinTolerance, InputTooLong}
 use Rattle.rules.specs.declared.SecondHalf.{SecondHalf}
 use Rattle.rules.specs.declared.SecondHalf.the-variants as S
 use Rattle.rules.specs.declared.Shares.{Shares}
@@ -68,7 +72,7 @@ numbered =
     ∷ none
     ∷ some RowsOrWeightsWrong
     ∷ some TitleNotPlain
-    ∷ none
+    ∷ some NoneWithinTolerance
     ∷ none
     ∷ some InputTooLong
     ∷ []
@@ -104,6 +108,7 @@ refusal-of-number CodeTooGreat = refl
 refusal-of-number CouldNotBeRead = refl
 refusal-of-number RowsOrWeightsWrong = refl
 refusal-of-number TitleNotPlain = refl
+refusal-of-number NoneWithinTolerance = refl
 refusal-of-number InputTooLong = refl
 
 -- no refusal has the number of acceptance
@@ -214,6 +219,26 @@ module _ {d : Description} {table : List ℤ} {title out : List ℕ} where
   pub is-writes : {r : Write} {out′ : List ℕ} → r ≡ write d table title (length out)
       → out′ ≡ bytesAfter d table title out (write d table title (length out)) → Writes d table title out r out′
   is-writes e m = record { number = ap writeNumber e; length-so = ap writtenLength e; memory = m }
+
+-- ---- the inverse
+
+abbrev inverseFrom : Option Refusal → ℕ → ℕ → Inverse
+inverseFrom none code count = I.Accepted code count
+inverseFrom (some r) code count = I.Refused r count
+
+inverse-again : (r : Inverse) → inverseFrom (refusalOf (inverseNumber r)) (inverseCode r) (inverseCount r) ≡ r
+inverse-again (I.Accepted code count) = refl
+inverse-again (I.Refused r count) = rw (refusal-of-number r)
+
+module _ {d : Description} {table : List ℤ} {bits : Bits} {aim : Aim} where
+  pub inverts-is : {r : Inverse} → Inverts d table bits aim r → r ≡ inverse d table bits aim
+  inverts-is {r} p =
+      let again : inverseFrom (refusalOf (inverseNumber r)) (inverseCode r) (inverseCount r) ≡ _ =
+      λ i. inverseFrom (refusalOf (p .number i)) (p .code i) (p .count i) in
+      sym (inverse-again r) ∙ again ∙ inverse-again (inverse d table bits aim)
+
+  pub is-inverts : {r : Inverse} → r ≡ inverse d table bits aim → Inverts d table bits aim r
+  is-inverts e = record { number = ap inverseNumber e; code = ap inverseCode e; count = ap inverseCount e }
 
 -- ---- reading
 

@@ -14,8 +14,9 @@ pub mod Reading
 pub mod Looking
 -- a picture by its checks and its pixels
 pub mod Picturing
--- a written file: its lines and their lengths
+-- a written file: its lines and their lengths; the inverse by its tries and its checks, and that an accepted one is right
 pub mod Writing
+pub mod Inverting
 -- answers put together again from the paper's numbers and values
 pub mod Answers
 -- what crosses the C boundary fits the numbers that it crosses in

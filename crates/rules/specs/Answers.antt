@@ -8,6 +8,8 @@ use Rattle.rules.specs.declared.Codes.{Codes}
 use Rattle.rules.specs.declared.Description.{Description}
 use Rattle.rules.specs.declared.FirstHalf.{FirstHalf}
 use Rattle.rules.specs.declared.FirstHalf.the-variants as F
+use Rattle.rules.specs.declared.Inverse.{Inverse}
+use Rattle.rules.specs.declared.Inverse.the-variants as I
 use Rattle.rules.specs.declared.Look.{Look}
 use Rattle.rules.specs.declared.Look.the-variants as L
 use Rattle.rules.specs.declared.Picture.{Picture}
@@ -15,7 +17,7 @@ use Rattle.rules.specs.declared.Picture.the-variants as P
 use Rattle.rules.specs.declared.Read.{Read}
 use Rattle.rules.specs.declared.Read.the-variants as R
 use Rattle.rules.specs.declared.Refusal.{Refusal}
-use Rattle.rules.specs.declared.Refusal.the-variants.{LineTooLong, ByteNotPermitted, NeitherDataNorKeyword, KeywordAfterData, KeywordRepeated, ParametersWrong, SizeOutOfRange, DomainNumberWrong, NoSize, LowerNotBelowUpper, DomainTooWide, DomainsDiffer, TooLittleRoom, TooManyRows, NotThreeNumbers, SampleBeyond, SampleTooFine, TooFewRows, HalfADomain, DepthUnknown, PictureNotPixels, OutputTooShort, CodeTooGreat, CouldNotBeRead, RowsOrWeightsWrong, TitleNotPlain, InputTooLong}
+use Rattle.rules.specs.declared.Refusal.the-variants.{LineTooLong, ByteNotPermitted, NeitherDataNorKeyword, KeywordAfterData, KeywordRepeated, ParametersWrong, SizeOutOfRange, DomainNumberWrong, NoSize, LowerNotBelowUpper, DomainTooWide, DomainsDiffer, TooLittleRoom, TooManyRows, NotThreeNumbers, SampleBeyond, SampleTooFine, TooFewRows, HalfADomain, DepthUnknown, PictureNotPixels, OutputTooShort, CodeTooGreat, CouldNotBeRead, RowsOrWeightsWrong, TitleNotPlain, NoneWithinTolerance, InputTooLong}
 use Rattle.rules.specs.declared.SecondHalf.{SecondHalf}
 use Rattle.rules.specs.declared.SecondHalf.the-variants as S
 use Rattle.rules.specs.declared.Share.{Share}
@@ -50,6 +52,7 @@ refusalNumber CodeTooGreat = 23
 refusalNumber CouldNotBeRead = 24
 refusalNumber RowsOrWeightsWrong = 26
 refusalNumber TitleNotPlain = 27
+refusalNumber NoneWithinTolerance = 28
 refusalNumber InputTooLong = 30
 
 -- ---- reading: number, line, description; and, of a file that is judged with no table, the places that one needs
@@ -145,3 +148,17 @@ writeNumber (W.Refused r) = refusalNumber r
 abbrev pub writtenLength : Write → ℕ
 writtenLength (W.Accepted n) = n
 writtenLength (W.Refused r) = 0
+
+-- ---- the inverse: number, raw code, and the count of codes tried; 28 gives the count with code 0, and the refusals before it give zeros
+
+abbrev pub inverseNumber : Inverse → ℕ
+inverseNumber (I.Accepted code count) = 0
+inverseNumber (I.Refused r count) = refusalNumber r
+
+abbrev pub inverseCode : Inverse → ℕ
+inverseCode (I.Accepted code count) = code
+inverseCode (I.Refused r count) = 0
+
+abbrev pub inverseCount : Inverse → ℕ
+inverseCount (I.Accepted code count) = count
+inverseCount (I.Refused r count) = count

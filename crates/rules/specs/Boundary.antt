@@ -12,13 +12,19 @@ use Rattle.rules.specs.Reading.{read, check, tableAfter}
 use Rattle.rules.specs.Looking.{firstHalf, secondHalf, look}
 use Rattle.rules.specs.Picturing.{pixelOf, picture, outputAfter}
 use Rattle.rules.specs.Writing.{write, bytesAfter}
-use Rattle.rules.specs.Answers.{readNumber, readLine, readDescription, placesNeeded, lookNumber, lookCodes, lookRows, lookWeights, firstNumber, firstRows, firstWeights, secondNumber, secondCodes, pictureNumber, writeNumber, writtenLength}
+use Rattle.rules.specs.Inverting.{inverse}
+use Rattle.rules.specs.Answers.{readNumber, readLine, readDescription, placesNeeded, lookNumber, lookCodes, lookRows, lookWeights, firstNumber, firstRows, firstWeights, secondNumber, secondCodes, pictureNumber, writeNumber, writtenLength, inverseNumber, inverseCode, inverseCount}
+use Rattle.rules.specs.declared.Aim.{Aim}
 use Rattle.rules.specs.declared.Bits.{Bits}
 use Rattle.rules.specs.declared.Codes.{Codes}
+use Rattle.rules.specs.declared.Colour.{Colour}
+use Rattle.rules.specs.declared.Colour.the-variants.{Red, Green, Blue}
 use Rattle.rules.specs.declared.Description.{Description}
 use Rattle.rules.specs.declared.Domain.{Domain}
 use Rattle.rules.specs.declared.FirstHalf.{FirstHalf}
 use Rattle.rules.specs.declared.FirstHalf.the-variants as F
+use Rattle.rules.specs.declared.Inverse.{Inverse}
+use Rattle.rules.specs.declared.Inverse.the-variants as I
 use Rattle.rules.specs.declared.Kind.{Kind}
 use Rattle.rules.specs.declared.Kind.the-variants.{OneD, ThreeD}
 use Rattle.rules.specs.declared.Look.{Look}
@@ -119,6 +125,14 @@ sharesIn rows weights = record {
   sixth = shareIn rows weights 5;
 }
 
+-- 0 for red, 1 for green, 2 for blue; anything else is no colour
+abbrev pub colourIn : ℕ → Option Colour
+colourIn number =
+    cond (eqb number 0) (some Red)
+    (cond (eqb number 1) (some Green)
+    (cond (eqb number 2) (some Blue)
+    none))
+
 -- ---- what the numbers that are written can hold: 63 bits for N and a title's place and length, 32 for a row
 
 pub record Crossable (d : Description) : Type 0 where
@@ -163,6 +177,18 @@ writeIn eleven table title places = called (W.Refused CouldNotBeRead) (λ d. wri
 abbrev pub bytesIn : List ℤ → List ℤ → List ℕ → List ℕ → List ℕ
 bytesIn eleven table title out = called out (λ d. bytesAfter d table title out (write d table title (length out))) eleven
 
+abbrev pub aimAt : Colour → ℕ → ℕ → Aim
+aimAt c wanted tolerance = record { colour = c; wanted = wanted; tolerance = tolerance }
+
+-- where there is no colour the answer is that of 24 too
+abbrev pub inverseFor : Description → List ℤ → Bits → ℕ → ℕ → Option Colour → Inverse
+inverseFor d table bits wanted tolerance none = I.Refused CouldNotBeRead 0
+inverseFor d table bits wanted tolerance (some c) = inverse d table bits (aimAt c wanted tolerance)
+
+abbrev pub inverseIn : List ℤ → List ℤ → Bits → ℕ → ℕ → ℕ → Inverse
+inverseIn eleven table bits colour wanted tolerance =
+    called (I.Refused CouldNotBeRead 0) (λ d. inverseFor d table bits wanted tolerance (colourIn colour)) eleven
+
 -- ---- the promises: the number that is returned, and everything that is lent, afterwards
 
 pub record ReadsC (file : List ℕ) (table : List ℤ) (number : ℕ) (table′ eleven′ : List ℤ) (line′ : ℕ) : Type 0 where
@@ -200,3 +226,8 @@ pub record WritesC (eleven table : List ℤ) (title out : List ℕ) (number : �
   pub number-so : number ≡ writeNumber (writeIn eleven table title (length out))
   pub length-so : length′ ≡ writtenLength (writeIn eleven table title (length out))
   pub memory : out′ ≡ bytesIn eleven table title out
+
+pub record InvertsC (eleven table : List ℤ) (bits : Bits) (colour wanted tolerance : ℕ) (number code′ count′ : ℕ) : Type 0 where
+  pub number-so : number ≡ inverseNumber (inverseIn eleven table bits colour wanted tolerance)
+  pub code-so : code′ ≡ inverseCode (inverseIn eleven table bits colour wanted tolerance)
+  pub count-so : count′ ≡ inverseCount (inverseIn eleven table bits colour wanted tolerance)

@@ -1,5 +1,5 @@
 -- Demands 2 and 3: where an accepted file's numbers and title stand, and what is asked of an accepted look and an accepted picture, colour by colour;
--- and, of document 02, of rows and weights that anybody wrote.
+-- and, of document 02, of rows and weights that anybody wrote, and of the raw code of a wanted one.
 use Prim.Native.Nat.{ℕ, _+_, _*_, _%_, _≤_, _<_}
 use mathlib.Core.Path.{_≡_}
 use mathlib.Core.Logic.{_⊎_}
@@ -16,10 +16,12 @@ use Rattle.rules.specs.Reading.Numerals.{Exact}
 use Rattle.rules.specs.Reading.Grammar.{Keeps, TitleLine}
 use Rattle.rules.specs.Reading.Contents.{formOf}
 use Rattle.rules.specs.Looking.Interpolation.{Order, denOf, positionOf, pairBy, pathBy, sharesFor, denominator, weighed, total, rowCode}
-use Rattle.rules.specs.Looking.{used}
+use Rattle.rules.specs.Looking.{used, lineCode}
 use Rattle.rules.specs.Looking.Judging.{sumOf}
 use Rattle.rules.specs.Picturing.{pixelOf}
+use Rattle.rules.specs.Inverting.{off}
 use Rattle.rules.specs.Looking.Readings.{Reading, Descends}
+use Rattle.rules.specs.declared.Aim.{Aim}
 use Rattle.rules.specs.declared.Form.{Form}
 use Rattle.rules.specs.declared.Form.the-variants.{Idle, Keyed, Data, Neither}
 use Rattle.rules.specs.declared.Codes.{Codes}
@@ -181,3 +183,34 @@ CodesRight d table depths shares codes c =
     (λ ss. ss ≡ used (d .kind) c shares)
     (used (d .kind) c shares)
     (codeIn codes c)
+
+-- ---- document 02, Req 04: a raw code that is answered for a wanted one, and the count of codes tried
+
+-- of the raw codes up to m, with what each is corrected to: none comes nearer to the wanted code than this one, and none lower comes as near
+pub record NearestCode (corrected : ℕ → ℕ) (m wanted code : ℕ) : Type 0 where
+  pub inside : code ≤ m
+  pub none-nearer : (k : ℕ) → k ≤ m → off corrected wanted code ≤ off corrected wanted k
+  pub none-lower : (k : ℕ) → k < code → off corrected wanted code < off corrected wanted k
+
+-- the first of them that is corrected to exactly the wanted code
+pub record FirstHit (corrected : ℕ → ℕ) (m wanted k : ℕ) : Type 0 where
+  pub inside : k ≤ m
+  pub exact : corrected k ≡ wanted
+  pub first : (j : ℕ) → j < k → corrected j ≡ wanted → ⊥
+
+-- codes are tried up to the first exact hit, which is then the one answered, and without a hit all of them are
+pub record Counted (corrected : ℕ → ℕ) (m wanted code count : ℕ) : Type 0 where
+  pub up-to-hit : (k : ℕ) → FirstHit corrected m wanted k → (code ≡ k) × (count ≡ k + 1)
+  pub whole-range : ((k : ℕ) → k ≤ m → corrected k ≡ wanted → ⊥) → count ≡ m + 1
+
+-- some raw code comes within the tolerance
+pub record Reached (corrected : ℕ → ℕ) (m wanted tolerance : ℕ) : Type 0 where
+  pub code : ℕ
+  pub inside : code ≤ m
+  pub within : off corrected wanted code ≤ tolerance
+
+-- an accepted inverse
+pub record InverseRight (d : Description) (table : List ℤ) (depths : Depths) (aim : Aim) (code count : ℕ) : Type 0 where
+  pub nearest : NearestCode (lineCode d table depths (aim .colour)) (rawM depths) (aim .wanted) code
+  pub counted : Counted (lineCode d table depths (aim .colour)) (rawM depths) (aim .wanted) code count
+  pub within : off (lineCode d table depths (aim .colour)) (aim .wanted) code ≤ aim .tolerance

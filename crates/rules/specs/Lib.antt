@@ -11,12 +11,13 @@ pub mod Reading
 -- interpolation; look, by its two halves; picture
 pub mod Looking
 pub mod Picturing
--- a table as the bytes of a file
+-- a table as the bytes of a file; the raw code of a wanted corrected one
 pub mod Writing
+pub mod Inverting
 -- the paper's number and values of each answer, and what the calls promise
 pub mod Answers
 pub mod Promises
 pub mod Reporting
 pub mod Boundary
--- demands 2 and 3: where an accepted file's numbers stand, and what is asked of an accepted look and picture, and of rows and weights that anybody wrote
+-- demands 2 and 3: where an accepted file's numbers stand, and what is asked of an accepted look and picture, of rows and weights that anybody wrote, and of an inverse
 pub mod Demands

@@ -1,4 +1,4 @@
--- Document 01, "What the signature covers": the promises of reading, look, picture and, of document 02, writing and the halves of a look, over input, answer and lent memory; and that of check, a call of ours.
+-- Document 01, "What the signature covers": the promises of reading, look, picture and, of document 02, writing, the halves of a look and the inverse, over input, answer and lent memory; and that of check, a call of ours.
 use Prim.Native.Nat.{ℕ}
 use mathlib.Core.Path.{_≡_}
 use mathlib.Core.List.{List}
@@ -8,11 +8,14 @@ use Rattle.rules.specs.Reading.{read, check, tableAfter}
 use Rattle.rules.specs.Looking.{firstHalf, secondHalf, look}
 use Rattle.rules.specs.Picturing.{picture, outputAfter}
 use Rattle.rules.specs.Writing.{write, bytesAfter}
-use Rattle.rules.specs.Answers.{readNumber, readLine, readDescription, lookNumber, lookCodes, lookRows, lookWeights, firstNumber, firstRows, firstWeights, secondNumber, secondCodes, pictureNumber, writeNumber, writtenLength}
+use Rattle.rules.specs.Inverting.{inverse}
+use Rattle.rules.specs.Answers.{readNumber, readLine, readDescription, lookNumber, lookCodes, lookRows, lookWeights, firstNumber, firstRows, firstWeights, secondNumber, secondCodes, pictureNumber, writeNumber, writtenLength, inverseNumber, inverseCode, inverseCount}
+use Rattle.rules.specs.declared.Aim.{Aim}
 use Rattle.rules.specs.declared.Bits.{Bits}
 use Rattle.rules.specs.declared.Codes.{Codes}
 use Rattle.rules.specs.declared.Description.{Description}
 use Rattle.rules.specs.declared.FirstHalf.{FirstHalf}
+use Rattle.rules.specs.declared.Inverse.{Inverse}
 use Rattle.rules.specs.declared.Look.{Look}
 use Rattle.rules.specs.declared.Picture.{Picture}
 use Rattle.rules.specs.declared.Read.{Read}
@@ -61,3 +64,9 @@ pub record Writes (d : Description) (table : List ℤ) (title out : List ℕ) (r
   pub number : writeNumber r ≡ writeNumber (write d table title (length out))
   pub length-so : writtenLength r ≡ writtenLength (write d table title (length out))
   pub memory : out′ ≡ bytesAfter d table title out (write d table title (length out))
+
+-- looking for the raw code of a wanted one, at depths of so many bits, answers r
+pub record Inverts (d : Description) (table : List ℤ) (bits : Bits) (aim : Aim) (r : Inverse) : Type 0 where
+  pub number : inverseNumber r ≡ inverseNumber (inverse d table bits aim)
+  pub code : inverseCode r ≡ inverseCode (inverse d table bits aim)
+  pub count : inverseCount r ≡ inverseCount (inverse d table bits aim)

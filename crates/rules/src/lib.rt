@@ -298,6 +298,13 @@ pub enum Judged {
     WrongSum,
 }
 
+// What an inverse is to come to: in one colour a wanted corrected code, within so many codes.
+pub struct Aim {
+    pub colour: Colour,
+    pub wanted: u16,
+    pub tolerance: u32,
+}
+
 // ---- answers
 
 // Why a call refuses, in the order of the papers' numbers.
@@ -328,6 +335,7 @@ pub enum Refusal {
     CouldNotBeRead,
     RowsOrWeightsWrong,
     TitleNotPlain,
+    NoneWithinTolerance,
     InputTooLong,
 }
 
@@ -363,6 +371,7 @@ impl Refusal {
             Refusal::CouldNotBeRead => 24,
             Refusal::RowsOrWeightsWrong => 26,
             Refusal::TitleNotPlain => 27,
+            Refusal::NoneWithinTolerance => 28,
             Refusal::InputTooLong => 30,
         }
     }
@@ -402,4 +411,11 @@ pub enum Picture {
 pub enum Write {
     Accepted(usize),
     Refused(Refusal),
+}
+
+// What the inverse answers: a raw code, and how many codes were tried. That no code comes within the tolerance is known once they all are, and is said with
+// that count; the refusals before it have tried none.
+pub enum Inverse {
+    Accepted { code: u16, count: u64 },
+    Refused { reason: Refusal, count: u64 },
 }

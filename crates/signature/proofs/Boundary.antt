@@ -9,11 +9,13 @@ pub mod Looks
 pub mod Halves
 pub mod Pictures
 pub mod Writes
+pub mod Inverts
 pub mod Together
 pub mod Checks
--- what plays no part in writing, and in the halves of a look
+-- what plays no part in writing, in the halves of a look, and in the inverse
 pub mod NoPart
 pub mod HalvesNoPart
+pub mod InvertsNoPart
 -- what the two depths decide
 pub mod Depths
 -- with one depth they are document 01's
@@ -27,3 +29,4 @@ pub mod WrongLooks
 pub mod WrongHalves
 pub mod WrongPictures
 pub mod WrongWrites
+pub mod WrongInverts

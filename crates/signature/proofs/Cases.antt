@@ -26,10 +26,11 @@ use Rattle.rules.specs.Looking.Interpolation.{offset, position, index, fraction
 use Rattle.rules.specs.Looking.Judging.{shareJudged, eachJudged, sumJudged}
 use Rattle.rules.specs.Looking.{within, shown, rowsWith, firstHalf, judgedAll, secondHalf, lookAt, look}
 use Rattle.rules.specs.Picturing.{eachPixel, pictureWith, picture, outputAfter}
+use Rattle.rules.specs.Inverting.{tryNext, tryOn, search, inverseAt, inverse}
 use Rattle.rules.specs.Answers.{refusalNumber, readNumber, readLine}
 use Rattle.rules.proofs.Tests.{and-both}
 use Rattle.rules.proofs.Reading.Wordings.{same-eq}
-use Rattle.signature.specs.Cases.{Outcome, Case, outcome, marked, numbered, halves, mixed, points, twoDepths, written, twoHalves, AllMet, ReadA3}
+use Rattle.signature.specs.Cases.{Outcome, Case, outcome, marked, numbered, halves, mixed, points, twoDepths, written, twoHalves, inverses, AllMet, ReadA3}
 
 -- ---- a test that antt computes over a whole table, and what it tells
 
@@ -121,8 +122,12 @@ unfoldable writes-opened : ℕ
 unfolding decimalIn decimal sign placesOf afterPoint decimalsOf parted titleText sizeText boundsText rowText rowsText headText fileText titleFits write bytesAfter
 writes-opened = 0
 
+unfoldable inverses-opened : ℕ
+unfolding tryNext tryOn search inverseAt inverse
+inverses-opened = 0
+
 unfoldable pub opened : ℕ
-unfolding words-opened numbers-opened contents-opened lines-opened tables-opened looks-opened halves-opened writes-opened eachPixel pictureWith picture outputAfter refusalNumber
+unfolding words-opened numbers-opened contents-opened lines-opened tables-opened looks-opened halves-opened writes-opened inverses-opened eachPixel pictureWith picture outputAfter refusalNumber
 opened = 0
 
 marked-pass : test marked ≡ true
@@ -157,6 +162,10 @@ two-halves-pass : test twoHalves ≡ true
 unfolding opened
 two-halves-pass = refl
 
+inverses-pass : test inverses ≡ true
+unfolding opened
+inverses-pass = refl
+
 -- the cases of document 01 that are marked P
 pub marked-met : AllMet marked
 marked-met = tested marked marked-pass
@@ -188,6 +197,10 @@ written-met = tested written written-pass
 -- document 02's two halves of a look
 pub two-halves-met : AllMet twoHalves
 two-halves-met = tested twoHalves two-halves-pass
+
+-- document 02's inverse on one colour
+pub inverses-met : AllMet inverses
+inverses-met = tested inverses inverses-pass
 
 -- 30, on line 0
 pub report-30 : (input : List ℕ) → reportBytes < length input → (readNumber (report input) ≡ 30) × (readLine (report input) ≡ 0)

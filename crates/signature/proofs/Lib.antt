@@ -6,11 +6,12 @@ pub mod Untitled
 -- laws of tests that several of them use; what stands in a lent table past its rows
 pub mod Either
 pub mod LaterPlaces
--- the demands, of reading, look, picture and writing, and the wrong programs that their promises rule out
+-- the demands, of reading, look, picture, writing and the inverse, and the wrong programs that their promises rule out
 pub mod Reading
 pub mod Looking
 pub mod Picturing
 pub mod Writing
+pub mod Inverting
 pub mod Demand3
 -- the demands again, of the calls that loggers link
 pub mod Boundary

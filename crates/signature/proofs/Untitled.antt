@@ -1,17 +1,19 @@
--- The title's fields change no answer of look, its halves and picture: none looks further than kind, N and the three domains.
+-- The title's fields change no answer of look, its halves, picture and the inverse: none looks further than kind, N and the three domains.
 use Prim.Native.Nat.{ℕ, _*_}
 use mathlib.Core.Path.{_≡_, refl, ap, ap₂}
 use mathlib.Core.Bool.{cond}
 use mathlib.Core.List.{List, _++_}
 use lib.IntN.{ℤ}
 use lib.ListN.{length, drop}
-use Rattle.rules.specs.Units.{rawM, depthOf, depthsOf, codeIn}
+use Rattle.rules.specs.Units.{rawM, correctedM, depthOf, depthsOf, codeIn}
 use Rattle.rules.specs.Descriptions.{domain, width, oneDomain, agree, commonSpan, spanIn, roomy, couldBeRead}
-use Rattle.rules.specs.Looking.Interpolation.{den, index, fraction, brought, denOf}
-use Rattle.rules.specs.Looking.{rowsAt, firstHalf, secondHalf, lookAt, look}
+use Rattle.rules.specs.Looking.Interpolation.{den, index, fraction, brought, pairBy, denOf, codeBy}
+use Rattle.rules.specs.Looking.{lineCode, rowsAt, firstHalf, secondHalf, lookAt, look}
+use Rattle.rules.specs.Inverting.{inverse}
 use Rattle.rules.specs.Answers.{codesIn}
 use Rattle.rules.specs.Demands.{pixelAt}
 use Rattle.rules.specs.Picturing.{corrected, picture, outputAfter}
+use Rattle.rules.specs.declared.Aim.{Aim}
 use Rattle.rules.specs.declared.Bits.{Bits}
 use Rattle.rules.specs.declared.DepthFound.{DepthFound}
 use Rattle.rules.specs.declared.DepthFound.the-variants.{Known, Unknown}
@@ -20,6 +22,7 @@ use Rattle.rules.specs.declared.DepthsFound.the-variants.{Both, NotBoth}
 use Rattle.rules.specs.declared.Codes.{Codes}
 use Rattle.rules.specs.declared.Colour.{Colour}
 use Rattle.rules.specs.declared.Colour.the-variants.{Red, Green, Blue}
+use Rattle.rules.specs.declared.Depths.{Depths}
 use Rattle.rules.specs.declared.Description.{Description}
 use Rattle.rules.specs.declared.FirstHalf.the-variants as F
 use Rattle.rules.specs.declared.Kind.{Kind}
@@ -34,6 +37,7 @@ use Rattle.rules.specs.declared.Title.{Title}
 use Rattle.rules.proofs.Picturing.Checks.{each-same}
 use Rattle.signature.proofs.Looking.SamePlaces.{SamePlaces, same-look, same-rows}
 use Rattle.signature.proofs.Looking.SameShares.{same-given}
+use Rattle.signature.proofs.Inverting.SameLines.{same-lines}
 
 -- the same description with another title
 abbrev pub retitled : Description → Title → Description
@@ -118,3 +122,15 @@ module _ (d : Description) (t : Title) where
   unfolding outputAfter
   untitled-output table bits src dst P.Accepted = ap (λ x. x ++ drop (length src) dst) (same-corrected table bits src)
   untitled-output table bits src dst (P.Refused r) = refl
+
+  -- ---- the inverse
+
+  same-line : (table : List ℤ) (depths : Depths) (c : Colour) → lineCode e table depths c ≡ lineCode d table depths c
+  same-line table depths c i raw =
+      let m = rawM depths in
+      let dom = same-domain c i in
+      let common = same-dens m c i in
+      codeBy (correctedM depths) common table c (pairBy common (index m dom (d .n) raw) (brought (den m dom) common (fraction m dom (d .n) raw)))
+
+  pub untitled-inverse : (table : List ℤ) (bits : Bits) (aim : Aim) → inverse e table bits aim ≡ inverse d table bits aim
+  untitled-inverse table bits aim = same-lines e d table table bits aim refl (same-24 table) (λ line read depths. same-line table depths (aim .colour))

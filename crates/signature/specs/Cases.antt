@@ -12,12 +12,17 @@ use Rattle.rules.specs.Reading.{read, tableAfter}
 use Rattle.rules.specs.Looking.{firstHalf, secondHalf, look}
 use Rattle.rules.specs.Picturing.{picture, outputAfter}
 use Rattle.rules.specs.Writing.{write, bytesAfter}
-use Rattle.rules.specs.Answers.{readNumber, readLine, readDescription, lookNumber, lookCodes, lookRows, lookWeights, firstNumber, firstRows, firstWeights, secondNumber, secondCodes, pictureNumber, writeNumber, writtenLength}
-use Rattle.rules.specs.Boundary.{sharesIn}
+use Rattle.rules.specs.Inverting.{inverse}
+use Rattle.rules.specs.Answers.{readNumber, readLine, readDescription, lookNumber, lookCodes, lookRows, lookWeights, firstNumber, firstRows, firstWeights, secondNumber, secondCodes, pictureNumber, writeNumber, writtenLength, inverseNumber, inverseCode, inverseCount}
+use Rattle.rules.specs.Boundary.{sharesIn, aimAt}
+use Rattle.rules.specs.declared.Aim.{Aim}
 use Rattle.rules.specs.declared.Bits.{Bits}
 use Rattle.rules.specs.declared.Codes.{Codes}
+use Rattle.rules.specs.declared.Colour.{Colour}
+use Rattle.rules.specs.declared.Colour.the-variants.{Red, Green, Blue}
 use Rattle.rules.specs.declared.Description.{Description}
 use Rattle.rules.specs.declared.FirstHalf.{FirstHalf}
+use Rattle.rules.specs.declared.Inverse.{Inverse}
 use Rattle.rules.specs.declared.Kind.the-variants.{OneD}
 use Rattle.rules.specs.declared.Look.{Look}
 use Rattle.rules.specs.declared.Picture.{Picture}
@@ -42,6 +47,8 @@ pub data Question : Type 0 where
   finding : Description → List ℤ → ℕ → Codes → Question
   -- giving the codes of six rows and six weights
   giving : Description → List ℤ → Bits → List ℕ → List ℤ → Question
+  -- looking for the raw code of a wanted one
+  inverting : Description → List ℤ → Bits → Aim → Question
 
 -- in the paper's numbers; what a call does not give is empty
 pub record Outcome : Type 0 where
@@ -89,6 +96,9 @@ outcome (finding d table raw pixel) =
 outcome (giving d table bits rows weights) =
     let r : SecondHalf = secondHalf d table bits (sharesIn rows weights) in
     record { number = secondNumber r; line = 0; table = []; codes = secondCodes r; rows = []; weights = []; text = []; count = 0 }
+outcome (inverting d table bits aim) =
+    let r : Inverse = inverse d table bits aim in
+    record { number = inverseNumber r; line = 0; table = []; codes = inverseCode r ∷ []; rows = []; weights = []; text = []; count = inverseCount r }
 
 -- ---- cases, from the text of a file on
 
@@ -493,6 +503,80 @@ twoHalves =
     ∷ wrong corner cornerRows (pos 102_000 ∷ pos 204_000 ∷ negsuc 101_999 ∷ pos 51_000 ∷ pos 0 ∷ pos 0 ∷ [])
     ∷ wrong corner cornerRows (pos 51_000 ∷ pos 102_000 ∷ pos 51_000 ∷ pos 50_999 ∷ pos 1 ∷ pos 0 ∷ [])
     ∷ wrong corner cornerRows (pos 51_001 ∷ pos 102_000 ∷ pos 51_000 ∷ pos 51_000 ∷ pos 0 ∷ pos 0 ∷ [])
+    ∷ []
+
+-- ---- document 02, Req 04: the inverse on one colour of a 1D table
+
+-- a raw code is corrected to half of it in red, to itself in green, and to twice it in blue
+abbrev pub threeSlopes : String
+threeSlopes = "LUT_1D_SIZE 2\n0 0 0\n0.5 1 2\n"
+
+-- to what is left up to M
+abbrev pub falling : String
+falling = "LUT_1D_SIZE 2\n1 1 1\n0 0 0\n"
+
+-- to a fifth of M, whichever it is
+abbrev pub flat : String
+flat = "LUT_1D_SIZE 2\n0.2 0.2 0.2\n0.2 0.2 0.2\n"
+
+-- to 0 in the lower half of the raw codes
+abbrev pub flatThenSteep : String
+flatThenSteep = "LUT_1D_SIZE 3\n0 0 0\n0 0 0\n1 1 1\n"
+
+-- to twice it in the lower half, and down to 0 again in the upper
+abbrev pub peak : String
+peak = "LUT_1D_SIZE 3\n0 0 0\n1 1 1\n0 0 0\n"
+
+-- a raw code for a wanted one, within so many codes, and how many were tried
+abbrev pub inverted : String → Bits → Colour → ℕ → ℕ → ℕ → ℕ → Case
+inverted file bits c wanted tolerance code count = record {
+  asked = inverting (describedBy file) (tableFrom file) bits (aimAt c wanted tolerance);
+  expected = record { number = 0; line = 0; table = []; codes = code ∷ []; rows = []; weights = []; text = []; count = count };
+}
+
+-- a refusal gives code 0, and 28 the count of codes tried, the others 0
+abbrev pub notInverted : Description → List ℤ → Bits → Colour → ℕ → ℕ → ℕ → ℕ → Case
+notInverted d table bits c wanted tolerance number count = record {
+  asked = inverting d table bits (aimAt c wanted tolerance);
+  expected = record { number = number; line = 0; table = []; codes = 0 ∷ []; rows = []; weights = []; text = []; count = count };
+}
+
+-- 28, after all of 256 codes
+abbrev pub unreached : String → Bits → Colour → ℕ → ℕ → Case
+unreached file bits c wanted tolerance = notInverted (describedBy file) (tableFrom file) bits c wanted tolerance 28 256
+
+-- Green: code 0 is the first that is tried, so code 5 the sixth. Red: codes 0 to 4 give 0, 1, 1, 2, 2, so that 2 is hit at 3 and not again at 4, and that code 1
+-- comes within a tolerance of 1 changes nothing. Blue: 127 gives 254, and 128 the 255 that 256 is held to; 1 lies between the 0 and 2 of codes 0 and 1, equally
+-- near, and as nothing hits it 256 codes are tried. Red again: code 255 gives 128, the greatest there is, so 130 is reached within 2 and not within 1.
+-- Falling: code 5 gives 250. Flat: every code gives 51, so that the first is answered, with a hit or without one. Flat, then steep: codes 0 to 127 give 0; code 128
+-- stands a 255th of the way from the second row to the third and gives 1. A peak: code 2 gives 4, and so does code 253.
+-- From 8 to 10 bits code k gives 4·k and little more, so 6 lies between the 4 and 8 of codes 1 and 2, 2 from either. From 10 to 8 bits codes 0 to 2 give less than
+-- a half, and 3 gives 1. 23 goes by the corrected M, with any tolerance; either depth is tried before it, and before both that the table could be read and is 1D.
+abbrev pub inverses : List Case
+inverses =
+    inverted threeSlopes (sameBits 8) Green 0 0 0 1
+    ∷ inverted threeSlopes (sameBits 8) Green 5 0 5 6
+    ∷ inverted threeSlopes (sameBits 8) Red 2 0 3 4
+    ∷ inverted threeSlopes (sameBits 8) Red 2 1 3 4
+    ∷ inverted threeSlopes (sameBits 8) Blue 255 0 128 129
+    ∷ inverted threeSlopes (sameBits 8) Blue 1 1 0 256
+    ∷ unreached threeSlopes (sameBits 8) Blue 1 0
+    ∷ inverted threeSlopes (sameBits 8) Red 130 2 255 256
+    ∷ unreached threeSlopes (sameBits 8) Red 130 1
+    ∷ inverted falling (sameBits 8) Red 250 0 5 6
+    ∷ inverted flat (sameBits 8) Blue 51 0 0 1
+    ∷ inverted flat (sameBits 8) Blue 48 3 0 256
+    ∷ unreached flat (sameBits 8) Blue 54 2
+    ∷ inverted flatThenSteep (sameBits 8) Green 1 0 128 129
+    ∷ inverted peak (sameBits 8) Green 4 0 2 3
+    ∷ inverted threeSlopes (bitsOf 8 10) Green 6 2 1 256
+    ∷ unreached threeSlopes (bitsOf 8 10) Green 6 1
+    ∷ inverted threeSlopes (bitsOf 10 8) Green 1 0 3 4
+    ∷ notInverted (describedBy threeSlopes) (tableFrom threeSlopes) (bitsOf 10 8) Green 256 4_294_967_295 23 0
+    ∷ notInverted (describedBy threeSlopes) (tableFrom threeSlopes) (bitsOf 9 8) Green 256 0 20 0
+    ∷ notInverted (describedBy threeSlopes) (tableFrom threeSlopes) (bitsOf 8 9) Green 256 0 20 0
+    ∷ notInverted oneRow (tableFrom threeSlopes) (sameBits 9) Green 256 0 24 0
+    ∷ notInverted (describedBy corner) (tableFrom corner) (sameBits 8) Green 0 0 24 0
     ∷ []
 
 -- ---- what the report program prints

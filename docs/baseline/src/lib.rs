@@ -1,6 +1,7 @@
 //! Document 01's rules in plain Rust, written for speed in the straightforward way: what a
 //! proved program has to be measured against. It takes no part in any test.
 
+pub mod inverse;
 pub mod picture;
 pub mod reading;
 pub mod writing;

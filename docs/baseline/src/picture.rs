@@ -79,7 +79,7 @@ fn judge(
     Ok([raw, corrected])
 }
 
-fn greatest_code(bits: u32) -> Result<u16, Refused> {
+pub(crate) fn greatest_code(bits: u32) -> Result<u16, Refused> {
     match bits {
         8 => Ok(255),
         10 => Ok(1023),
@@ -91,7 +91,7 @@ fn greatest_code(bits: u32) -> Result<u16, Refused> {
 
 /// All that one colour's codes need, worked out once. Bounds are in thousandths, or in whole units
 /// where the domains are mixed.
-struct Axis {
+pub(crate) struct Axis {
     /// The lower bound times M.
     start: i64,
     /// The D of the colour's own domain.
@@ -110,7 +110,7 @@ struct Axis {
     one_code: u64,
 }
 
-fn axes(description: &Description, greatest: [u16; 2]) -> [Axis; 3] {
+pub(crate) fn axes(description: &Description, greatest: [u16; 2]) -> [Axis; 3] {
     let [raw, corrected] = greatest.map(u64::from);
     let divisor = common_divisor(raw, corrected);
     let mixed = description.is_mixed();
@@ -162,15 +162,26 @@ impl Axis {
         let scaled = if SCALED { self.times * sum } else { sum };
         ((scaled + self.one_code / 2) / self.one_code) as u16
     }
+
+    /// What one colour's code is corrected to in a 1D table.
+    #[inline]
+    pub(crate) fn corrected<const SCALED: bool>(
+        &self,
+        table: &[i64],
+        colour: usize,
+        code: u16,
+    ) -> u16 {
+        let (row, fraction) = self.place::<false>(code);
+        let (low, high) = (table[3 * row + colour], table[3 * row + 3 + colour]);
+        let sum = (self.den - fraction) as i64 * low + fraction as i64 * high;
+        self.code::<SCALED>(sum)
+    }
 }
 
 #[inline]
 fn linear<const SCALED: bool>(axes: &[Axis; 3], table: &[i64], pixel: &[u16], out: &mut [u16]) {
     for (colour, axis) in axes.iter().enumerate() {
-        let (row, fraction) = axis.place::<false>(pixel[colour]);
-        let (low, high) = (table[3 * row + colour], table[3 * row + 3 + colour]);
-        let sum = (axis.den - fraction) as i64 * low + fraction as i64 * high;
-        out[colour] = axis.code::<SCALED>(sum);
+        out[colour] = axis.corrected::<SCALED>(table, colour, pixel[colour]);
     }
 }
 

@@ -1,5 +1,6 @@
-//! The proved library's three calls that are measured.
+//! The proved library's four calls that are measured.
 
+use baseline::inverse::{Aim, Found};
 use baseline::picture::Bits;
 
 mod c {
@@ -22,6 +23,18 @@ mod c {
             src_len: usize,
             dst: *mut u16,
             dst_len: usize,
+        ) -> u32;
+        pub fn erythmoda_inverse(
+            description: *const i64,
+            table: *const i64,
+            table_len: usize,
+            raw_bits: u32,
+            corrected_bits: u32,
+            colour: u32,
+            wanted: u16,
+            tolerance: u32,
+            code: *mut u16,
+            count: *mut u64,
         ) -> u32;
         pub fn erythmoda_write(
             description: *const i64,
@@ -72,6 +85,27 @@ pub fn picture(
             dst.len(),
         )
     }
+}
+
+/// The raw code and the count, or none where the inverse is refused.
+pub fn inverse(description: &[i64; 11], table: &[i64], bits: Bits, aim: Aim) -> Option<Found> {
+    let (mut code, mut count) = (0, 0);
+    // SAFETY: each pointer is to as many places as are told.
+    let number = unsafe {
+        c::erythmoda_inverse(
+            description.as_ptr(),
+            table.as_ptr(),
+            table.len(),
+            bits.raw,
+            bits.corrected,
+            aim.colour as u32,
+            aim.wanted,
+            aim.tolerance,
+            &mut code,
+            &mut count,
+        )
+    };
+    (number == 0).then_some(Found { code, count })
 }
 
 /// Writes without a title; the length of the text, or none where it is refused.

@@ -1,17 +1,20 @@
-//! How fast the proved library corrects pictures, reads files and writes them, beside
-//! docs/baseline.
+//! How fast the proved library corrects pictures, searches for raw codes, reads files and writes
+//! them, beside docs/baseline.
 //! docs/baseline/README.md tells the method.
 
 mod library;
 
+use baseline::inverse::Aim;
 use baseline::picture::Bits;
 use baseline::{Description, Domains, Kind};
 use std::fmt::Write;
+use std::hint::black_box;
 use std::process::ExitCode;
 use std::time::Instant;
 
 const PIXELS: usize = 20_000;
 const PICTURE_ROUNDS: usize = 201;
+const INVERSE_ROUNDS: usize = 101;
 const FILE_ROUNDS: usize = 21;
 const READING_N: usize = 65;
 
@@ -38,6 +41,13 @@ fn main() -> ExitCode {
     for (kind, n, domains, depths) in shapes {
         for bits in depths {
             alike &= pictures(&Description { kind, n, domains }, *bits);
+        }
+    }
+    println!("\ninverses that try every raw code of 16 bits, medians of {INVERSE_ROUNDS} rounds");
+    println!("kind\tN\tbits\tours, ms\tbaseline, ms\tratio");
+    for n in [1024, 65_536] {
+        for bits in [EQUAL[1], Bits { raw: 16, corrected: 8 }] {
+            alike &= inverses(&Description { kind: Kind::OneD, n, domains: ONE }, bits);
         }
     }
     alike &= reading();
@@ -111,6 +121,27 @@ fn pictures(description: &Description, bits: Bits) -> bool {
     let (kind, n, bits) = (kind_shown(description), description.n, shown(bits));
     println!("{kind}\t{n}\t{bits}\t{our_time:.1}\t{plain_time:.1}\t{ratio:.2}");
     number == 0 && answer.is_ok() && ours == plain
+}
+
+/// One line of the table of inverses; whether the two found the same. The table's samples lie from
+/// 0 to a half and the greatest code is wanted, so that there is no exact hit before the last code.
+fn inverses(description: &Description, bits: Bits) -> bool {
+    let mut draws = Draws(4);
+    let eleven = eleven(description);
+    let table: Vec<i64> = (0..3 * description.rows()).map(|_| draws.sample() / 2).collect();
+    let wanted = ((1u32 << bits.corrected) - 1) as u16;
+    let aim = Aim { colour: 1, wanted, tolerance: u32::MAX };
+    let (mut ours, mut plain) = (None, None);
+    let (our_time, plain_time) = medians(
+        INVERSE_ROUNDS,
+        || ours = library::inverse(&eleven, &table, bits, aim),
+        || plain = baseline::inverse::inverse(description, &table, bits, black_box(aim)).ok(),
+    );
+    let (our_time, plain_time) = (our_time / 1e6, plain_time / 1e6);
+    let ratio = our_time / plain_time;
+    let (kind, n, bits) = (kind_shown(description), description.n, shown(bits));
+    println!("{kind}\t{n}\t{bits}\t{our_time:.3}\t{plain_time:.3}\t{ratio:.2}");
+    ours == plain && ours.is_some_and(|found| found.count == 65_536)
 }
 
 /// The description as the library takes it.

@@ -1,10 +1,11 @@
 //! Document 01, "Checked by hand": every case, marked P or not; the order of the checks that
-//! document 02 adds to; looks through its mixed domains, worked by hand; the files that it writes; and
-//! the halves of a look.
+//! document 02 adds to; looks through its mixed domains, worked by hand; the files that it writes;
+//! the halves of a look; and the inverse.
 
 use crate::cases::{CUBE, SAMPLE_A2, SAMPLE_A3, SAMPLE_A4, SMALL};
 use crate::decimal::{value, Value, TEN_MILLIONTHS, THOUSANDTHS};
 use crate::halves::{codes, rows, Codes, Rows};
+use crate::inverse::{inverse, Aim, Inverse};
 use crate::look::{look, Look};
 use crate::paper::{Bits, Description, BOUND_PLACES, REFUSED_DESCRIPTION, SAMPLE_PLACES};
 use crate::picture::picture;
@@ -861,4 +862,86 @@ fn order_of_checks_in_halves() {
     assert_eq!(second(&good, 8, 16, -1), 26);
     assert_eq!(second(&good, 8, 16, 255_000), 0);
     assert_eq!(second(&good, 16, 8, 255_000), 26);
+}
+
+/// Red rises from 0 to 1, green falls from 1 to 0, and blue rises to 0.5, stays and rises to 1.
+fn three_lines() -> (Description, Vec<i64>) {
+    let thirds = [0, 3_333_333, 6_666_667, 10_000_000];
+    let half = [0, 5_000_000, 5_000_000, 10_000_000];
+    let rows = [0, 1, 2, 3].map(|row| [thirds[row], thirds[3 - row], half[row]]);
+    ([1, 4, 0, 0, 0, 1000, 1000, 1000, 0, 0, 0], rows.concat())
+}
+
+/// What the inverse answers through those lines: number, code, count.
+fn inverted(bits: [u32; 2], colour: u32, wanted: u16, tolerance: u32) -> (u32, u16, u64) {
+    let (description, table) = three_lines();
+    let [raw, corrected] = bits;
+    let aim = Aim { colour, wanted, tolerance };
+    let Inverse { number, code, count } =
+        inverse(&description, &table, Bits { raw, corrected }, aim);
+    (number, code, count)
+}
+
+/// Document 02, Req 04: "the count of codes tried is part of the answer: the hit plus 1, or M plus 1".
+#[test]
+fn raw_codes_of_corrected_codes() {
+    for wanted in [0, 1, 51, 254, 255] {
+        let hit = (0, wanted, u64::from(wanted) + 1);
+        assert_eq!(inverted([8, 8], 0, wanted, 0), hit);
+        // a code within the tolerance does not end the search
+        assert_eq!(inverted([8, 8], 0, wanted, 255), hit);
+    }
+    assert_eq!(inverted([8, 8], 1, 51, 0), (0, 204, 205));
+    // 0.5 of 255 is 127 and a half, so 128, from code 85 on, and is not reached by 84
+    assert_eq!(inverted([8, 8], 2, 128, 0), (0, 85, 86));
+    // 0.5 of 84 / 85 of 255 is 126, so that 127 is not reached
+    assert_eq!(inverted([8, 8], 2, 127, 0), (28, 0, 256));
+    // 126 at 84 comes before 128 at 85
+    assert_eq!(inverted([8, 8], 2, 127, 1), (0, 84, 256));
+    assert_eq!(inverted([16, 16], 0, 65_535, 0), (0, 65_535, 65_536));
+}
+
+/// Document 02, Req 06: "the inverse's tries and count, use the raw M".
+#[test]
+fn raw_codes_at_two_depths() {
+    // 257 codes of 16 bits to one of 8
+    assert_eq!(inverted([8, 16], 0, 13_107, 0), (0, 51, 52));
+    assert_eq!(inverted([8, 16], 0, 13_108, 0), (28, 0, 256));
+    assert_eq!(inverted([8, 16], 0, 13_108, 1), (0, 51, 256));
+    assert_eq!(inverted([8, 16], 0, 65_534, 1), (0, 255, 256));
+    // of 10 bits the first codes are 0 and 4, and 2 is as far from either
+    assert_eq!(inverted([8, 10], 0, 2, 1), (28, 0, 256));
+    assert_eq!(inverted([8, 10], 0, 2, 2), (0, 0, 256));
+    // 254 and a half times 257 is 65406 and a half
+    assert_eq!(inverted([16, 8], 0, 255, 0), (0, 65_407, 65_408));
+    assert_eq!(inverted([16, 8], 1, 255, 0), (0, 0, 1));
+}
+
+/// "24, 20, 23 for the wanted code, then 28 [...]; 28 still gives the true count, with code 0, and the
+/// earlier ones give zeros. For a 3D table the answer is 24."
+#[test]
+fn order_of_checks_in_the_inverse() {
+    for colour in [3, 4, 256, u32::MAX] {
+        assert_eq!(inverted([8, 8], colour, 51, 0), (24, 0, 0));
+        assert_eq!(inverted([9, 9], colour, 256, 0), (24, 0, 0));
+    }
+    for bits in [[9, 9], [9, 8], [8, 9]] {
+        assert_eq!(inverted(bits, 0, 256, 0), (20, 0, 0));
+        assert_eq!(inverted(bits, 0, 0, u32::MAX), (20, 0, 0));
+    }
+    assert_eq!(inverted([8, 8], 0, 256, u32::MAX), (23, 0, 0));
+    assert_eq!(inverted([16, 8], 0, 256, u32::MAX), (23, 0, 0));
+    assert_eq!(inverted([8, 16], 0, 256, 0), (28, 0, 256));
+    let aim = Aim { colour: 0, wanted: 51, tolerance: u32::MAX };
+    let (good, bad, table) = cube_and_none();
+    for description in [good, bad] {
+        let refused = Inverse { number: 24, code: 0, count: 0 };
+        assert_eq!(inverse(&description, &table, Bits::same(8), aim), refused);
+        assert_eq!(inverse(&description, &table, Bits::same(9), aim), refused);
+    }
+    // a sample of another colour
+    let (description, mut table) = three_lines();
+    table[1] = 10_000_000_001;
+    assert_eq!(inverse(&description, &table, Bits::same(8), aim).number, 24);
+    assert_eq!(inverse(&description, &table[..11], Bits::same(8), aim).number, 24);
 }

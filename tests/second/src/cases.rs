@@ -213,8 +213,39 @@
 //! 510000 in green and 255 is 510000 of 765000 in blue, each in the first cell; 0.2, 0.4 and 1 are the
 //! values, and 51, 102 and 255 the codes. Of any rows: a fifth of 1 in red, all of 1 in green, two
 //! fifths of 1 in blue. GREATEST twice and 2 are 2 to the 64th.
+//!
+//! # The inverse
+//!
+//! Name, number, raw code, count of codes tried. SLOPES is a 1D table of two rows and domains from 0
+//! to 1: red rises from 0 to 1, green falls from 1 to 0, and blue is 0.5 in both.
+//!
+//! | name | table | bits | colour | wanted | tolerance |
+//! |---|---|---|---|---|---|
+//! | inverse-rising | SLOPES | 8 to 8 | 0 | 51 | 0 |
+//! | inverse-falling | SLOPES | 8 to 8 | 1 | 51 | 0 |
+//! | inverse-first | SLOPES | 8 to 8 | 0 | 0 | 0 |
+//! | inverse-last | SLOPES | 8 to 8 | 1 | 0 | 0 |
+//! | inverse-flat | SLOPES | 8 to 8 | 2 | 128 | 0 |
+//! | inverse-16-to-8 | SLOPES | 16 to 8 | 0 | 100 | 0 |
+//! | inverse-16-bits | SLOPES | 16 to 16 | 1 | 0 | 0 |
+//! | inverse-near | SLOPES | 8 to 16 | 0 | 1000 | 28 |
+//! | inverse-not-near | SLOPES | 8 to 16 | 0 | 1000 | 27 |
+//! | inverse-lowest-of-all | SLOPES | 8 to 8 | 2 | 127 | 1 |
+//! | inverse-out-of-reach | SLOPES | 16 to 8 | 2 | 0 | 127 |
+//! | inverse-any | SLOPES | 16 to 8 | 2 | 0 | 4294967295 |
+//! | inverse-cube | CUBE | 9 to 8 | 0 | 256 | 0 |
+//! | inverse-kind-2 | SLOPES, but kind 2 | 9 to 8 | 0 | 256 | 0 |
+//! | inverse-colour-3 | SLOPES | 9 to 8 | 3 | 256 | 0 |
+//! | inverse-9-to-8 | SLOPES | 9 to 8 | 0 | 256 | 0 |
+//! | inverse-8-to-9 | SLOPES | 8 to 9 | 0 | 256 | 0 |
+//! | inverse-code-256 | SLOPES | 16 to 8 | 2 | 256 | 0 |
+//!
+//! By hand: rising, each code is its own, and falling 51 is 255 - 204. 0.5 is 127.5 of 255, so its code
+//! is 128, of every raw code. At 16 bits a raw code c is c / 257 at 8, which comes to 99.5 or more from
+//! 25572 on. From 8 to 16 a raw code is 257 times itself: 1028 is 28 from 1000, and 771 is 229.
 
 use crate::halves::{codes, rows};
+use crate::inverse::{inverse, Aim};
 use crate::look::{look, Look};
 use crate::paper::{place, Bits, Description};
 use crate::picture::picture;
@@ -251,6 +282,7 @@ pub fn printed() -> String {
         .chain(write_lines())
         .chain(rows_lines())
         .chain(codes_lines())
+        .chain(inverse_lines())
         .map(|line| line + "\n")
         .collect()
 }
@@ -656,4 +688,52 @@ fn codes_line(
     let mut fields = vec![i64::from(given.number)];
     fields.extend(given.codes.map(i64::from));
     format!("{name}\t{}", list(&fields, "\t"))
+}
+
+// ---- the inverse
+
+const SLOPES: [i64; 6] = [0, 10_000_000, 5_000_000, 10_000_000, 0, 5_000_000];
+
+fn inverse_lines() -> [String; 18] {
+    let [red, green, blue] = [0, 1, 2];
+    let kind_2 = (kind_2().0, SLOPES.to_vec());
+    [
+        slope("inverse-rising", [8, 8], red, 51, 0),
+        slope("inverse-falling", [8, 8], green, 51, 0),
+        slope("inverse-first", [8, 8], red, 0, 0),
+        slope("inverse-last", [8, 8], green, 0, 0),
+        slope("inverse-flat", [8, 8], blue, 128, 0),
+        slope("inverse-16-to-8", [16, 8], red, 100, 0),
+        slope("inverse-16-bits", [16, 16], green, 0, 0),
+        slope("inverse-near", [8, 16], red, 1000, 28),
+        slope("inverse-not-near", [8, 16], red, 1000, 27),
+        slope("inverse-lowest-of-all", [8, 8], blue, 127, 1),
+        slope("inverse-out-of-reach", [16, 8], blue, 0, 127),
+        slope("inverse-any", [16, 8], blue, 0, u32::MAX),
+        inverse_line("inverse-cube", cube(), [9, 8], red, 256, 0),
+        inverse_line("inverse-kind-2", kind_2, [9, 8], red, 256, 0),
+        slope("inverse-colour-3", [9, 8], 3, 256, 0),
+        slope("inverse-9-to-8", [9, 8], red, 256, 0),
+        slope("inverse-8-to-9", [8, 9], red, 256, 0),
+        slope("inverse-code-256", [16, 8], blue, 256, 0),
+    ]
+}
+
+/// Of SLOPES.
+fn slope(name: &str, bits: [u32; 2], colour: u32, wanted: u16, tolerance: u32) -> String {
+    let line = [1, 2, 0, 0, 0, 1000, 1000, 1000, 0, 0, 0];
+    inverse_line(name, (line, SLOPES.to_vec()), bits, colour, wanted, tolerance)
+}
+
+fn inverse_line(
+    name: &str,
+    (description, table): Table,
+    [raw, corrected]: [u32; 2],
+    colour: u32,
+    wanted: u16,
+    tolerance: u32,
+) -> String {
+    let aim = Aim { colour, wanted, tolerance };
+    let found = inverse(&description, &table, Bits { raw, corrected }, aim);
+    format!("{name}\t{}\t{}\t{}", found.number, found.code, found.count)
 }

@@ -3,8 +3,9 @@
 //! Every buffer is lent from the middle of a larger one, and what stands around it is
 //! compared afterwards; so is what was lent for reading only.
 
-use crate::gen::{CodesCase, FileCase, LookCase, PictureCase, WriteCase};
+use crate::gen::{CodesCase, FileCase, InverseCase, LookCase, PictureCase, WriteCase};
 use crate::halves::{Codes, Rows};
+use crate::inverse::Inverse;
 use crate::look::Look;
 use crate::reading::Check;
 use crate::side::{byte_pattern, code_pattern, pattern};
@@ -67,6 +68,18 @@ extern "C" {
         src_len: usize,
         dst: *mut u16,
         dst_len: usize,
+    ) -> u32;
+    fn erythmoda_inverse(
+        description: *const i64,
+        table: *const i64,
+        table_len: usize,
+        raw_bits: u32,
+        corrected_bits: u32,
+        colour: u32,
+        wanted: u16,
+        tolerance: u32,
+        code: *mut u16,
+        count: *mut u64,
     ) -> u32;
     fn erythmoda_write(
         description: *const i64,
@@ -275,6 +288,33 @@ impl Side for Ours {
         let mut given = Codes { number, codes: [0; 3] };
         given.codes.copy_from_slice(codes.now());
         Ok(given)
+    }
+
+    fn inverse(&self, case: &InverseCase) -> Result<Inverse, String> {
+        let mut description = Lent::of(&case.description, -1);
+        let mut table = Lent::of(&case.table, -2);
+        let mut code = Lent::new((0..1).map(code_pattern), 0x5A5A);
+        let mut count = Lent::of(&[0xDEAD_BEEF_u64], 5);
+        // SAFETY: each pointer is to as many places as are told, or as the boundary fixes.
+        let number = unsafe {
+            erythmoda_inverse(
+                description.pointer(),
+                table.pointer(),
+                case.table.len(),
+                case.bits.raw,
+                case.bits.corrected,
+                case.aim.colour,
+                case.aim.wanted,
+                case.aim.tolerance,
+                code.pointer(),
+                count.pointer(),
+            )
+        };
+        description.unchanged("the description")?;
+        table.unchanged("the table")?;
+        code.guarded("the code")?;
+        count.guarded("the count")?;
+        Ok(Inverse { number, code: code.now()[0], count: count.now()[0] })
     }
 
     fn picture(&self, case: &PictureCase) -> Result<PictureAnswer, String> {

@@ -1,4 +1,4 @@
-//! Inputs made from a seed: files, looks, pictures, writes, and rows and weights.
+//! Inputs made from a seed: files, looks, pictures, writes, rows and weights, and inverses.
 //!
 //! Each case is drawn from the seed, its call and its own number, so one case can
 //! be made again without those before it.
@@ -6,11 +6,13 @@
 pub mod damage;
 pub mod draws;
 pub mod files;
+pub mod inverses;
 pub mod lookups;
 pub mod shares;
 pub mod words;
 pub mod writes;
 
+use crate::inverse::Aim;
 use crate::paper::{Bits, Description, REPORT_BYTES, REPORT_PLACES};
 use draws::Draws;
 
@@ -55,6 +57,16 @@ pub struct CodesCase {
     pub made: Vec<&'static str>,
 }
 
+/// What the inverse is given.
+#[derive(Clone, Debug)]
+pub struct InverseCase {
+    pub description: Description,
+    pub table: Vec<i64>,
+    pub bits: Bits,
+    pub aim: Aim,
+    pub made: Vec<&'static str>,
+}
+
 /// What write is given, and how many bytes are lent for the text.
 #[derive(Clone, Debug)]
 pub struct WriteCase {
@@ -89,6 +101,10 @@ pub fn rows_case(seed: u64, index: u64) -> LookCase {
 
 pub fn codes_case(seed: u64, index: u64) -> CodesCase {
     shares::codes(&mut Draws::of(seed, 7, index))
+}
+
+pub fn inverse_case(seed: u64, index: u64) -> InverseCase {
+    inverses::inverse(&mut Draws::of(seed, 8, index))
 }
 
 /// A report's input: a file of any sort, or one about the report's limits of bytes or of

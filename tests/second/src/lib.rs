@@ -13,6 +13,7 @@
 //! | `look` | "Interpolation" |
 //! | `picture` | "a run of pixels to corrected codes" |
 //! | `halves` | document 02's "Two halves of a look" |
+//! | `inverse` | document 02's "Which raw code gives this corrected code?" |
 //! | `writing` | document 02's "Write our own tables" |
 //! | `report` | "The report program" |
 //! | `cases` | "Checked by hand", the cases not marked P |
@@ -26,6 +27,7 @@ pub mod cases;
 pub mod decimal;
 pub mod gen;
 pub mod halves;
+pub mod inverse;
 pub mod look;
 pub mod met;
 pub mod paper;

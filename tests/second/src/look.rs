@@ -131,11 +131,17 @@ impl<'a> Cube<'a> {
     fn correct_1d(&self, m: u16, positions: &[Position; 3]) -> Look {
         let mut look = refused(number::ACCEPTED);
         for (colour, at) in positions.iter().enumerate() {
-            let path = [(at.i, at.den - at.f), (at.i + 1, at.f)];
+            let path = at.path_1d();
             look.codes[colour] = nearest(self.value(&path, colour, at.den), m);
             show(&path, &mut look, 2 * colour);
         }
         look
+    }
+
+    /// What one colour's raw code is corrected to in a 1D table, with these two M.
+    pub fn code_1d(&self, raw: u16, corrected: u16, colour: usize, code: u16) -> u16 {
+        let at = self.position(raw, colour, code);
+        nearest(self.value(&at.path_1d(), colour, at.den), corrected)
     }
 
     /// "3D: sort the three f, greatest first; equal ones stand red, green, blue. Start at
@@ -181,6 +187,11 @@ struct Position {
 }
 
 impl Position {
+    /// "rows i and i+1, weights D-f and f".
+    fn path_1d(&self) -> [(i128, i128); 2] {
+        [(self.i, self.den - self.f), (self.i + 1, self.f)]
+    }
+
     /// f as so many parts of another D, into which its own goes.
     fn over(&self, den: i128) -> i128 {
         self.f * (den / self.den)

@@ -1,6 +1,6 @@
 //! Document 01's numbers, units and ranges, each once.
 
-/// "Answers by number", and document 02's 19, 26 and 27. It says 13 of a table and of bytes.
+/// "Answers by number", and document 02's 19, 26, 27 and 28. It says 13 of a table and of bytes.
 pub mod number {
     pub const ACCEPTED: u32 = 0;
     pub const LINE_TOO_LONG: u32 = 1;
@@ -29,6 +29,7 @@ pub mod number {
     pub const NOT_FROM_READING: u32 = 24;
     pub const ROWS_OR_WEIGHTS_WRONG: u32 = 26;
     pub const TITLE_NOT_PLAIN: u32 = 27;
+    pub const NONE_WITHIN_TOLERANCE: u32 = 28;
     pub const INPUT_TOO_LONG: u32 = 30;
 }
 

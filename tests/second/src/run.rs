@@ -1,15 +1,19 @@
 //! A whole stream of cases: each is made, put to one side or two, and counted.
 
-use crate::gen::{codes_case, file_case, look_case, picture_case, rows_case, write_case};
-use crate::gen::{CodesCase, FileCase, LookCase, PictureCase, WriteCase};
+use crate::gen::{
+    codes_case, file_case, inverse_case, look_case, picture_case, rows_case, write_case,
+};
+use crate::gen::{CodesCase, FileCase, InverseCase, LookCase, PictureCase, WriteCase};
 use crate::halves::{denominator, used, Codes, Rows};
+use crate::inverse::{colour, Aim, Inverse};
 use crate::look::{look, Cube, Look};
+use crate::met::inverses::{inverses_met, INVERSES_GROUPS};
 use crate::met::shares::{codes_met, rows_met, CODES_GROUPS, ROWS_GROUPS};
 use crate::met::writes::{writes_met, GROUPS};
 use crate::met::{bound_of_12_met, bound_of_24_met, domains_met};
 use crate::met::{depth_refusals_met, halves_met, met, order_met, pair_met, points_met};
+use crate::met::{inverses, shares, writes};
 use crate::met::{is_mixed, mixed_met, shapes_met, widths_met};
-use crate::met::{shares, writes};
 use crate::met::{BOUNDS, DEPTH_REFUSALS, DEPTH_REFUSALS_OF_LOOK, DIVIDED, DOMAINS, HALVES};
 use crate::met::{JUDGED, MIXED, NAMES, ORDERS, PAIRS, POINTS, SHAPES, WIDTHS};
 use crate::paper::{number, place, Bits, Description};
@@ -18,7 +22,8 @@ use crate::reading::Check;
 use crate::show::{list, quoted, shortened, where_not_zero};
 use crate::side::{byte_pattern, pattern};
 use crate::side::{PictureAnswer, ReadAnswer, Second, Side, WriteAnswer};
-use crate::small::{smaller_codes, smaller_file, smaller_look, smaller_picture, smaller_write};
+use crate::small::{smaller_codes, smaller_file, smaller_inverse, smaller_look};
+use crate::small::{smaller_picture, smaller_write};
 use crate::writing::{is_marked, longest_text};
 use std::collections::BTreeMap;
 use std::fmt::Write;
@@ -33,6 +38,7 @@ pub struct Wanted {
     pub writes: u64,
     /// Of each half of a look.
     pub halves: u64,
+    pub inverses: u64,
 }
 
 /// The numbers that each call can answer.
@@ -56,6 +62,13 @@ const CODES_NUMBERS: [u32; 4] = [
     number::NOT_FROM_READING,
     number::ROWS_OR_WEIGHTS_WRONG,
 ];
+const INVERSE_NUMBERS: [u32; 5] = [
+    number::ACCEPTED,
+    number::DEPTH_UNKNOWN,
+    number::CODE_ABOVE_M,
+    number::NOT_FROM_READING,
+    number::NONE_WITHIN_TOLERANCE,
+];
 const WRITE_NUMBERS: [u32; 4] =
     [number::ACCEPTED, number::TOO_LITTLE_ROOM, number::NOT_FROM_READING, number::TITLE_NOT_PLAIN];
 
@@ -69,6 +82,7 @@ pub struct Counts {
     write: BTreeMap<u32, u64>,
     rows: BTreeMap<u32, u64>,
     codes: BTreeMap<u32, u64>,
+    inverse: BTreeMap<u32, u64>,
     points: [u64; POINTS.len()],
     halves: [[u64; HALVES.len()]; JUDGED.len()],
     domains: [u64; DOMAINS.len()],
@@ -85,6 +99,7 @@ pub struct Counts {
     writes: [[u64; writes::MOST_NAMES]; GROUPS.len()],
     first_halves: [[u64; shares::MOST_NAMES]; ROWS_GROUPS.len()],
     second_halves: [[u64; shares::MOST_NAMES]; CODES_GROUPS.len()],
+    inverses: [[u64; inverses::MOST_NAMES]; INVERSES_GROUPS.len()],
 }
 
 /// What accepted looks met, of all domains or of mixed ones.
@@ -125,6 +140,7 @@ impl Counts {
             ("write", &self.write, grouped(&GROUPS, &self.writes)),
             ("rows", &self.rows, grouped(&ROWS_GROUPS, &self.first_halves)),
             ("codes", &self.codes, grouped(&CODES_GROUPS, &self.second_halves)),
+            ("inverse", &self.inverse, grouped(&INVERSES_GROUPS, &self.inverses)),
         ];
         let made = calls.into_iter().filter(|(_, counts, _)| !counts.is_empty());
         made.map(|(name, counts, met)| {
@@ -220,6 +236,13 @@ impl Counts {
         }
     }
 
+    fn note_inverse(&mut self, case: &InverseCase, answer: &Inverse) {
+        *self.inverse.entry(answer.number).or_default() += 1;
+        for (counts, met) in self.inverses.iter_mut().zip(inverses_met(case, answer)) {
+            add_met(counts, &met);
+        }
+    }
+
     /// The numbers never seen on a call that was asked for, and what none of its cases met.
     pub fn missing(&self, wanted: &Wanted) -> Vec<String> {
         let of_check: Vec<u32> = READ_NUMBERS.filter(|n| *n != NEVER_BY_CHECK).collect();
@@ -243,6 +266,13 @@ impl Counts {
                 &self.codes,
                 &CODES_NUMBERS,
                 grouped(&CODES_GROUPS, &self.second_halves),
+            ),
+            (
+                "inverse",
+                wanted.inverses,
+                &self.inverse,
+                &INVERSE_NUMBERS,
+                grouped(&INVERSES_GROUPS, &self.inverses),
             ),
         ];
         let mut missing = Vec::new();
@@ -378,6 +408,11 @@ pub fn run(wanted: &Wanted, other: Option<&dyn Side>) -> Result<Counts, String> 
         let case = codes_case(wanted.seed, index);
         let answer = one_codes(&case, other).map_err(|d| told(index, d))?;
         counts.note_codes(&case, &answer);
+    }
+    for index in 0..wanted.inverses {
+        let case = inverse_case(wanted.seed, index);
+        let answer = one_inverse(&case, other).map_err(|d| told(index, d))?;
+        counts.note_inverse(&case, &answer);
     }
     Ok(counts)
 }
@@ -578,6 +613,59 @@ fn between(side: &dyn Side, case: &CodesCase) -> Result<Codes, String> {
     }
 }
 
+fn one_inverse(case: &InverseCase, other: Option<&dyn Side>) -> Result<Inverse, String> {
+    let own = inverted(&Second, case)?;
+    match other {
+        Some(side) if inverted(side, case).as_ref() != Ok(&own) => {
+            let differs = |case: &InverseCase| inverted(side, case) != inverted(&Second, case);
+            Err(tell_inverse(&smaller_inverse(case, differs), side))
+        }
+        _ => Ok(own),
+    }
+}
+
+/// What a side answers for an inverse, put to its look at the code that it found: how far the
+/// corrected code is off has to be within the tolerance, and tells by itself what the count is, "the
+/// hit plus 1, or M plus 1". Where it refuses with 28, it is asked again with the greatest tolerance:
+/// the code that it then finds has to be beyond the first one.
+fn inverted(side: &dyn Side, case: &InverseCase) -> Result<Inverse, String> {
+    let answer = side.inverse(case)?;
+    let searched = [number::ACCEPTED, number::NONE_WITHIN_TOLERANCE].contains(&answer.number);
+    let (true, Some(m), Some(colour)) = (searched, case.bits.greatest(), colour(case.aim)) else {
+        // refused, or accepted by a mistake that shows without all this
+        return Ok(answer);
+    };
+    let refused = answer.number == number::NONE_WITHIN_TOLERANCE;
+    let nearest = if refused {
+        let aim = Aim { tolerance: u32::MAX, ..case.aim };
+        side.inverse(&InverseCase { aim, ..case.clone() })?
+    } else {
+        answer.clone()
+    };
+    let seen = side.look(&LookCase {
+        description: case.description,
+        table: case.table.clone(),
+        bits: case.bits,
+        pixel: [nearest.code; 3],
+        made: Vec::new(),
+    })?;
+    let off = u32::from(seen.codes[colour].abs_diff(case.aim.wanted));
+    let count = if off == 0 { u64::from(nearest.code) + 1 } else { u64::from(m.raw) + 1 };
+    let agrees = seen.number == number::ACCEPTED
+        && nearest.number == number::ACCEPTED
+        && (off > case.aim.tolerance) == refused
+        && [answer.count, nearest.count] == [count; 2];
+    match agrees {
+        true => Ok(answer),
+        false => Err(format!(
+            "{}, nearest {}, and looked at {}",
+            tell_found(&answer),
+            tell_found(&nearest),
+            tell_seen(&seen)
+        )),
+    }
+}
+
 /// The description with the title's mark, place and length that reading its text has to give: the
 /// title stands after `TITLE`, a space and a quote.
 fn fitted(case: &WriteCase) -> Description {
@@ -660,6 +748,19 @@ fn tell_given(answer: &Codes) -> String {
     format!("number {} codes {}", answer.number, list(&answer.codes, " "))
 }
 
+fn tell_inverse(case: &InverseCase, side: &dyn Side) -> String {
+    let mut text = format!("inverse, made by: {}\n", case.made.join("; "));
+    let Aim { colour, wanted, tolerance } = case.aim;
+    text += &tell_lent(&case.description, &case.table);
+    let _ = writeln!(text, "bits: {}", tell_bits(case.bits));
+    let _ = writeln!(text, "colour {colour}, wanted {wanted}, tolerance {tolerance}");
+    text + &two(inverted(&Second, case), inverted(side, case), tell_found)
+}
+
+fn tell_found(answer: &Inverse) -> String {
+    format!("number {} code {} count {}", answer.number, answer.code, answer.count)
+}
+
 fn tell_picture(case: &PictureCase, side: &dyn Side) -> String {
     let mut text = format!("picture, made by: {}\n", case.made.join("; "));
     text += &tell_lent(&case.description, &case.table);
@@ -713,15 +814,23 @@ mod tests {
 
     #[test]
     fn every_number_is_seen() {
-        let (tables, looks, pictures, writes, halves) = (10_000, 20_000, 4_000, 10_000, 20_000);
-        let wanted = Wanted { seed: 1, tables, looks, pictures, writes, halves };
+        let wanted = Wanted {
+            seed: 1,
+            tables: 10_000,
+            looks: 20_000,
+            pictures: 4_000,
+            writes: 10_000,
+            halves: 20_000,
+            inverses: 4_000,
+        };
         let counts = run(&wanted, None).unwrap_or_default();
         assert_eq!(counts.missing(&wanted), Vec::<String>::new(), "{}", counts.shown());
     }
 
     #[test]
     fn what_is_never_met_is_missing() {
-        let wanted = Wanted { seed: 1, tables: 1, looks: 1, pictures: 1, writes: 1, halves: 1 };
+        let wanted =
+            Wanted { seed: 1, tables: 1, looks: 1, pictures: 1, writes: 1, halves: 1, inverses: 1 };
         let missing = Counts::default().missing(&wanted);
         let said = |title: &str, names: &[&str]| {
             for name in names {
@@ -748,10 +857,11 @@ mod tests {
         }
         said("looks refused", &DEPTH_REFUSALS[..DEPTH_REFUSALS_OF_LOOK]);
         said("pictures refused", &DEPTH_REFUSALS);
-        for (title, names) in GROUPS.iter().chain(&ROWS_GROUPS).chain(&CODES_GROUPS) {
+        let halves = ROWS_GROUPS.iter().chain(&CODES_GROUPS);
+        for (title, names) in GROUPS.iter().chain(halves).chain(&INVERSES_GROUPS) {
             said(title, names);
         }
-        for number in ["rows 23", "codes 20", "codes 24", "codes 26"] {
+        for number in ["rows 23", "codes 20", "codes 24", "codes 26", "inverse 24", "inverse 28"] {
             assert!(missing.contains(&number.to_string()), "{number}");
         }
     }
@@ -771,6 +881,7 @@ mod tests {
             assert_eq!(write_case(9, index).title, write_case(9, index).title);
             assert_eq!(rows_case(9, index).pixel, rows_case(9, index).pixel);
             assert_eq!(codes_case(9, index).weights, codes_case(9, index).weights);
+            assert_eq!(inverse_case(9, index).aim, inverse_case(9, index).aim);
         }
         assert_ne!(file_case(9, 0).file, file_case(10, 0).file);
     }
@@ -786,6 +897,7 @@ mod tests {
         write: Call<WriteCase, WriteAnswer>,
         rows: Call<LookCase, Rows>,
         codes: Call<CodesCase, Codes>,
+        inverse: Call<InverseCase, Inverse>,
     }
 
     impl Default for Mistaken {
@@ -798,6 +910,7 @@ mod tests {
                 write: Box::new(|case| Second.write(case)),
                 rows: Box::new(|case| Second.rows(case)),
                 codes: Box::new(|case| Second.codes(case)),
+                inverse: Box::new(|case| Second.inverse(case)),
             }
         }
     }
@@ -829,6 +942,10 @@ mod tests {
 
         fn codes(&self, case: &CodesCase) -> Result<Codes, String> {
             (self.codes)(case)
+        }
+
+        fn inverse(&self, case: &InverseCase) -> Result<Inverse, String> {
+            (self.inverse)(case)
         }
     }
 
@@ -1168,5 +1285,131 @@ mod tests {
         assert!(looks.into_iter().any(|case| joined(&side, &case).is_err()));
         let shares = (0..1_000).map(|index| codes_case(1, index));
         assert!(shares.into_iter().any(|case| between(&side, &case).is_err()));
+    }
+
+    type ChangedAim = fn(&mut InverseCase);
+    type ChangedInverse = fn(&InverseCase, &[u16], &mut Inverse);
+
+    /// What each raw code of a case is corrected to, by looks.
+    fn looked(case: &InverseCase) -> Vec<u16> {
+        let (Some(m), Some(colour)) = (case.bits.greatest(), colour(case.aim)) else {
+            return Vec::new();
+        };
+        let seen = |code| look(&case.description, &case.table, case.bits, [code; 3]).codes[colour];
+        (0..=m.raw).map(seen).collect()
+    }
+
+    /// Of these raw codes the one that is nearest, the first of several.
+    fn first_nearest(case: &InverseCase, codes: &[u16], tried: impl Iterator<Item = usize>) -> u16 {
+        tried.min_by_key(|code| codes[*code].abs_diff(case.aim.wanted)).unwrap_or(0) as u16
+    }
+
+    #[test]
+    fn other_inverses_are_found() {
+        let as_others: [ChangedAim; 9] = [
+            // the tolerance has 16 bits, or a sign
+            |case| case.aim.tolerance &= 0xFFFF,
+            |case| case.aim.tolerance = (case.aim.tolerance as i32).max(0) as u32,
+            // a code as far off as the tolerance is not within it
+            |case| case.aim.tolerance = case.aim.tolerance.saturating_sub(1),
+            // a colour that is none is blue, or is one in fewer bits
+            |case| case.aim.colour = case.aim.colour.min(2),
+            |case| case.aim.colour &= 0xFF,
+            // the colour is red
+            |case| case.aim.colour = if case.aim.colour < 3 { 0 } else { case.aim.colour },
+            // corrected codes have the raw depth, or the two are exchanged
+            |case| case.bits.corrected = case.bits.raw,
+            |case| {
+                case.bits = Bits { raw: case.bits.corrected, corrected: case.bits.raw };
+            },
+            // a wanted code above M is moved to it
+            |case| {
+                let m = case.bits.greatest().map_or(u16::MAX, |m| m.corrected);
+                case.aim.wanted = case.aim.wanted.min(m);
+            },
+        ];
+        let with_others: [ChangedInverse; 9] = [
+            // the highest of several
+            |case, codes, answer| {
+                if answer.number == 0 {
+                    answer.code = first_nearest(case, codes, (0..codes.len()).rev());
+                }
+            },
+            // one code is not tried: the last, the first
+            |case, codes, answer| {
+                if answer.number == 0 {
+                    answer.code = first_nearest(case, codes, 0..codes.len() - 1);
+                }
+            },
+            |case, codes, answer| {
+                if answer.number == 0 {
+                    answer.code = first_nearest(case, codes, 1..codes.len());
+                }
+            },
+            // the search ends within the tolerance
+            |case, codes, answer| {
+                let within =
+                    |code: &u16| u32::from(code.abs_diff(case.aim.wanted)) <= case.aim.tolerance;
+                if let (0, Some(first)) = (answer.number, codes.iter().position(within)) {
+                    (answer.code, answer.count) = (first as u16, first as u64 + 1);
+                }
+            },
+            // the count is that of all codes, or goes up to the code alone, or leaves it out
+            |_, codes, answer| {
+                if answer.number == 0 {
+                    answer.count = codes.len() as u64;
+                }
+            },
+            |_, _, answer| {
+                if answer.number == 0 {
+                    answer.count = u64::from(answer.code) + 1;
+                }
+            },
+            |_, _, answer| answer.count = answer.count.saturating_sub(1),
+            // a refusal leaves the nearest code, or has no count
+            |case, codes, answer| {
+                if answer.number == 28 {
+                    answer.code = first_nearest(case, codes, 0..codes.len());
+                }
+            },
+            |_, _, answer| answer.count *= u64::from(answer.number == 0),
+        ];
+        let sides = as_others.map(|change| Mistaken {
+            inverse: Box::new(move |case| {
+                let mut case = case.clone();
+                change(&mut case);
+                Second.inverse(&case)
+            }),
+            ..Mistaken::default()
+        });
+        let others = with_others.map(|change| Mistaken {
+            inverse: Box::new(move |case| {
+                let mut answer = Second.inverse(case)?;
+                if answer.count > 0 {
+                    change(case, &looked(case), &mut answer);
+                }
+                Ok(answer)
+            }),
+            ..Mistaken::default()
+        });
+        for (at, side) in sides.iter().chain(&others).enumerate() {
+            let told = found(Wanted { inverses: 1_000, ..Wanted::default() }, side);
+            assert!(told.contains("inverse, made by"), "mistake {at}");
+        }
+    }
+
+    #[test]
+    fn inverses_that_do_not_agree_with_looks_are_found() {
+        // one code beside the nearest
+        let side = Mistaken {
+            inverse: Box::new(|case| {
+                let mut answer = Second.inverse(case)?;
+                answer.code ^= u16::from(answer.number == 0);
+                Ok(answer)
+            }),
+            ..Mistaken::default()
+        };
+        let cases = (0..1_000).map(|index| inverse_case(1, index));
+        assert!(cases.into_iter().any(|case| inverted(&side, &case).is_err()));
     }
 }

@@ -1,8 +1,9 @@
-//! The seven calls as a comparison sees them: each side is given the same lent memory,
+//! The eight calls as a comparison sees them: each side is given the same lent memory,
 //! filled with the same pattern, and answers with all of it.
 
-use crate::gen::{CodesCase, FileCase, LookCase, PictureCase, WriteCase};
+use crate::gen::{CodesCase, FileCase, InverseCase, LookCase, PictureCase, WriteCase};
 use crate::halves::{codes, rows, Codes, Rows};
+use crate::inverse::{inverse, Inverse};
 use crate::look::{look, Look};
 use crate::paper::Description;
 use crate::picture::picture;
@@ -33,7 +34,7 @@ pub struct WriteAnswer {
     pub out: Vec<u8>,
 }
 
-/// A program that answers the seven calls. An error tells of memory changed that was not
+/// A program that answers the eight calls. An error tells of memory changed that was not
 /// lent, or lent for reading only.
 pub trait Side {
     fn read(&self, case: &FileCase) -> Result<ReadAnswer, String>;
@@ -44,6 +45,7 @@ pub trait Side {
     /// The first half of a look, which takes its raw depth alone.
     fn rows(&self, case: &LookCase) -> Result<Rows, String>;
     fn codes(&self, case: &CodesCase) -> Result<Codes, String>;
+    fn inverse(&self, case: &InverseCase) -> Result<Inverse, String>;
 }
 
 /// What a lent table holds beforehand: no number that reading writes, each place its own.
@@ -98,5 +100,9 @@ impl Side for Second {
 
     fn codes(&self, case: &CodesCase) -> Result<Codes, String> {
         Ok(codes(&case.description, &case.table, case.bits, &case.rows, &case.weights))
+    }
+
+    fn inverse(&self, case: &InverseCase) -> Result<Inverse, String> {
+        Ok(inverse(&case.description, &case.table, case.bits, case.aim))
     }
 }

@@ -1,6 +1,6 @@
 //! Makes a case on which two programs differ smaller, while they still differ.
 
-use crate::gen::{CodesCase, FileCase, LookCase, PictureCase, WriteCase};
+use crate::gen::{CodesCase, FileCase, InverseCase, LookCase, PictureCase, WriteCase};
 use crate::met::has_bounds;
 use crate::paper::{place, Bits};
 use crate::side::{Second, Side};
@@ -69,6 +69,22 @@ pub fn smaller_codes(case: &CodesCase, differs: impl Fn(&CodesCase) -> bool) -> 
         }
     }
     let with_table = |table: Vec<i64>| CodesCase { table, ..case.clone() };
+    with_table(with_zeros(&case.table, |table| differs(&with_table(table.to_vec()))))
+}
+
+/// An inverse at one depth, if the difference allows, with a tolerance of 0 or of one code, and with
+/// zeros in its table.
+pub fn smaller_inverse(case: &InverseCase, differs: impl Fn(&InverseCase) -> bool) -> InverseCase {
+    let with_bits = |bits: Bits| InverseCase { bits, ..case.clone() };
+    let mut case = with_bits(fewer_depths(case.bits, |bits| differs(&with_bits(bits))));
+    for tolerance in [1, 0] {
+        let mut less = case.clone();
+        less.aim.tolerance = tolerance;
+        if differs(&less) {
+            case = less;
+        }
+    }
+    let with_table = |table: Vec<i64>| InverseCase { table, ..case.clone() };
     with_table(with_zeros(&case.table, |table| differs(&with_table(table.to_vec()))))
 }
 

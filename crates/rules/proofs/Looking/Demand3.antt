@@ -16,7 +16,7 @@ use Rattle.whole.proofs.Between.{codes-below, codes-above}
 use Rattle.rules.specs.Units.{rawM, correctedM, rowsOf, rowAt, sampleAt, codeIn}
 use Rattle.rules.specs.Descriptions.{rows, domain, commonSpan, spanIn, couldBeRead, Sound}
 use Rattle.rules.specs.Looking.Interpolation.{den, denOf, positionOf, indexOf, fractionOf, order, pairBy, pathBy, climb, pair, path, sharesFor, weighed, total, denominator, codeBy, rowCode}
-use Rattle.rules.specs.Looking.{shown, used, codeOf, codesBy, correct}
+use Rattle.rules.specs.Looking.{shown, used, codeOf, codesBy, correct, lineCode}
 use Rattle.rules.specs.Answers.{lookNumber}
 use Rattle.rules.specs.Promises.{Looks}
 use Rattle.rules.specs.Looking.Readings.{Reading}
@@ -273,3 +273,12 @@ looks-right {d} {table} {bits} {pixel} {r} l z =
   where
     p : LookPassed d table bits pixel
     p = look-passed d table bits pixel (sym (ap lookNumber (looks-is l)) ∙ z)
+
+-- in 1D a colour's code by itself is its code in a pixel, whatever the other two are
+pub line-looked : (d : Description) (table : List ℤ) → d .kind ≡ OneD → (depths : Depths) (pixel : Codes) (c : Colour)
+    → codeIn (correct d table depths pixel) c ≡ lineCode d table depths c (codeIn pixel c)
+unfolding pair
+line-looked d table one-d depths pixel c =
+    code-by d table depths (shown d (rawM depths) pixel (d .kind)) c
+    ∙ ap (codeBy (correctedM depths) (denOf d (rawM depths) c) table c)
+    (used-shown d (rawM depths) pixel (d .kind) c ∙ ap (λ k. sharesFor d (rawM depths) pixel k c) one-d)

@@ -25,6 +25,15 @@ use Rattle.rules.specs.declared.Shares.{Shares}
 use Rattle.rules.proofs.Sound.{same-number, number-same}
 use Rattle.rules.proofs.Tests.{no-true}
 
+-- ---- fit or not
+
+-- none of the three other findings is fit
+pub is-fit : (j : Judged) → Dec (j ≡ Fit)
+is-fit Fit = yes refl
+is-fit RowBeyond = no (λ e. let z : _≡_ {A = ℕ} 0 1 = cc in omega arith)
+is-fit NegativeWeight = no (λ e. let z : _≡_ {A = ℕ} 0 1 = cc in omega arith)
+is-fit WrongSum = no (λ e. let z : _≡_ {A = ℕ} 0 1 = cc in omega arith)
+
 -- ---- one after the other
 
 pub both-fit : (a b : Judged) → a andThen b ≡ Fit → (a ≡ Fit) × (b ≡ Fit)

@@ -68,6 +68,13 @@ module _ (eleven : List ℤ) where
   unfolding describedIn
   described-none e = rw e
 
+  -- and of that kind alone
+  pub kind-given : (k : Kind) → kindIn eleven ≡ some k → (d : Description) → describedIn eleven ≡ some d → d .kind ≡ k
+  kind-given k e d described =
+      let same : _≡_ {A = Option Description} (some d) (some (descriptionIn eleven k)) = sym described ∙ described-kind k e in
+      let one : d ≡ descriptionIn eleven k = cc in
+      ap (λ x. x .kind) one
+
   -- they give no description exactly where the first is neither 1 nor 3
   pub no-description : (describedIn eleven ≡ none) ↔ ((numberAt eleven 0 ≡ pos 1 → ⊥) × (numberAt eleven 0 ≡ pos 3 → ⊥))
   no-description = (λ e. kind-none (numberAt eleven 0) .0 (by (kindIn eleven) refl e), λ other. described-none (kind-none (numberAt eleven 0) .1 other))

@@ -4,7 +4,7 @@ use Prim.Native.Nat.{ℕ, _*_, _<_}
 use mathlib.Core.Path.{_≡_, sym, ap, _∙_}
 use mathlib.Core.Bool.{true}
 use mathlib.Core.List.{List}
-use mathlib.Core.Option.{Option, some}
+use mathlib.Core.Option.{some}
 use native.Mathlib.Omega.{arith}
 use lib.IntN.{ℤ, pos}
 use lib.ListN.{take, getD}
@@ -12,12 +12,12 @@ use lib.Seq.{getD-take}
 use Rattle.rules.specs.Descriptions.{couldBeRead, rows}
 use Rattle.rules.specs.Looking.{firstHalf, secondHalf}
 use Rattle.rules.specs.Answers.{firstNumber, firstRows, firstWeights, secondNumber, secondCodes}
-use Rattle.rules.specs.Boundary.{numberAt, describedIn, descriptionIn, pixelIn, shareIn, sharesIn, firstIn, secondIn, FindsRowsC, GivesCodesC}
+use Rattle.rules.specs.Boundary.{numberAt, describedIn, pixelIn, shareIn, sharesIn, firstIn, secondIn, FindsRowsC, GivesCodesC}
 use Rattle.rules.specs.declared.Bits.{Bits}
 use Rattle.rules.specs.declared.Description.{Description}
 use Rattle.rules.specs.declared.Kind.the-variants.{ThreeD}
 use Rattle.signature.proofs.Looking.HalvesNoPart.{SameFour, samples-no-part, last-two-no-part, later-first, later-second}
-use Rattle.signature.proofs.Boundary.Crossing.{described-kind, kindAt}
+use Rattle.signature.proofs.Boundary.Crossing.{kindAt, kind-given}
 use Rattle.signature.proofs.Boundary.NoPart.{same-of-both}
 
 -- ---- what keeps the promise of one input keeps that of another with the same answer, by the description that eleven numbers give
@@ -59,12 +59,6 @@ later-second-c {eleven} {table} {table₂} {bits} {numbers} {weights} same = sam
 
 -- ---- the last two rows and weights, in 3D
 
-kind-3d : (eleven : List ℤ) → numberAt eleven 0 ≡ pos 3 → (d : Description) → describedIn eleven ≡ some d → d .kind ≡ ThreeD
-kind-3d eleven three d e =
-    let same : _≡_ {A = Option Description} (some d) (some (descriptionIn eleven ThreeD)) = sym e ∙ described-kind eleven ThreeD (ap kindAt three) in
-    let one : d ≡ descriptionIn eleven ThreeD = cc in
-    ap (λ x. x .kind) one
-
 -- rows and weights of which the first four are the same
 module _ (rows rows₂ : List ℕ) (weights weights₂ : List ℤ) (same-rows : take 4 rows ≡ take 4 rows₂) (same-weights : take 4 weights ≡ take 4 weights₂) where
   same-share : (k : ℕ) → k < 4 → shareIn rows weights k ≡ shareIn rows₂ weights₂ k
@@ -84,4 +78,4 @@ pub last-two-no-part-c : {eleven table : List ℤ} {bits : Bits} {rows rows₂ :
     → numberAt eleven 0 ≡ pos 3 → take 4 rows ≡ take 4 rows₂ → take 4 weights ≡ take 4 weights₂
     → GivesCodesC eleven table bits rows weights number codes′ → GivesCodesC eleven table bits rows₂ weights₂ number codes′
 last-two-no-part-c {eleven} {table} {bits} {rows} {rows₂} {weights} {weights₂} three same-rows same-weights =
-    same-gives-c (λ d e. last-two-no-part d table bits (kind-3d eleven three d e) (same-four rows rows₂ weights weights₂ same-rows same-weights))
+    same-gives-c (λ d e. last-two-no-part d table bits (kind-given eleven ThreeD (ap kindAt three) d e) (same-four rows rows₂ weights weights₂ same-rows same-weights))

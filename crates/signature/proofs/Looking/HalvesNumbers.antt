@@ -5,7 +5,6 @@ use mathlib.Core.Path.{_≡_, refl, sym, subst, ap, _∙_}
 use mathlib.Core.Logic.{inl, inr, _↔_}
 use mathlib.Core.Bool.{Bool, true, false, true≢false}
 use mathlib.Core.List.{List, [], _∷_}
-use native.Mathlib.Omega.{arith}
 use lib.IntN.{ℤ, pos}
 use lib.ListN.{replicate}
 use Rattle.rules.specs.Units.{depthOf, depthsOf, rawM, codeIn}
@@ -29,13 +28,13 @@ use Rattle.rules.specs.declared.Description.{Description}
 use Rattle.rules.specs.declared.FirstHalf.{FirstHalf}
 use Rattle.rules.specs.declared.FirstHalf.the-variants as F
 use Rattle.rules.specs.declared.Judged.{Judged}
-use Rattle.rules.specs.declared.Judged.the-variants.{Fit, RowBeyond, NegativeWeight, WrongSum}
+use Rattle.rules.specs.declared.Judged.the-variants.{Fit}
 use Rattle.rules.specs.declared.SecondHalf.{SecondHalf}
 use Rattle.rules.specs.declared.SecondHalf.the-variants as S
 use Rattle.rules.specs.declared.Shares.{Shares}
 use Rattle.rules.proofs.KnownDepths.{OneUnknown, not-both, unknown-not-both}
 use Rattle.rules.proofs.Looking.Halves.{rows-23, rows-0, first-24, first-20, first-with, second-24, second-20, second-26, second-0}
-use Rattle.rules.proofs.Looking.Judging.{fit-both, weighable-fit, not-fit-unfit, unfit-not-fit, all-weighable, weighable-all}
+use Rattle.rules.proofs.Looking.Judging.{is-fit, fit-both, weighable-fit, not-fit-unfit, unfit-not-fit, all-weighable, weighable-all}
 use Rattle.signature.specs.Numbers.{OneOf}
 use Rattle.signature.proofs.Looking.Numbers.{above-of, of-above}
 
@@ -122,12 +121,6 @@ first-zeros (F.Accepted shares) not-0 = absurd (not-0 refl)
 first-zeros (F.Refused r) not-0 = (refl, refl)
 
 -- ---- the second half: 26 is one of three conditions
-
-is-fit : (j : Judged) → Dec (j ≡ Fit)
-is-fit Fit = yes refl
-is-fit RowBeyond = no (λ e. let z : _≡_ {A = ℕ} 0 1 = cc in omega arith)
-is-fit NegativeWeight = no (λ e. let z : _≡_ {A = ℕ} 0 1 = cc in omega arith)
-is-fit WrongSum = no (λ e. let z : _≡_ {A = ℕ} 0 1 = cc in omega arith)
 
 module _ (d : Description) (m : ℕ) (shares : Shares) where
   -- the places that a colour's code is made of may be weighed

@@ -1,4 +1,5 @@
-//! Compares the proved program with this one: `compare SEED TABLES LOOKS PICTURES WRITES HALVES`.
+//! Compares the proved program with this one:
+//! `compare SEED TABLES LOOKS PICTURES WRITES HALVES INVERSES`.
 //!
 //! Both sides are given the same stream, made from the seed, and every number of their
 //! answers and of lent memory is compared. At the end the seed and how often each call
@@ -12,11 +13,12 @@ use std::process::ExitCode;
 fn main() -> ExitCode {
     let numbers: Option<Vec<u64>> =
         std::env::args().skip(1).map(|word| word.parse().ok()).collect();
-    let Some(&[seed, tables, looks, pictures, writes, halves]) = numbers.as_deref() else {
-        eprintln!("usage: compare SEED TABLES LOOKS PICTURES WRITES HALVES");
+    let Some(&[seed, tables, looks, pictures, writes, halves, inverses]) = numbers.as_deref()
+    else {
+        eprintln!("usage: compare SEED TABLES LOOKS PICTURES WRITES HALVES INVERSES");
         return ExitCode::FAILURE;
     };
-    let wanted = Wanted { seed, tables, looks, pictures, writes, halves };
+    let wanted = Wanted { seed, tables, looks, pictures, writes, halves, inverses };
     match run(&wanted, Some(&Ours)) {
         Err(difference) => {
             println!("the two differ: seed {seed}, {difference}");

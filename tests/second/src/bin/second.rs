@@ -8,7 +8,7 @@
 //!                                 one pixel through a file's table, from so many bits to so many
 //! second write FILE               the bytes that are written of what is read from a file
 //! second cases                    document 01's cases (src/cases.rs gives the format)
-//! second stream SEED TABLES LOOKS PICTURES WRITES HALVES
+//! second stream SEED TABLES LOOKS PICTURES WRITES HALVES INVERSES
 //!                                 this side of `compare` alone: counts, and cases a second
 //! second reports SEED COUNT PROGRAM [ARGUMENT...]
 //!                                 compares a report program's bytes with this one's
@@ -45,7 +45,7 @@ fn main() -> ExitCode {
             reports(seed, count, program)
         }
         _ => Err("usage: second report | read FILE | check FILE | look FILE RAW CORRECTED R G B | \
-                  write FILE | cases | stream SEED TABLES LOOKS PICTURES WRITES HALVES | reports SEED COUNT PROGRAM [ARGUMENT...]"
+                  write FILE | cases | stream SEED TABLES LOOKS PICTURES WRITES HALVES INVERSES | reports SEED COUNT PROGRAM [ARGUMENT...]"
             .to_string()),
     };
     match done {
@@ -147,15 +147,16 @@ fn numbers(words: &[&str]) -> Result<Vec<u64>, String> {
 
 /// Runs this side alone; each call by itself, to tell how fast it goes.
 fn stream(words: &[&str]) -> Result<(), String> {
-    let [seed, tables, looks, pictures, writes, halves] = numbers(words)?[..] else {
-        return Err("stream takes SEED TABLES LOOKS PICTURES WRITES HALVES".to_string());
+    let [seed, tables, looks, pictures, writes, halves, inverses] = numbers(words)?[..] else {
+        return Err("stream takes SEED TABLES LOOKS PICTURES WRITES HALVES INVERSES".to_string());
     };
     let none = Wanted { seed, ..Wanted::default() };
     timed("tables", tables, &Wanted { tables, ..none })?;
     timed("looks", looks, &Wanted { looks, ..none })?;
     timed("pictures", pictures, &Wanted { pictures, ..none })?;
     timed("writes", writes, &Wanted { writes, ..none })?;
-    timed("halves", halves, &Wanted { halves, ..none })
+    timed("halves", halves, &Wanted { halves, ..none })?;
+    timed("inverses", inverses, &Wanted { inverses, ..none })
 }
 
 fn timed(name: &str, many: u64, wanted: &Wanted) -> Result<(), String> {

@@ -120,8 +120,9 @@ fn some_bits(draws: &mut Draws) -> Bits {
     Bits { raw, corrected }
 }
 
+pub const UNKNOWN: &[u32] = &[0, 1, 7, 9, 11, 13, 14, 15, 17, 24, 32, 64, 264, u32::MAX, 1 << 31];
+
 fn some_depth(draws: &mut Draws) -> u32 {
-    const UNKNOWN: &[u32] = &[0, 1, 7, 9, 11, 13, 14, 15, 17, 24, 32, 64, 264, u32::MAX, 1 << 31];
     if draws.one_in(16) {
         draws.pick(UNKNOWN)
     } else {
@@ -144,7 +145,7 @@ fn too_great(bits: Bits, many: usize) -> usize {
 }
 
 /// A code above M if there is one of 16 bits, often by one.
-fn above(draws: &mut Draws, m: u16) -> u16 {
+pub fn above(draws: &mut Draws, m: u16) -> u16 {
     match draws.below(3) {
         0 => m.saturating_add(1),
         1 => u16::MAX,
@@ -240,13 +241,13 @@ pub fn kept(draws: &mut Draws) -> Lent {
     Lent { description, table: (0..length).map(|_| some_sample(draws, style)).collect() }
 }
 
-fn set_bounds(description: &mut Description, (lower, upper): Bounds) {
+pub fn set_bounds(description: &mut Description, (lower, upper): Bounds) {
     description[place::LOWER..place::LOWER + 3].copy_from_slice(&lower);
     description[place::UPPER..place::UPPER + 3].copy_from_slice(&upper);
 }
 
 /// N, mostly small; often one more than a divisor of M, so that borders fall on codes.
-fn some_n(draws: &mut Draws, kind: Kind) -> i64 {
+pub fn some_n(draws: &mut Draws, kind: Kind) -> i64 {
     let rank = draws.below(1000);
     match (kind, rank) {
         (Kind::OneD, 0) => draws.pick(&[65_535, 65_536, 4096]),

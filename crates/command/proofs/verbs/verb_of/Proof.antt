@@ -26,6 +26,9 @@ three c = c .before .before .before
 abbrev four : tie.Else5 → tie.Else4
 four c = c .before .before .before
 
+abbrev five : tie.Else6 → tie.Else5
+five c = c .before .before .before
+
 no-report : (c : tie.Else1) → same (word c) (bytes "report") ≡ false
 unfolding bytes
 no-report c = sym (c .before .is-named .ensures) ∙ c .if1 .left
@@ -42,9 +45,13 @@ no-rewrite : (c : tie.Else4) → same (word (one (two (three c)))) (bytes "rewri
 unfolding bytes
 no-rewrite c = sym (c .before .is-named4 .ensures) ∙ c .if4 .left
 
-no-version : (c : tie.Else5) → same (word (one (two (three (four c))))) (bytes "--version") ≡ false
+no-invert : (c : tie.Else5) → same (word (one (two (three (four c))))) (bytes "invert") ≡ false
 unfolding bytes
-no-version c = sym (c .before .is-named5 .ensures) ∙ c .if5 .left
+no-invert c = sym (c .before .is-named5 .ensures) ∙ c .if5 .left
+
+no-version : (c : tie.Else6) → same (word (one (two (three (four (five c)))))) (bytes "--version") ≡ false
+unfolding bytes
+no-version c = sym (c .before .is-named6 .ensures) ∙ c .if6 .left
 
 slice-aggregate-is-named : tie.Need-slice-aggregate-is-named
 slice-aggregate-is-named c = search needs
@@ -102,22 +109,37 @@ returns-5 c =
     let d = c .before .before .before in
     rw (no-report (one (two (three d))), no-explain (two (three d)), no-correct (three d), no-rewrite d, sym (c .before .is-named5 .ensures) ∙ c .if5 .taken)
 
-asks-help-requires : tie.Need-asks-help-requires
-asks-help-requires c κs = search needs
+slice-aggregate-is-named-6 : tie.Need-slice-aggregate-is-named-6
+slice-aggregate-is-named-6 c = search needs
+
+is-named-requires-6 : tie.Need-is-named-requires-6
+is-named-requires-6 c κs = search needs
 
 returns-6 : tie.Need-returns-6
 unfolding verbOf bytes
 returns-6 c =
-    let d = c .before .before in
+    let d = c .before .before .before in
     let v = four d in
-    rw (no-report (one (two (three v))), no-explain (two (three v)), no-correct (three v), no-rewrite v, no-version d, sym (c .before .asks-help .ensures) ∙ c .if6 .taken)
+    rw (no-report (one (two (three v))), no-explain (two (three v)), no-correct (three v), no-rewrite v, no-invert d, sym (c .before .is-named6 .ensures) ∙ c .if6 .taken)
+
+asks-help-requires : tie.Need-asks-help-requires
+asks-help-requires c κs = search needs
 
 returns-7 : tie.Need-returns-7
 unfolding verbOf bytes
 returns-7 c =
     let d = c .before .before in
-    let v = four d in
-    rw (no-report (one (two (three v))), no-explain (two (three v)), no-correct (three v), no-rewrite v, no-version d, sym (c .before .asks-help .ensures) ∙ c .if6 .left)
+    let i = five d in
+    let v = four i in
+    rw (no-report (one (two (three v))), no-explain (two (three v)), no-correct (three v), no-rewrite v, no-invert i, no-version d, sym (c .before .asks-help .ensures) ∙ c .if7 .taken)
+
+returns-8 : tie.Need-returns-8
+unfolding verbOf bytes
+returns-8 c =
+    let d = c .before .before in
+    let i = five d in
+    let v = four i in
+    rw (no-report (one (two (three v))), no-explain (two (three v)), no-correct (three v), no-rewrite v, no-invert i, no-version d, sym (c .before .asks-help .ensures) ∙ c .if7 .left)
 
 pub verb-of-spec : {M : Type 1} → statement M
 verb-of-spec =
@@ -138,6 +160,9 @@ verb-of-spec =
     slice-aggregate-is-named-5
     is-named-requires-5
     returns-5
-    asks-help-requires
+    slice-aggregate-is-named-6
+    is-named-requires-6
     returns-6
-    returns-7)
+    asks-help-requires
+    returns-7
+    returns-8)

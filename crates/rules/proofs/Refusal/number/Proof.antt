@@ -86,6 +86,9 @@ enum-told-26 c = search needs
 enum-told-27 : tie.Need-enum-told-27
 enum-told-27 c = search needs
 
+enum-told-28 : tie.Need-enum-told-28
+enum-told-28 c = search needs
+
 returns : tie.Need-returns
 unfolding refusalNumber
 returns c = sym (ap refusalNumber (c .enum-told .given .1))
@@ -194,6 +197,10 @@ returns-27 : tie.Need-returns-27
 unfolding refusalNumber
 returns-27 c = sym (ap refusalNumber (c .enum-told27 .given .1))
 
+returns-28 : tie.Need-returns-28
+unfolding refusalNumber
+returns-28 c = sym (ap refusalNumber (c .enum-told28 .given .1))
+
 pub number-spec : {M : Type 1} → statement M
 number-spec =
     tie.close
@@ -225,6 +232,7 @@ number-spec =
     enum-told-25
     enum-told-26
     enum-told-27
+    enum-told-28
     returns
     returns-2
     returns-3
@@ -251,4 +259,5 @@ number-spec =
     returns-24
     returns-25
     returns-26
-    returns-27)
+    returns-27
+    returns-28)

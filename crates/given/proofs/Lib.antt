@@ -1,0 +1,3 @@
+-- A number as it is written, and that a line is answered as it was.
+pub mod AsWritten
+mod FirstByte

@@ -1,0 +1,2 @@
+-- A number as it is written.
+pub mod Written

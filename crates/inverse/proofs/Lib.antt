@@ -1,0 +1,2 @@
+-- Laws behind the proofs of the functions.
+pub mod Trying

@@ -1,0 +1,2 @@
+-- What is said of a question, and how it ends.
+pub mod Saying
