@@ -22,11 +22,11 @@ extern "C" {
 
 /* The version of this header and of the library beside it. MAJOR is the number in the shared library's name: it grows when
  * a call changes, so that a program never meets a library with other calls than it was compiled for. MINOR grows when a
- * call is new, or a rule changes, so that some file or pixel is answered otherwise. */
+ * call is new, or a rule changes, so that some file or pixel is answered otherwise. PATCH grows when no answer changes. */
 #define ERYTHMODA_VERSION_MAJOR 1
 #define ERYTHMODA_VERSION_MINOR 4
-#define ERYTHMODA_VERSION_PATCH 0
-#define ERYTHMODA_VERSION "1.4.0"
+#define ERYTHMODA_VERSION_PATCH 1
+#define ERYTHMODA_VERSION "1.4.1"
 
 /* What a table is, in eleven numbers:
  *

@@ -1,5 +1,5 @@
 -- What the reader's state keeps, kept by each thing that it takes in.
-use Prim.Native.Nat.{_+_}
+use Prim.Native.Nat.{ℕ}
 use mathlib.Core.Path.{_≡_, refl, sym, subst}
 use mathlib.Core.Bool.{Bool, Bool·beq, true, false, true≢false}
 use native.Mathlib.Omega.{arith}
@@ -11,7 +11,7 @@ use Rattle.rules.specs.declared.Size.{Size}
 use Rattle.rules.specs.declared.Title.{Title}
 use Rattle.rules.proofs.Tests.{both-and}
 use Rattle.rules.proofs.Sound.{within-bounds}
-use Rattle.reading.specs.View.{view, marked, BoundsWithin, Fit, RowWelcome}
+use Rattle.reading.specs.View.{view, marked, BoundsWithin, Fit, RowsWelcome, counting}
 use Rattle.reading.specs.declared.state.State.{State}
 
 -- nothing given
@@ -81,8 +81,8 @@ module _ {st : State} (f : Fit st) where
     few = f .few;
   }
 
-  pub fit-row : RowWelcome st → Fit (record { titled = st .titled; title = st .title; lowered = st .lowered; lower = st .lower; raised = st .raised; upper = st .upper; sized = st .sized; size = st .size; rows = st .rows + 1 })
-  fit-row w = record {
+  pub fit-rows : (more : ℕ) → RowsWelcome st more → Fit (counting st more)
+  fit-rows more w = record {
     no-title = f .no-title;
     no-lower = f .no-lower;
     no-upper = f .no-upper;
@@ -90,8 +90,8 @@ module _ {st : State} (f : Fit st) where
     lower-within = f .lower-within;
     upper-within = f .upper-within;
     size-within = f .size-within;
-    after-size = λ e. w .sized-so;
-    few = omega (arith, w .room);
+    after-size = w .sized-so;
+    few = w .room;
   }
 
   -- the fields are what the rules read from the view

@@ -1,14 +1,11 @@
 -- The samples of a line: the three numbers of a data line's row, and none of a line of any other form.
-use Prim.Native.Nat.{ℕ, suc, _+_, _≤_}
+use Prim.Native.Nat.{ℕ}
 use mathlib.Core.Path.{_≡_, refl, sym, ap, subst, _∙_}
 use mathlib.Core.Logic.{⊎-elim}
 use mathlib.Core.List.{List, [], _∷_, append-nil, flatten, map}
 use native.Mathlib.Omega.{arith}
-use lib.IntN.{ℤ}
-use lib.ListN.{length, set}
 use denote.Enum.Declared.{tagOf}
 use types.Run.{OneOf}
-use Rattle.rules.specs.Memory.{spliced}
 use Rattle.rules.specs.Reading.Lines.{wordsOf}
 use Rattle.rules.specs.Reading.Items.{numbersOf, rowIn}
 use Rattle.rules.specs.Reading.Grammar.{Line, gather, put}
@@ -21,7 +18,6 @@ use Rattle.rules.specs.declared.Item.the-variants.{Nothing, OfTitle, OfLower, O
 use Rattle.rules.specs.declared.Refusal.{Refusal}
 use Rattle.rules.specs.declared.Row.{Row}
 use Rattle.rules.proofs.Form.{the-type}
-use Rattle.rules.proofs.Memory.{stores-splice}
 use Rattle.rules.proofs.Reading.Acceptance.{lines-samples}
 use Rattle.rules.proofs.Reading.OneLine.{found}
 use Rattle.rules.proofs.Reading.Order.{formFor}
@@ -29,8 +25,6 @@ use Rattle.content.specs.Found.{sayRow}
 use Rattle.content.specs.declared.RowFound.{RowFound}
 use Rattle.content.specs.declared.RowFound.the-variants.{ARow, NoRow}
 use Rattle.reading.specs.Tables.{LineKeeps}
-
--- ---- what the samples are
 
 -- a form that is not data, as the code's branch knows it: of any variant but the third
 abbrev pub NoData : Form → Type 0
@@ -40,6 +34,10 @@ NoData f = OneOf (0 ∷ 1 ∷ 3 ∷ []) (tagOf the-type f)
 item-samples : (p : ℕ) (l : List ℕ) (i : Item) → Line p l i → samplesIn (contentOf 0 l) ≡ flatten (map numbersOf (put (rowIn i) []))
 unfolding samplesOf gather
 item-samples p l i h = sym (append-nil (samplesIn (contentOf 0 l))) ∙ lines-samples p (l ∷ []) (i ∷ []) (h, tt)
+
+pub plain-samples : (l : List ℕ) (r : Row) → Line 0 l (OfRow r) → samplesIn (contentOf 0 l) ≡ numbersOf r
+unfolding flatten
+plain-samples l r h = item-samples 0 l (OfRow r) h
 
 no-row : (i : Item) → NoData (formFor i) → flatten (map numbersOf (put (rowIn i) [])) ≡ []
 unfolding flatten
@@ -66,13 +64,3 @@ module _ (l : List ℕ) (answer : RowFound) (data-line : formOf l ≡ Data) (say
   pub wrong-samples : (r : Refusal) → answer ≡ NoRow r → samplesIn (contentOf 0 l) ≡ []
   unfolding samplesIn
   wrong-samples r e = data-samples ∙ ap (λ (a : RowFound). samplesIn (sayRow a)) e
-
--- ---- how they are written
-
--- three stores one after the other
-pub three-written : (table : List ℤ) (at : ℕ) (x y z : ℤ) → at + 3 ≤ length table
-    → set (set (set table at x) (at + 1) y) (at + 2) z ≡ spliced table at (x ∷ y ∷ z ∷ [])
-three-written table at x y z h =
-    let one : at + 1 ≡ suc at = omega arith in
-    let two : at + 2 ≡ suc (suc at) = omega arith in
-    rw (one, two) (stores-splice table at (x ∷ y ∷ z ∷ []) h)

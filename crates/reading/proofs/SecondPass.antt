@@ -1,8 +1,10 @@
 -- The loop of the second pass in the rules' terms: the samples of the lines before the cursor stand in the table from its start on, later
--- places are as they were, and the lines from the cursor on keep the rules. How that begins, goes on past a line, and ends.
-use Prim.Native.Nat.{ℕ, _+_, _-_, _*_, _≤_}
+-- places are as they were, and the lines from the cursor on keep the rules. How that begins, goes on past a line, and ends;
+-- and how it goes on past a run of plain rows.
+use Prim.Native.Nat.{ℕ, suc, _+_, _-_, _*_, _≤_}
 use mathlib.Core.Path.{_≡_, refl, sym, ap, ap₂, subst, _∙_}
-use mathlib.Core.List.{List, [], _∷_, _++_, append-assoc, append-nil}
+use mathlib.Core.List.{List, [], _∷_, _++_, append-assoc, append-nil, map, flatten}
+use native.Mathlib.Nat.{add-zero}
 use native.Mathlib.Omega.{arith}
 use lib.IntN.{ℤ}
 use lib.ListN.{length, drop, take, length-append}
@@ -11,14 +13,21 @@ use Rattle.rules.specs.Descriptions.{rows}
 use Rattle.rules.specs.Reading.Lines.{linesOf}
 use Rattle.rules.specs.Reading.Contents.{contentOf}
 use Rattle.rules.specs.Reading.Grammar.{Keeps, Lines}
+use Rattle.rules.specs.Reading.Items.{numbersOf}
 use Rattle.rules.specs.Reading.{samplesIn, samplesOf}
 use Rattle.rules.specs.declared.Item.{Item}
+use Rattle.rules.specs.declared.Row.{Row}
 use Rattle.rules.proofs.Memory.{splice-none, splice-length, splice-both}
 use Rattle.rules.proofs.Reading.Acceptance.{accepted-keeps, keeps-length}
 use Rattle.text.specs.LinesFrom.{linesFrom}
 use Rattle.text.specs.declared.cursor.Cursor.{Cursor}
 use Rattle.text.proofs.Standing.{Standing, Beginning, LineFound, EndFound, step-first}
+use Rattle.plain.specs.Shapes.{RowsAt, Put}
+use Rattle.plain.specs.declared.rows.Run.{Run}
 use Rattle.reading.specs.Tables.{LineKeeps, Accepts}
+use Rattle.reading.specs.Runs.{past}
+use Rattle.reading.proofs.LineSamples.{plain-samples}
+use Rattle.reading.proofs.PlainRows.{row-found}
 
 -- every line keeps the rules by itself
 abbrev EachKeeps : List (List ℕ) → Type 0
@@ -77,6 +86,9 @@ module _ {file : List ℕ} {old table : List ℤ} {c : Cursor} {at : ℕ} (f : F
   pub same-length : length table ≡ length old
   same-length = ap length (f .so-far) ∙ splice-length old 0 (f .done) done-fits
 
+  pub place-within : at ≤ length table
+  place-within = omega (arith, f .place, done-fits, same-length)
+
   module _ {from to line : ℕ} {next : Cursor} (found : LineFound file c from to line next) where
     abbrev text : List ℕ
     text = take (to - from) (drop from file)
@@ -115,3 +127,25 @@ module _ {file : List ℕ} {old table : List ℤ} {c : Cursor} {at : ℕ} (f : F
   pub ends : EndFound file c → table ≡ spliced old 0 samples
   unfolding samplesOf
   ends e = f .so-far ∙ ap (spliced old 0) (sym (f .all ∙ ap (λ ls. f .done ++ samplesOf ls) (e .lines) ∙ append-nil (f .done)))
+
+-- ---- past a run of plain rows: their samples are put from the place on, and the cursor is so many lines on
+
+module _ {file : List ℕ} {old : List ℤ} where
+  rows-on : (rs : List Row) (to : ℕ) {table : List ℤ} {c : Cursor} {at : ℕ} → Filled file old table c at → RowsAt file (c .at) rs to
+      → Filled file old (spliced table at (flatten (map numbersOf rs))) (past c (record { rows = length rs; at = to })) (at + 3 * length rs)
+  unfolding flatten
+  rows-on [] to {table} {c} {at} f e = rw splice-none (simp (add-zero, e) f)
+  rows-on (r ∷ rs) to {table} {c} {at} f (end, row, more) =
+      let line-found = row-found (f .standing) row in
+      let samples = plain-samples _ r (row .line 0) in
+      let three : at + length (numbersOf r) ≤ length table = rw samples at (fits f line-found) in
+      let first-on = goes-on f line-found (spliced table at (numbersOf r)) (at + 3) (rw samples refl) (rw samples refl) in
+      let all-on = rows-on rs to first-on more in
+      let both = splice-both table at (numbersOf r) (flatten (map numbersOf rs)) three in
+      let place : at + 3 + 3 * length rs ≡ at + 3 * suc (length rs) = omega arith in
+      let line : c .line + 1 + length rs ≡ c .line + suc (length rs) = omega arith in
+      rw (both, place, line) at all-on
+
+  pub run-on : {table table′ : List ℤ} {c : Cursor} {at most : ℕ} {run : Run} → Filled file old table c at → Put file (c .at) most run table at table′
+      → Filled file old table′ (past c run) (at + 3 * run .rows)
+  run-on {run = run} f p = rw (p .table, p .passed .counted) (rows-on (p .passed .rows) (run .at) f (p .passed .there))

@@ -22,7 +22,7 @@ use Rattle.rules.proofs.Reading.OneLine.{find, found}
 use Rattle.rules.proofs.Reading.Order.{formFor}
 use Rattle.rules.proofs.Sound.{range-rows-most}
 use Rattle.rules.proofs.Tests.{need-none, first-none}
-use Rattle.reading.specs.View.{view, BoundsWithin, Fit, RowWelcome, Welcome}
+use Rattle.reading.specs.View.{view, BoundsWithin, Fit, RowsWelcome, Welcome}
 use Rattle.reading.specs.declared.state.State.{State}
 use Rattle.reading.proofs.Sized.{head-sized, head-in-range, rows-described}
 
@@ -31,14 +31,14 @@ line-within : {k : Keyword} {l : List ℕ} {b : Bounds} → BoundsLine k l b →
 line-within h = let n = h .numbers in record { red = n .red .within; green = n .green .within; blue = n .blue .within }
 
 -- a data line with no fault in its place: there is a size, and the rows so far are fewer than it has
-row-welcome : (places : ℕ) {st : State} → Fit st → orderFault places (view st) Data ≡ none → RowWelcome st
+row-welcome : (places : ℕ) {st : State} → Fit st → orderFault places (view st) Data ≡ none → RowsWelcome st 1
 unfolding orderFault
 row-welcome places {st} f h =
     let (head, count) = first-none _ _ h in
     let s = st .size in
     let fewer = ltb-true (st .rows) (rows (describe (view st))) (need-none _ _ _ count .0) in
     record {
-      sized-so = head-sized f places head;
+      sized-so = λ _. head-sized f places head;
       room = omega (arith, fewer, rows-described f, range-rows-most (s .kind) (s .n) (head-in-range f places head));
     }
 

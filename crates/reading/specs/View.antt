@@ -1,10 +1,11 @@
 -- The reader's state as the rules' state, and what it keeps.
-use Prim.Native.Nat.{_≤_, _<_}
+use Prim.Native.Nat.{ℕ, _+_, _-_, _≤_, _<_}
 use mathlib.Core.Path.{_≡_}
 use mathlib.Core.Bool.{Bool, true, false, cond}
 use mathlib.Core.Option.{Option, none, some}
+use lib.Dec.{eqb}
 use lib.IntN.{natAbs}
-use Rattle.rules.specs.Units.{boundLimit, inRange, rowLimit}
+use Rattle.rules.specs.Units.{boundLimit, inRange, rowLimit, rowsOf}
 use Rattle.rules.specs.Descriptions.{lowest, highest, noTitle}
 use Rattle.rules.specs.Reading.Judge.{noSize, State as Given}
 use Rattle.rules.specs.declared.Bounds.{Bounds}
@@ -43,10 +44,28 @@ pub record Fit (st : State) : Type 0 where
   pub after-size : 0 < st .rows → st .sized ≡ true
   pub few : st .rows ≤ rowLimit
 
--- a row may be counted: there is a size, and room for one more
-pub record RowWelcome (st : State) : Type 0 where
-  pub sized-so : st .sized ≡ true
-  pub room : st .rows < rowLimit
+-- how many rows may still come, once a first one was there; before that none are counted
+abbrev pub left : State → ℕ
+left st = cond (eqb (st .rows) 0) 0 (rowsOf (st .size .kind) (st .size .n) - st .rows)
+
+-- so many data lines more, and all else as it was
+abbrev pub counting : State → ℕ → State
+counting st more = record {
+  titled = st .titled;
+  title = st .title;
+  lowered = st .lowered;
+  lower = st .lower;
+  raised = st .raised;
+  upper = st .upper;
+  sized = st .sized;
+  size = st .size;
+  rows = st .rows + more;
+}
+
+-- so many rows more may be counted: there is a size, and room for them
+pub record RowsWelcome (st : State) (more : ℕ) : Type 0 where
+  pub sized-so : 0 < st .rows + more → st .sized ≡ true
+  pub room : st .rows + more ≤ rowLimit
 
 -- an item that the state can take in: within the limits, and a row only where one may be counted
 abbrev pub Welcome : State → Item → Type 0
@@ -55,4 +74,4 @@ Welcome st (OfTitle t) = Unit {0}
 Welcome st (OfLower b) = BoundsWithin b
 Welcome st (OfUpper b) = BoundsWithin b
 Welcome st (OfSize s) = inRange (s .kind) (s .n) ≡ true
-Welcome st (OfRow r) = RowWelcome st
+Welcome st (OfRow r) = RowsWelcome st 1

@@ -2,6 +2,7 @@
 mod checks;
 mod first_pass;
 mod lines;
+mod runs;
 mod second_pass;
 mod state;
 

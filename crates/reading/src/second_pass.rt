@@ -1,6 +1,11 @@
 // The second pass: the samples of an accepted file into the table. Nothing is refused here any more.
+use crate::runs::Pause;
+use crate::runs::cursor_past;
+use crate::runs::pause_after;
+use crate::runs::unless_paused;
 use content::RowFound;
 use content::row_on;
+use plain::fill_rows;
 use rules::Form;
 use text::Cursor;
 use text::Step;
@@ -43,7 +48,14 @@ pub fn fill(file: &[u8], table: &mut [i64])
 {
     let mut c = Cursor::new();
     let mut at = 0;
+    let mut pause = Pause { left: 0, last: 0 };
     loop {
+        let most = (table.len() - at) / 3;
+        let run = fill_rows(file, c.at, unless_paused(pause, most), &mut *table, at);
+        let rows = run.rows;
+        pause = pause_after(pause, rows);
+        at = at + 3 * rows;
+        c = cursor_past(c, run);
         let Step::Line {
             start,
             end,

@@ -1,11 +1,11 @@
 // What the lines so far have given: a state by value, with one method for each keyword.
+use judge::count_rows;
 use rules::Bounds;
 use rules::Description;
 use rules::Domain;
 use rules::Item;
 use rules::Keyword;
 use rules::Kind;
-use rules::Row;
 use rules::Size;
 use rules::Thousandths;
 use rules::Title;
@@ -14,8 +14,8 @@ ghost use mathlib.Core.Bool.{true};
 ghost use Rattle.rules.specs.Units.{inRange};
 ghost use Rattle.rules.specs.Descriptions.{alike};
 ghost use Rattle.rules.specs.Reading.Judge.{start, add, describe, repeats};
-ghost use Rattle.rules.specs.declared.Item.the-variants.{OfTitle, OfLower, OfUpper, OfSize, OfRow};
-ghost use Rattle.reading.specs.View.{view, BoundsWithin, Fit, RowWelcome, Welcome};
+ghost use Rattle.rules.specs.declared.Item.the-variants.{OfTitle, OfLower, OfUpper, OfSize};
+ghost use Rattle.reading.specs.View.{view, BoundsWithin, Fit, RowsWelcome, Welcome, counting, left};
 
 // What was given, the defaults of what was not, and how many data lines there were.
 pub struct State {
@@ -121,15 +121,33 @@ impl State {
         next
     }
 
-    // One data line more.
-    fn with_row(self, row: Row) -> State
+    // How many rows may still come, once a first one was there; before that none are counted.
+    pub fn left(self) -> usize
         requires { ⌜ Fit self ⌝ }
-        requires { ⌜ RowWelcome self ⌝ }
-        ensures added { λ r. ⌜ view r ≡ add (view self) (OfRow row) ⌝ }
+        ensures { λ r. ⌜ r ≡ left self ⌝ }
+    {
+        let rows = self.rows;
+        if rows == 0 {
+            return 0;
+        }
+        let size = self.size;
+        let kind = size.kind;
+        let all = count_rows(kind, size.n);
+        if all < rows {
+            return 0;
+        }
+        all - rows
+    }
+
+    // So many data lines more.
+    pub fn with_rows(self, more: usize) -> State
+        requires { ⌜ Fit self ⌝ }
+        requires { ⌜ RowsWelcome self more ⌝ }
+        ensures added { λ r. ⌜ view r ≡ view (counting self more) ⌝ }
         ensures fit { λ r. ⌜ Fit r ⌝ }
     {
         let mut next = self;
-        next.rows = self.rows + 1;
+        next.rows = self.rows + more;
         next
     }
 
@@ -146,7 +164,7 @@ impl State {
             Item::OfLower(lower) => self.with_lower(lower),
             Item::OfUpper(upper) => self.with_upper(upper),
             Item::OfSize(size) => self.with_size(size),
-            Item::OfRow(row) => self.with_row(row),
+            Item::OfRow(_) => self.with_rows(1),
         }
     }
 

@@ -1,6 +1,6 @@
 -- The laws of lent memory with some places replaced: what stands before, in and after them, and that replacing piece by piece, or store by
 -- store, is replacing all at once.
-use Prim.Native.Nat.{ℕ, _+_, _≤_, _<_}
+use Prim.Native.Nat.{ℕ, suc, _+_, _≤_, _<_}
 use mathlib.Core.Path.{_≡_, sym, ap, ap₂, _∙_}
 use mathlib.Core.List.{List, [], _∷_, _++_, append-assoc}
 use native.Mathlib.Nat.{add-zero}
@@ -72,6 +72,13 @@ module _ {A : Type 0} where
   -- some stores in a row
   pub stores-splice : (old : List A) (at : ℕ) (new : List A) → at + length new ≤ length old → sets old at new ≡ spliced old at new
   stores-splice old at new fits = sets-eq new old at fits ∙ append-assoc (take at old) new _
+
+  -- three stores one after the other
+  pub three-written : (old : List A) (at : ℕ) (x y z : A) → at + 3 ≤ length old → set (set (set old at x) (at + 1) y) (at + 2) z ≡ spliced old at (x ∷ y ∷ z ∷ [])
+  three-written old at x y z h =
+      let one : at + 1 ≡ suc at = omega arith in
+      let two : at + 2 ≡ suc (suc at) = omega arith in
+      rw (one, two) (stores-splice old at (x ∷ y ∷ z ∷ []) h)
 
   -- a turn of a loop that copies: one more of the values that are to stand there
   pub splice-more : (old : List A) (at : ℕ) (new : List A) (i : ℕ) (d : A) → at + i < length old → i < length new

@@ -20,19 +20,19 @@ pub enum ByteKind {
 fn is_permitted(b: u8) -> bool
     ensures { λ r. ⌜ r ≡ permitted b ⌝ }
 {
-    if b == b'\t' {
-        return true;
-    }
     if b < b' ' {
-        return false;
+        return b == b'\t';
     }
     b <= b'~'
 }
 
-// Space or tab.
+// Space or tab: most bytes are past both, and one test is enough for them.
 fn is_blank(b: u8) -> bool
     ensures { λ r. ⌜ r ≡ blank b ⌝ }
 {
+    if b > b' ' {
+        return false;
+    }
     if b == b' ' {
         return true;
     }
@@ -40,7 +40,7 @@ fn is_blank(b: u8) -> bool
 }
 
 // 0 to 9.
-fn is_digit(b: u8) -> bool
+pub fn is_digit(b: u8) -> bool
     ensures { λ r. ⌜ r ≡ digit b ⌝ }
 {
     if b < b'0' {

@@ -11,13 +11,13 @@ use lib.Dec.{leb, ltb, eqb}
 use lib.IntN.{ℤ, pos, negsuc, negℤ, natAbs, _*ℤ_, pos-*ℤ-pos, pos-*ℤ-negsuc}
 use lib.ListN.{length, getD, length-append, List·getD-append}
 use Rattle.rules.specs.Decimals.{digitByte, decimalIn, decimal, sign, placesOf, afterPoint, decimalsOf}
-use Rattle.rules.specs.Reading.Lines.{bytes, digit, every, starts}
+use Rattle.rules.specs.Reading.Lines.{bytes, digit, every}
 use Rattle.rules.specs.Reading.Numerals.{Exact, Mantissa, Numeral, Sign, Spells, absent, digits, minus, over, plain, pointed, signed, spell, under, unwritten}
 use Rattle.rules.specs.Reading.Numbers.{numberOf}
 use Rattle.rules.specs.declared.Number.the-variants.{Value}
-use Rattle.rules.proofs.Tests.{and-both, both-and}
+use Rattle.rules.proofs.Tests.{both-and}
 use Rattle.rules.proofs.Decimals.{no-places, one-place, no-fraction, some-fraction}
-use Rattle.rules.proofs.Reading.Numbers.{of-exact, spell-append, digits-more}
+use Rattle.rules.proofs.Reading.Numbers.{of-exact, spell-append, digits-more, first-digit}
 use Rattle.rules.proofs.Reading.Runs.{every-append}
 
 -- ---- the digits are those of the number
@@ -60,11 +60,6 @@ unfolding decimal
 decimal-leads n p = leads-in n n (omega arith) p .1
 
 -- ---- every byte but the sign and the point is a digit
-
-pub first-digit : (l : List ℕ) → 0 < length l → every digit l ≡ true → digits l ≡ true
-unfolding every starts digits
-first-digit [] h p = absurd (omega arith)
-first-digit (b ∷ l) h p = both-and (digit b) (every digit (b ∷ l)) (and-both (digit b) (every digit l) p .0) p
 
 digit-byte : (d : ℕ) → d < 10 → digit (digitByte d) ≡ true
 digit-byte d h = both-and (leb 48 (48 + d)) (leb (48 + d) 57) (le-leb 48 (48 + d) (omega arith)) (le-leb (48 + d) 57 (omega arith))

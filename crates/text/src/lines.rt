@@ -7,6 +7,7 @@ use crate::words::next_word;
 use rules::Form;
 use rules::Refusal;
 use scan::ByteKind;
+use scan::is_number_byte;
 ghost use mathlib.Core.Path.{_≡_};
 ghost use mathlib.Core.List.{[], _∷_};
 ghost use Rattle.rules.specs.Reading.Lines.{numberByte, starts};
@@ -45,6 +46,10 @@ pub fn form_of(l: &[u8]) -> Form
     if l[0] == b'#' {
         return Form::Idle;
     }
+    // most data lines show it by their first byte
+    if is_number_byte(l[0]) {
+        return Form::Data;
+    }
     let Word::At { start, end } = next_word(l, 0) else {
         return Form::Neither;
     };
@@ -71,5 +76,5 @@ fn starts_number(w: &[u8]) -> bool
     if w.len() == 0 {
         return false;
     }
-    scan::is_number_byte(w[0])
+    is_number_byte(w[0])
 }

@@ -3,11 +3,12 @@
 //! docs/baseline/README.md tells the method.
 
 mod library;
+mod rows;
 
 use baseline::inverse::Aim;
 use baseline::picture::Bits;
 use baseline::{Description, Domains, Kind};
-use std::fmt::Write;
+use rows::{Rows, OTHERS, SEVEN_DECIMALS};
 use std::hint::black_box;
 use std::process::ExitCode;
 use std::time::Instant;
@@ -16,7 +17,8 @@ const PIXELS: usize = 20_000;
 const PICTURE_ROUNDS: usize = 201;
 const INVERSE_ROUNDS: usize = 101;
 const FILE_ROUNDS: usize = 21;
-const READING_N: usize = 65;
+/// Of a file of 500 MB.
+const LONG_ROUNDS: usize = 5;
 
 /// Depths of raw and of corrected codes.
 const EQUAL: &[Bits] = &[Bits { raw: 8, corrected: 8 }, Bits { raw: 16, corrected: 16 }];
@@ -50,7 +52,19 @@ fn main() -> ExitCode {
             alike &= inverses(&Description { kind: Kind::OneD, n, domains: ONE }, bits);
         }
     }
-    alike &= reading();
+    println!(
+        "\nreading files, medians of {FILE_ROUNDS} rounds, of 3D with N = 256 of {LONG_ROUNDS}"
+    );
+    println!("kind\tN\tnumbers\tbytes\tours, MB/s\tbaseline, MB/s\tratio of times");
+    let cube = Description { kind: Kind::ThreeD, n: 65, domains: ONE };
+    alike &= reading(&Description { n: 33, ..cube }, &SEVEN_DECIMALS, FILE_ROUNDS);
+    alike &= reading(&cube, &SEVEN_DECIMALS, FILE_ROUNDS);
+    alike &= reading(&Description { n: 256, ..cube }, &SEVEN_DECIMALS, LONG_ROUNDS);
+    let line = Description { kind: Kind::OneD, n: 65_536, domains: ONE };
+    alike &= reading(&line, &SEVEN_DECIMALS, FILE_ROUNDS);
+    for rows in &OTHERS {
+        alike &= reading(&cube, rows, FILE_ROUNDS);
+    }
     println!("\nwriting files, seven decimals, medians of {FILE_ROUNDS} rounds");
     println!("kind\tN\tbytes\tours, MB/s\tbaseline, MB/s\tratio of times");
     for (kind, n) in [(Kind::ThreeD, 65), (Kind::OneD, 65_536)] {
@@ -166,27 +180,24 @@ fn shown(bits: Bits) -> String {
     }
 }
 
-/// The line of reading; whether the two gave the same table.
-fn reading() -> bool {
+/// One line of the table of reading; whether the two gave the same table.
+fn reading(description: &Description, rows: &Rows, rounds: usize) -> bool {
     let mut draws = Draws(2);
-    let rows = READING_N.pow(3);
-    let mut file = format!("LUT_3D_SIZE {READING_N}\n");
-    for _ in 0..rows {
-        let [red, green, blue] = [0; 3].map(|_| draws.below(10_000_000));
-        let _ = writeln!(file, "0.{red:07} 0.{green:07} 0.{blue:07}");
+    let (kind, n) = (kind_shown(description), description.n);
+    let mut file = format!("LUT_{kind}_SIZE {n}\n");
+    for _ in 0..description.rows() {
+        rows.put(&mut file, &mut draws);
     }
-    let (mut ours, mut plain) = (vec![0; 3 * rows], vec![0; 3 * rows]);
+    let places = 3 * description.rows();
+    let (mut ours, mut plain) = (vec![0; places], vec![0; places]);
     let (mut number, mut accepted) = (0, false);
     let (our_time, plain_time) = medians(
-        FILE_ROUNDS,
+        rounds,
         || number = library::read(file.as_bytes(), &mut ours),
         || accepted = baseline::reading::read(file.as_bytes(), &mut plain).is_ok(),
     );
-    let bytes = file.len();
-    println!("\nreading a 3D file, N = {READING_N}, seven decimals, {bytes} bytes");
-    println!("medians of {FILE_ROUNDS} rounds");
-    println!("ours, MB/s\tbaseline, MB/s\tratio of times");
-    println!("{}", speeds(bytes, our_time, plain_time));
+    let (numbers, bytes) = (rows.name, file.len());
+    println!("{kind}\t{n}\t{numbers}\t{bytes}\t{}", speeds(bytes, our_time, plain_time));
     number == 0 && accepted && ours == plain
 }
 

@@ -8,6 +8,7 @@ pub mod draws;
 pub mod files;
 pub mod inverses;
 pub mod lookups;
+pub mod plain;
 pub mod shares;
 pub mod words;
 pub mod writes;

@@ -8,11 +8,12 @@ use crate::halves::{denominator, used, Codes, Rows};
 use crate::inverse::{colour, Aim, Inverse};
 use crate::look::{look, Cube, Look};
 use crate::met::inverses::{inverses_met, INVERSES_GROUPS};
+use crate::met::plain::{plain_met, PLAIN_GROUPS};
 use crate::met::shares::{codes_met, rows_met, CODES_GROUPS, ROWS_GROUPS};
 use crate::met::writes::{writes_met, GROUPS};
 use crate::met::{bound_of_12_met, bound_of_24_met, domains_met};
 use crate::met::{depth_refusals_met, halves_met, met, order_met, pair_met, points_met};
-use crate::met::{inverses, shares, writes};
+use crate::met::{inverses, plain, shares, writes};
 use crate::met::{is_mixed, mixed_met, shapes_met, widths_met};
 use crate::met::{BOUNDS, DEPTH_REFUSALS, DEPTH_REFUSALS_OF_LOOK, DIVIDED, DOMAINS, HALVES};
 use crate::met::{JUDGED, MIXED, NAMES, ORDERS, PAIRS, POINTS, SHAPES, WIDTHS};
@@ -87,6 +88,7 @@ pub struct Counts {
     halves: [[u64; HALVES.len()]; JUDGED.len()],
     domains: [u64; DOMAINS.len()],
     bound_of_12: [u64; BOUNDS.len()],
+    plain: [[u64; plain::MOST_NAMES]; PLAIN_GROUPS.len()],
     accepted: Accepted,
     accepted_mixed: Accepted,
     mixed: [u64; MIXED.len()],
@@ -158,6 +160,7 @@ impl Counts {
         }
         met.push(("files met in 3D".to_string(), &DOMAINS, &self.domains));
         met.push(("files refused with 12 by one bound".to_string(), &BOUNDS, &self.bound_of_12));
+        met.extend(grouped(&PLAIN_GROUPS, &self.plain));
         met
     }
 
@@ -185,6 +188,9 @@ impl Counts {
         }
         add_met(&mut self.domains, &domains_met(case, answer));
         add_met(&mut self.bound_of_12, &bound_of_12_met(case, answer));
+        for (counts, met) in self.plain.iter_mut().zip(plain_met(case, answer)) {
+            add_met(counts, &met);
+        }
     }
 
     fn note_look(&mut self, case: &LookCase, answer: &Look) {
@@ -809,6 +815,7 @@ fn two<T>(own: Result<T, String>, other: Result<T, String>, show: impl Fn(&T) ->
 #[cfg(test)]
 mod tests {
     use super::*;
+    use crate::met::plain::{after_first_row, is_plain_row, After};
     use crate::paper::{BOUND_UNITS, LONGEST_TITLE};
     use crate::writing::is_plain;
 
@@ -858,7 +865,8 @@ mod tests {
         said("looks refused", &DEPTH_REFUSALS[..DEPTH_REFUSALS_OF_LOOK]);
         said("pictures refused", &DEPTH_REFUSALS);
         let halves = ROWS_GROUPS.iter().chain(&CODES_GROUPS);
-        for (title, names) in GROUPS.iter().chain(halves).chain(&INVERSES_GROUPS) {
+        let groups = GROUPS.iter().chain(halves).chain(&INVERSES_GROUPS).chain(&PLAIN_GROUPS);
+        for (title, names) in groups {
             said(title, names);
         }
         for number in ["rows 23", "codes 20", "codes 24", "codes 26", "inverse 24", "inverse 28"] {
@@ -1095,6 +1103,94 @@ mod tests {
             description[at] / BOUND_UNITS * BOUND_UNITS
         } else {
             description[at]
+        }
+    }
+
+    /// A side that takes each line after the first data line for another.
+    fn other_lines(taken: impl Fn(&[After], usize) -> Vec<u8> + 'static) -> Mistaken {
+        Mistaken {
+            read: Box::new(move |case| {
+                let after = after_first_row(case);
+                let head = case.file.len() - after.first().map_or(0, |line| line.left);
+                let texts: Vec<Vec<u8>> = (0..after.len()).map(|at| taken(&after, at)).collect();
+                let file = [&case.file[..head], &texts.join(&b'\n')].concat();
+                Second.read(&FileCase { file, ..case.clone() })
+            }),
+            ..Mistaken::default()
+        }
+    }
+
+    /// A line with bytes for others.
+    fn exchanged(line: &[u8], from: &str, to: &str) -> Vec<u8> {
+        std::str::from_utf8(line).map_or(Vec::new(), |text| text.replace(from, to).into_bytes())
+    }
+
+    /// A line with each of its words as far as it is taken.
+    fn word_by_word(line: &[u8], taken: fn(&[u8]) -> &[u8]) -> Vec<u8> {
+        line.split(|byte| *byte == b' ').map(taken).collect::<Vec<_>>().join(&b' ')
+    }
+
+    type FoundRow = fn(&[u8]) -> Vec<u8>;
+    type IsOther = fn(&[After], usize) -> bool;
+
+    #[test]
+    fn other_plain_rows_are_found() {
+        // where a plain row is looked for and there is none, this one is found
+        let as_rows: [FoundRow; 10] = [
+            // a number ends after three whole digits, or after seven decimals
+            |line| {
+                word_by_word(line, |word| match word.iter().all(u8::is_ascii_digit) {
+                    true => &word[..word.len().min(3)],
+                    false => word,
+                })
+            },
+            |line| {
+                word_by_word(line, |word| {
+                    let point = word.iter().position(|byte| *byte == b'.').unwrap_or(word.len());
+                    &word[..word.len().min(point + 8)]
+                })
+            },
+            // the bytes beside the digits are digits
+            |line| exchanged(line, "/", "0"),
+            |line| exchanged(line, ":", "9"),
+            // a point, or a minus, is a number by itself
+            |line| word_by_word(line, |word| if word == b"." { b"0" } else { word }),
+            |line| word_by_word(line, |word| if word == b"-" { b"0" } else { word }),
+            // a carriage return is no byte, or a blank
+            |line| exchanged(line, "\r", ""),
+            |line| exchanged(line, "\r", " "),
+            // a row ends with its third number, whatever is behind it
+            |line| line.split(|byte| *byte == b' ').take(3).collect::<Vec<_>>().join(&b' '),
+            |line| line[..line.len().saturating_sub(1)].to_vec(),
+        ];
+        let sides = as_rows.map(|row| {
+            other_lines(move |lines, at| {
+                let (line, row) = (&lines[at], row(lines[at].text));
+                match line.looked_at && !line.is_row && is_plain_row(&row) {
+                    true => row,
+                    false => line.text.to_vec(),
+                }
+            })
+        });
+        // these lines are others
+        let as_others: [(&str, IsOther); 4] = [
+            // a row is looked for where none is to come
+            ("", |lines, at| lines[at].is_row && lines[at].to_come == 0 && lines[at].left >= 39),
+            // a last row without its newline is none, or what is there of one is a row
+            ("", |lines, at| at + 1 == lines.len() && is_plain_row(lines[at].text)),
+            ("0 0 0", |lines, at| at + 1 == lines.len() && lines[at].text.starts_with(b"-")),
+            // the line where rows are looked for again is passed over
+            ("", |lines, at| at > 0 && lines[at].looked_at && !lines[at - 1].looked_at),
+        ];
+        let others = as_others.map(|(text, is_other)| {
+            other_lines(move |lines, at| match is_other(lines, at) {
+                true => text.into(),
+                false => lines[at].text.to_vec(),
+            })
+        });
+        for (at, side) in sides.iter().chain(&others).enumerate() {
+            let told = found(Wanted { tables: 10_000, ..Wanted::default() }, side);
+            assert!(told.contains("read, made by"), "mistake {at}");
         }
     }
 

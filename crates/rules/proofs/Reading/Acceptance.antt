@@ -168,7 +168,7 @@ module _ (file : List ℕ) (places : ℕ) where
 
 -- ---- three numbers a row
 
-samples-length : (rs : List Row) → length (flatten (map numbersOf rs)) ≡ 3 * length rs
+pub samples-length : (rs : List Row) → length (flatten (map numbersOf rs)) ≡ 3 * length rs
 unfolding flatten
 samples-length [] = refl
 samples-length (r ∷ rs) = omega (arith, samples-length rs)

@@ -1,5 +1,5 @@
 -- A word is read as a number just where it spells one, with its exact value.
-use Prim.Native.Nat.{ℕ, _+_, _-_, _*_, _/_, _%_, _≤_}
+use Prim.Native.Nat.{ℕ, _+_, _-_, _*_, _/_, _%_, _≤_, _<_}
 use mathlib.Core.Path.{_≡_, refl, sym, ap, subst, _∙_}
 use mathlib.Core.Bool.{Bool, true, false, cond, _&&_, _||_}
 use mathlib.Core.List.{List, [], _∷_, _++_, append-assoc}
@@ -9,14 +9,15 @@ use native.Mathlib.Omega.{arith}
 use borrow.Author.Tests.{ltb-false, le-ltb, leb-true, eqb-true, eq-eqb, ne-eqb}
 use lib.Dec.{eqb, ltb, leb}
 use lib.IntN.{ℤ, pos, negℤ, natAbs, _*ℤ_}
+use lib.ListN.{length}
 use Rattle.whole.specs.Integers.{up, dn}
 use Rattle.whole.proofs.Halves as H
-use Rattle.rules.specs.Reading.Lines.{after, digit, eByte, every, minusByte, plusByte, pointByte, run, starts}
+use Rattle.rules.specs.Reading.Lines.{after, blank, digit, eByte, every, hash, minusByte, numberByte, plusByte, pointByte, run, starts}
 use Rattle.rules.specs.Reading.Numerals.{spell, Exact, Exponent, Mantissa, Numeral, Power, Sign, Spells, absent, digits, minus, over, plain, plus, pointed, signed, under, unwritten, written}
 use Rattle.rules.specs.Reading.Numbers.{assemble, exponentOf, numeralWith, numberOf, numeralOf, settle, unsigned, valueOf}
 use Rattle.rules.specs.declared.Number.the-variants.{Value, Beyond, Finer}
 use Rattle.rules.proofs.Tests.{no-some, and-both, both-and, or-none, none-or}
-use Rattle.rules.proofs.Reading.Runs.{run-after, run-every, run-starts, run-append, starts-append, starts-either, starts-other, every-append, append-every}
+use Rattle.rules.proofs.Reading.Runs.{run-after, run-every, run-starts, run-append, starts-append, starts-either, starts-other, every-append, every-starts, append-every}
 
 abbrev pub signByte : ℕ → Bool
 signByte b = plusByte b || minusByte b
@@ -29,6 +30,26 @@ or-either false b C h f g = g h
 
 pub digit-range : (b : ℕ) → digit b ≡ true → (48 ≤ b) × (b ≤ 57)
 digit-range b h = let e = and-both (leb 48 b) (leb b 57) h in (leb-true 48 b (e .0), leb-true b 57 (e .1))
+
+pub number-digit : (b : ℕ) → digit b ≡ true → numberByte b ≡ true
+number-digit b h = rw h
+
+pub number-range : (b : ℕ) → numberByte b ≡ true → (43 ≤ b) × (b ≤ 57)
+number-range b h =
+    or-either _ (pointByte b) _ h
+    (λ h₁. or-either _ (minusByte b) _ h₁ (λ h₂. or-either (digit b) (plusByte b) _ h₂ (λ d. let r = digit-range b d in (omega arith, r .1)) (one 43 (omega arith) (omega arith))) (one 45 (omega arith) (omega arith)))
+    (one 46 (omega arith) (omega arith))
+  where
+    one : (k : ℕ) → 43 ≤ k → k ≤ 57 → eqb b k ≡ true → (43 ≤ b) × (b ≤ 57)
+    one k lo hi e = let same = eqb-true b k e in (omega arith, omega arith)
+
+pub number-no-hash : (b : ℕ) → numberByte b ≡ true → hash b ≡ false
+number-no-hash b h = ne-eqb b 35 (λ e. omega (arith, number-range b h .0))
+
+pub number-no-blank : (b : ℕ) → numberByte b ≡ true → blank b ≡ false
+number-no-blank b h =
+    let least = number-range b h .0 in
+    none-or (eqb b 32) (eqb b 9) (ne-eqb b 32 (λ e. omega arith)) (ne-eqb b 9 (λ e. omega arith))
 
 pub digit-no-sign : (b : ℕ) → digit b ≡ true → signByte b ≡ false
 digit-no-sign b h = let r = digit-range b h in none-or _ _ (ne-eqb b 43 (λ e. omega arith)) (ne-eqb b 45 (λ e. omega arith))
@@ -85,6 +106,10 @@ digits-parts w h = and-both (starts digit w) (every digit w) h
 pub parts-digits : (w : List ℕ) → starts digit w ≡ true → every digit w ≡ true → digits w ≡ true
 unfolding digits
 parts-digits w s e = both-and _ _ s e
+
+-- digits are there where there are any
+pub first-digit : (l : List ℕ) → 0 < length l → every digit l ≡ true → digits l ≡ true
+first-digit l h e = parts-digits l (every-starts digit l h e) e
 
 -- more digits after digits
 pub digits-more : (a b : List ℕ) → digits a ≡ true → every digit b ≡ true → digits (a ++ b) ≡ true
@@ -268,7 +293,7 @@ signed-abs false k = refl
 signed-abs true k = H.neg-abs (pos k)
 
 -- so many times a signed magnitude
-signed-times : (neg : Bool) (q k : ℕ) → pos q *ℤ signed neg k ≡ signed neg (k * q)
+pub signed-times : (neg : Bool) (q k : ℕ) → pos q *ℤ signed neg k ≡ signed neg (k * q)
 signed-times false q k = ap pos (mul-comm q k)
 signed-times true q k =
     let z : ℤ = negℤ (pos k) in

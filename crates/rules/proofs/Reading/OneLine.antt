@@ -6,11 +6,10 @@ use mathlib.Core.List.{List, [], _∷_, _++_}
 use mathlib.Core.Option.{none}
 use native.Mathlib.Omega.{arith}
 use borrow.Author.Tests.{leb-true, le-leb, eqb-true}
-use lib.Dec.{eqb}
 use lib.ListN.{length, length-append}
 use lib.IntN.{ℤ}
 use Rattle.rules.specs.Units.{boundLimit, boundPlaces, sampleLimit, samplePlaces}
-use Rattle.rules.specs.Reading.Lines.{lineLimit, hash, numberByte, after, blank, bytes, digit, every, inTitle, inWord, permitted, quote, run, starts, wordsOf}
+use Rattle.rules.specs.Reading.Lines.{lineLimit, hash, numberByte, after, blank, bytes, every, inTitle, inWord, permitted, quote, run, starts, wordsOf}
 use Rattle.rules.specs.Reading.Numerals.{Mantissa, Numeral, Sign, Spells, minus, plain, plus, pointed, unwritten}
 use Rattle.rules.specs.Reading.Items.{named}
 use Rattle.rules.specs.Reading.Grammar.{BoundsLine, IdleLine, Line, Gives, ThreeNumbers, TitleLine, comment, empty}
@@ -28,7 +27,7 @@ use Rattle.rules.specs.declared.Bounds.{Bounds}
 use Rattle.rules.specs.declared.Refusal.the-variants.{ParametersWrong, DomainNumberWrong, NotThreeNumbers, SampleBeyond, SampleTooFine}
 use Rattle.rules.proofs.Tests.{no-true, and-both, need-none, none-need}
 use Rattle.rules.proofs.Reading.Runs.{run-after, run-every, run-append, starts-other}
-use Rattle.rules.proofs.Reading.Numbers.{digits-parts}
+use Rattle.rules.proofs.Reading.Numbers.{digits-parts, number-digit, number-no-hash}
 use Rattle.rules.proofs.Reading.Wordings.{words-first, First, first-of, form-words, keyword-form, form-keyword, form-idle}
 use Rattle.rules.proofs.Reading.Threes.{no-wrong, values-say, say-values, Sized, size-says, says-size}
 use Rattle.rules.proofs.Reading.Walk.{Found}
@@ -141,9 +140,6 @@ says-title p l t h =
 
 -- ---- a number's first byte
 
-number-digit : (b : ℕ) → digit b ≡ true → numberByte b ≡ true
-number-digit b h = rw h
-
 mantissa-starts : (m whole fraction p : List ℕ) → Mantissa m whole fraction → starts numberByte (m ++ p) ≡ true
 unfolding starts every
 mantissa-starts m [] fraction p (plain e f d) = absurd (no-true (sym (digits-parts [] d .0)))
@@ -160,13 +156,6 @@ spells-starts w n h = rw (h .word) (signs (h .sign-so))
     signs (unwritten e f) = rw e (mantissa-starts (h .mantissa) (n .whole) (n .fraction) (h .power) (h .mantissa-so))
     signs (plus e f) = rw e
     signs (minus e f) = rw e
-
-number-no-hash : (b : ℕ) → numberByte b ≡ true → hash b ≡ false
-number-no-hash b h = split (eqb b 35) refl
-  where
-    split : (t : Bool) → eqb b 35 ≡ t → t ≡ false
-    split true e = absurd (no-true (sym (subst (λ (c : ℕ). numberByte c ≡ true) (eqb-true b 35 e) h)))
-    split false e = refl
 
 row-form : (l : List ℕ) (x y z : ℤ) → ThreeNumbers samplePlaces sampleLimit (wordsOf l) x y z → formOf l ≡ Data
 unfolding wordForm

@@ -1,8 +1,10 @@
 -- A list is its longest first run of a kind and what stands after it, and nothing else is.
-use Prim.Native.Nat.{ℕ}
+use Prim.Native.Nat.{ℕ, _<_}
 use mathlib.Core.Path.{_≡_, refl, sym, ap}
 use mathlib.Core.Bool.{Bool, true, false, cond, _||_}
 use mathlib.Core.List.{List, [], _∷_, _++_}
+use native.Mathlib.Omega.{arith}
+use lib.ListN.{length}
 use Rattle.rules.specs.Reading.Lines.{after, every, run, starts}
 use Rattle.rules.proofs.Tests.{no-true, and-both, both-and}
 
@@ -77,6 +79,20 @@ module _ (kind : ℕ → Bool) where
   unfolding every starts
   starts-either [] b h = refl
   starts-either (x ∷ a) b h = rw (and-both (kind x) (every kind a) h .0)
+
+  -- bytes of a kind, at least one, start with one
+  pub every-starts : (l : List ℕ) → 0 < length l → every kind l ≡ true → starts kind l ≡ true
+  unfolding every starts
+  every-starts [] h e = absurd (omega arith)
+  every-starts (b ∷ rest) h e = and-both (kind b) (every kind rest) e .0
+
+-- bytes of one kind are of every kind that has all its bytes
+pub every-other : (kind other : ℕ → Bool) → ((b : ℕ) → kind b ≡ true → other b ≡ true) → (l : List ℕ) → every kind l ≡ true → every other l ≡ true
+unfolding every
+every-other kind other f [] h = refl
+every-other kind other f (b ∷ rest) h =
+    let e = and-both (kind b) (every kind rest) h in
+    both-and (other b) (every other rest) (f b (e .0)) (every-other kind other f rest (e .1))
 
 -- a first byte of one kind is of no kind that shares no byte with it
 pub starts-other : (kind other : ℕ → Bool) → ((b : ℕ) → kind b ≡ true → other b ≡ false) → (l : List ℕ) → starts kind l ≡ true → starts other l ≡ false

@@ -15,10 +15,10 @@ use Rattle.rules.specs.Decimals.{decimal, decimalIn, sign, placesOf, afterPoint
 use Rattle.rules.specs.Reading.Lines.{digit, every, starts}
 use Rattle.rules.specs.Reading.Numerals.{Mantissa, Numeral, Power, Sign, absent, digits, minus, over, plain, plus, pointed, signed, spell, under, unwritten, written}
 use Rattle.rules.proofs.Decimals.{no-places, no-fraction, some-fraction}
-use Rattle.rules.proofs.Reading.Numbers.{digits-parts, same-sign, signed-abs, spell-append}
+use Rattle.rules.proofs.Reading.Numbers.{digits-parts, first-digit, same-sign, signed-abs, spell-append}
 use Rattle.rules.proofs.Reading.Runs.{append-every, every-append}
 use Rattle.signature.specs.Fewest.{Fewest, PlainWord}
-use Rattle.signature.proofs.Decimals.{decimal-digits, decimal-leads, decimal-spells, decimals-spell, exactly-worth, first-digit, isBelow, no-zero-last, numeral, places-digits, places-some, rest, size, whole}
+use Rattle.signature.proofs.Decimals.{decimal-digits, decimal-leads, decimal-spells, decimals-spell, exactly-worth, isBelow, no-zero-last, numeral, places-digits, places-some, rest, size, whole}
 use Rattle.signature.proofs.Writing.Digits.{no-shorter, same-digits, same-fraction, same-whole, zeros, zeros-before, zeros-digits, zeros-long}
 
 -- ---- a natural number's digits

@@ -2,6 +2,7 @@
 
 use super::damage;
 use super::draws::Draws;
+use super::plain;
 use super::words;
 use super::FileCase;
 use crate::paper::{Kind, BOUND_UNITS, DEFAULT_LOWER, DEFAULT_UPPER, GREATEST_BOUND};
@@ -38,11 +39,12 @@ pub struct Draft {
 
 /// A file of any sort, and a table length.
 pub fn case(draws: &mut Draws) -> FileCase {
-    match draws.below(20) {
+    match draws.below(24) {
         0 => soup(draws),
         1 | 2 => edge_words(draws),
         3..=7 => finished(kept(draws), vec!["kept"]),
         8 => damage::blind_alone(draws),
+        9..=12 => plain::case(draws),
         _ => damage::case(draws),
     }
 }

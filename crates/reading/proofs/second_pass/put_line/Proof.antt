@@ -13,7 +13,8 @@ use Rattle.rules.specs.Reading.Items.{numbersOf}
 use Rattle.rules.specs.Reading.{samplesIn}
 use Rattle.rules.specs.declared.Form.the-variants.{Data}
 use Rattle.rules.proofs.Memory.{splice-none}
-use Rattle.reading.proofs.LineSamples.{NoData, no-samples, row-samples, wrong-samples, three-written}
+use Rattle.rules.proofs.Memory.{three-written}
+use Rattle.reading.proofs.LineSamples.{NoData, no-samples, row-samples, wrong-samples}
 use Rattle.reading.proofs.second_pass.put_line.Statement.{statement}
 use Rattle.reading.proofs.second_pass.put_line.Tie as tie
 

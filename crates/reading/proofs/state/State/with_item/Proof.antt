@@ -43,11 +43,11 @@ enum-known-item-4 c = search needs
 with-size-requires : tie.Need-with-size-requires
 with-size-requires c κs = asked (c .before .before .before) (c .before .item4 .given .1)
 
-enum-known-item-5 : tie.Need-enum-known-item-5
-enum-known-item-5 c = search needs
+enum-told-2 : tie.Need-enum-told-2
+enum-told-2 c = search needs
 
-with-row-requires : tie.Need-with-row-requires
-with-row-requires c κs = asked (c .before .before .before) (c .before .item5 .given .1)
+with-rows-requires : tie.Need-with-rows-requires
+with-rows-requires c κs = asked (c .before .before) (c .enum-told2 .given .1)
 
 returns : tie.Need-returns
 unfolding add
@@ -66,7 +66,8 @@ returns-5 : tie.Need-returns-5
 returns-5 c = answered (c .before .before .before .before) (c .before .before .item4 .given .1) (c .with-size .ensures)
 
 returns-6 : tie.Need-returns-6
-returns-6 c = answered (c .before .before .before .before) (c .before .before .item5 .given .1) (c .with-row .ensures)
+unfolding add
+returns-6 c = answered (c .before .before .before) (c .before .enum-told2 .given .1) (c .with-rows .ensures)
 
 pub with-item-spec : {M : Type 1} → statement M
 with-item-spec =
@@ -81,8 +82,8 @@ with-item-spec =
     with-upper-requires
     enum-known-item-4
     with-size-requires
-    enum-known-item-5
-    with-row-requires
+    enum-told-2
+    with-rows-requires
     returns
     returns-2
     returns-3
