@@ -1,21 +1,26 @@
--- The place of a code on an axis lies within one of its cells, and is the rule's where the axis is that of a domain and a span.
+-- The place of a code on an axis lies within one of its cells, and it and its position are the rule's where the axis is that of a domain and a span.
 use Prim.Native.Nat.{ℕ, zero, suc, _-_, _*_, _/_, _≤_, _<_, min}
 use mathlib.Core.Path.{_≡_, refl, sym, ap, _∙_}
 use native.Mathlib.Nat as NatL
 use native.Mathlib.Decide.{decLe}
 use native.Mathlib.Omega.{arith}
-use lib.IntN.{ℤ, pos, negsuc, negℤ, _*ℤ_}
+use lib.IntN.{ℤ, pos, negsuc, negℤ, _-ℤ_, _*ℤ_}
 use lib.Signed.{quotZ}
+use Rattle.whole.specs.Integers.{up}
 use Rattle.rules.specs.Units.{boundOne}
 use Rattle.rules.specs.Descriptions.{width}
-use Rattle.rules.specs.Looking.Interpolation.{den, index, fraction, brought}
+use Rattle.rules.specs.Looking.Interpolation.{den, position, index, fraction, brought}
 use Rattle.rules.specs.declared.Domain.{Domain}
 use Rattle.rules.proofs.Looking.Spans.{InParts}
-use Rattle.rules.proofs.Looking.Brought.{offsetIn, index-in, fraction-in}
+use Rattle.rules.proofs.Looking.Brought.{offsetIn, position-in, index-in, fraction-in}
 use Rattle.colour.specs.Plans.{eachOf, lowOf, axisOf}
 use Rattle.colour.specs.Places.{AxisFits, CellsFit, placeOf}
 use Rattle.colour.specs.declared.place.Place.{Place}
 use Rattle.colour.specs.declared.plan.Axis.{Axis}
+
+-- p of the rule, with D, N − 1 and the parts of the span as the plan keeps them
+abbrev pub positionOn : Axis → ℕ → ℕ → ℕ
+positionOn axis cells c = min (axis .den) (up (pos (axis .each * c) -ℤ axis .low .0)) * cells
 
 -- the index is that of a cell, and the fraction is of D
 pub record Placed (axis : Axis) (cells : ℕ) (q : Place) : Type 0 where
@@ -62,6 +67,9 @@ module _ (dom : Domain) (s : ℕ) (parts : InParts dom s) (wide : 0 < width dom)
   module _ (m q n step c : ℕ) (some : 0 < s) (deep : 0 < m) (least : 2 ≤ n) where
     own : 0 < den m dom
     own = NatL.mul-pos deep wide
+
+    pub position-is : positionOn (axisOf dom s m q step) (n - 1) c ≡ brought (den m dom) (m * s) (position m dom n c)
+    position-is = rw (low-is, each-is) (sym (position-in dom s parts m own n c))
 
     pub place-is : placeOf (axisOf dom s m q step) (n - 1) c ≡ record { index = index m dom n c; fraction = brought (den m dom) (m * s) (fraction m dom n c) }
     unfolding placeOf

@@ -11,7 +11,7 @@ use Rattle.whole.proofs.Halves.{product-abs}
 use Rattle.whole.proofs.Held.{quot-size}
 use Rattle.rules.specs.Units.{depthsOf, rawM, correctedM, sampleOne, sampleLimit, boundOne, boundLimit, widthLimit, rowsOf, rowLimit, rowAt, stride}
 use Rattle.rules.specs.Descriptions.{rows, domain, width, span, couldBeRead, Sound, DomainFits}
-use Rattle.rules.specs.Looking.Interpolation.{denominator, denOf, indexAt, fractionAt, positionOf, indexOf, fractionOf, rgb, climb, pathBy, pair, path, pairAt, codeBy}
+use Rattle.rules.specs.Looking.Interpolation.{denominator, denOf, positionAt, indexAt, fractionAt, positionOf, indexOf, fractionOf, rgb, climb, pathBy, pair, path, pairAt, codeBy}
 use Rattle.rules.specs.Looking.{six, shown, lineCode}
 use Rattle.rules.specs.Looking.Readings.{Reading}
 use Rattle.rules.specs.declared.Bits.{Bits}
@@ -38,7 +38,7 @@ use Rattle.colour.specs.Adding.{Codable, Coded}
 use Rattle.colour.specs.declared.plan.Plan.{Plan}
 use Rattle.colour.specs.declared.shares.Steps.{Steps}
 use Rattle.colour.proofs.Orders.{along-path}
-use Rattle.colour.proofs.Placing.{place-is}
+use Rattle.colour.proofs.Placing.{positionOn, position-is, place-is}
 use Rattle.colour.proofs.Ratios.{ratio-known, crossed, all-fits}
 
 -- ---- a description that could have been read
@@ -94,10 +94,16 @@ axis-of d depths Red = refl
 axis-of d depths Green = refl
 axis-of d depths Blue = refl
 
--- and that its places are those of the rule
+-- and that its positions and places are those of the rule
 module _ (d : Description) {table : List ℤ} (good : Sound d table) (depths : Depths) (deep : 0 < rawM depths) where
   abbrev raw : ℕ
   raw = rawM depths
+
+  position-at : (c : Colour) (code : ℕ) → positionOn (axisIn (planOf d depths) c) (d .n - 1) code ≡ positionAt d raw c code
+  position-at c code =
+      ap (λ x. positionOn x (d .n - 1) code) (axis-of d depths c)
+      ∙ position-is (domain d c) (span d c) (in-parts d good c) (wide-enough (good .domains c)) raw (ratioOf depths .bottom) (d .n) (stride (d .n) c) code
+      (span-some d good c) deep (good .least)
 
   place-at : (c : Colour) (code : ℕ) → placeOf (axisIn (planOf d depths) c) (d .n - 1) code ≡ record { index = indexAt d raw c code; fraction = fractionAt d raw c code }
   place-at c code =
@@ -177,6 +183,11 @@ module _ {plan : Plan} {table : List ℤ} (p : Planned plan table) where
         least = omega (arith, NatL.mul-le-mul-right u (p .in-terms .some), span-some d could-sound c);
         deepest = p .corrected-most;
       }))
+
+  -- ---- its positions
+
+  pub position-by : (c : Colour) (code : ℕ) → positionOn (axisIn plan c) (plan .cells) code ≡ positionAt d m c code
+  position-by c code = ap (λ x. positionOn (axisIn x c) (x .cells) code) (p .is) ∙ position-at d could-sound (p .depths) (p .deep) c code
 
   -- ---- its rows and weights
 

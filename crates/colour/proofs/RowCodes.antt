@@ -11,7 +11,7 @@ use Rattle.rules.specs.Units.{sampleOne, sampleAt}
 use Rattle.rules.specs.Looking.Interpolation.{denominator, codeBy, rowCode}
 use Rattle.rules.specs.declared.Colour.{Colour}
 
-weights-exchanged : (m den : ℕ) (z : ℤ) → pos m *ℤ (pos den *ℤ z) ≡ pos den *ℤ (pos m *ℤ z)
+pub weights-exchanged : (m den : ℕ) (z : ℤ) → pos m *ℤ (pos den *ℤ z) ≡ pos den *ℤ (pos m *ℤ z)
 weights-exchanged m den z = sym (H.mul-assoc m den z) ∙ ap (λ k. pos k *ℤ z) (NatL.mul-comm m den) ∙ H.mul-assoc den m z
 
 pub row-by-itself : (m den : ℕ) (table : List ℤ) (c : Colour) (row : ℕ) → 0 < den

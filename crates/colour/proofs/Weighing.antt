@@ -84,7 +84,8 @@ module _ {plan : Plan} {table : List ℤ} {k : Kind} (p : Planned plan table) (s
 
 -- ---- rows and weights by the plan, and by the description that it was made of
 
-same-codes : (r s : Codes) → ((c : Colour) → codeIn r c ≡ codeIn s c) → r ≡ s
+-- codes that are equal colour by colour are equal
+pub same-codes : (r s : Codes) → ((c : Colour) → codeIn r c ≡ codeIn s c) → r ≡ s
 same-codes r s h i = record { red = h Red i; green = h Green i; blue = h Blue i }
 
 module _ {plan : Plan} {table : List ℤ} (p : Planned plan table) (shares : Shares) where

@@ -1,9 +1,11 @@
 // One pixel to three corrected codes, with the rows and weights used: a plan, the two halves of the way over it, and both in one.
+pub use codes::code_of;
 use codes::codes_by;
 use codes::line_codes;
 pub use lines::Line;
 pub use lines::line_code;
 pub use lines::line_of;
+pub use plan::Axis;
 pub use plan::Plan;
 pub use plan::plan_of;
 pub use rows::den_of;
@@ -15,7 +17,9 @@ use rules::Shares;
 use shares::line;
 use shares::path_by;
 use shares::steps_of;
+pub use sums::colour_place;
 use sums::cube_sums;
+pub use sums::with_term;
 ghost use mathlib.Core.Path.{_≡_};
 ghost use mathlib.Core.List.{List};
 ghost use lib.IntN.{ℤ};

@@ -23,7 +23,7 @@ pub struct Sums {
 
 // ---- one term more
 
-fn colour_place(c: Colour) -> usize
+pub fn colour_place(c: Colour) -> usize
     ensures { λ r. ⌜ r ≡ colourPlace c ⌝ }
 {
     match c {
@@ -43,7 +43,7 @@ pub fn sample_of(part: &[i64], c: Colour) -> TenMillionths
 }
 
 // The sum with one term more in front.
-fn with_term(sum: Whole, weight: Whole, sample: TenMillionths) -> Whole
+pub fn with_term(sum: Whole, weight: Whole, sample: TenMillionths) -> Whole
     requires { ⌜ Room (sum .0) (weight .0) ⌝ }
     requires { ⌜ natAbs (sample .0) ≤ sampleLimit ⌝ }
     ensures { λ r. ⌜ Added (sample .0) (weight .0) (sum .0) (r .0) ⌝ }

@@ -1,2 +1,3 @@
 -- Laws that the proofs of several functions cite.
 pub mod Spans
+pub mod Together

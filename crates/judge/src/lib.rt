@@ -201,8 +201,24 @@ pub fn agree(kind: Kind, d: Description) -> bool
 
 // ---- the samples
 
+// Whether no sample is negative and none is 2^33 or more, by one pass that asks nothing of any sample by itself: the bits of all of them together are few.
+fn all_small(samples: &[i64]) -> bool
+    ensures { λ r. ⌜ (r ≡ true → samplesFit (now (samples .entry)) ≡ true) ⌝ }
+{
+    let mut any: i64 = 0;
+    let mut i = 0;
+    while i < samples.len() {
+        any = any | samples[i];
+        i += 1;
+    }
+    if any < 0 {
+        return false;
+    }
+    any < 8_589_934_592
+}
+
 // All samples lie from -1000 to 1000 if the least and the greatest of them do.
-fn samples_fit(samples: &[i64]) -> bool
+fn each_fits(samples: &[i64]) -> bool
     ensures { λ r. ⌜ r ≡ samplesFit (now (samples .entry)) ⌝ }
 {
     let mut least = Whole(0);
@@ -220,6 +236,16 @@ fn samples_fit(samples: &[i64]) -> bool
     }
     let high = greatest.0;
     high <= TenMillionths::GREATEST
+}
+
+// All samples lie from -1000 to 1000: nearly all tables pass by the first way.
+fn samples_fit(samples: &[i64]) -> bool
+    ensures { λ r. ⌜ r ≡ samplesFit (now (samples .entry)) ⌝ }
+{
+    if all_small(samples) {
+        return true;
+    }
+    each_fits(samples)
 }
 
 // ---- 24

@@ -13,6 +13,7 @@ use Rattle.rules.specs.declared.Codes.{Codes}
 use Rattle.rules.proofs.Memory.{splice-none, splice-front, splice-length, splice-both}
 use Rattle.rules.proofs.Picturing.Checks.{each-length}
 use Rattle.picture.specs.Filling.{pixelFrom, Fillable}
+use Rattle.picture.specs.Blocks.{Filled}
 
 -- ---- pixels, and more pixels
 
@@ -34,12 +35,6 @@ pub whole-pixel : {src : List ℕ} {places : ℕ} → Fillable src places → (i
 whole-pixel s i z h = omega (arith, s .whole)
 
 -- ---- pixel by pixel
-
--- the output dst′ when the first i codes of the picture are corrected into dst
-pub record Filled (f : Codes → Codes) (src dst : List ℕ) (i : ℕ) (dst′ : List ℕ) : Type 0 where
-  pub reached : i ≤ length src
-  pub whole : i % 3 ≡ 0
-  pub is : dst′ ≡ spliced dst 0 (eachPixel f (take i src))
 
 pub none-filled : (f : Codes → Codes) (src dst : List ℕ) → Filled f src dst 0 dst
 unfolding eachPixel

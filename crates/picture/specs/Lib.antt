@@ -1,2 +1,3 @@
 -- What only the code needs: nothing here has to be believed.
 pub mod Filling
+pub mod Blocks

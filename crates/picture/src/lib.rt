@@ -1,29 +1,37 @@
-// A run of pixels to corrected codes: all is judged once and one plan is made, then one loop corrects pixel by pixel.
+// A run of pixels to corrected codes: all is judged once and one plan is made, then the pixels are corrected by the shortest way that is exact for it.
 use colour::Plan;
 use colour::correct;
 use colour::plan_of;
+use cubes::correct_cube;
 use judge::could_be_read;
+use lanes::CubeFound;
+use lanes::cube_of;
+use pixels::pixel_from;
+use pixels::write_pixel;
 use rules::Bits;
-use rules::Codes;
 use rules::Depths;
 use rules::DepthsFound;
 use rules::Description;
+use rules::Kind;
 use rules::Picture;
 use rules::Refusal;
 use whole::greater_code;
 ghost use mathlib.Core.Path.{_≡_};
 ghost use mathlib.Core.List.{_++_};
-ghost use Prim.Native.Nat.{ℕ, _+_, _<_};
+ghost use mathlib.Core.Bool.{true};
+ghost use Prim.Native.Nat.{ℕ};
 ghost use lib.Dec.{leb};
 ghost use lib.ListN.{length, drop};
 ghost use Rattle.rules.specs.Reading.Lines.{every};
+ghost use Rattle.rules.specs.Units.{rawM};
 ghost use Rattle.rules.specs.Looking.{correct};
-ghost use Rattle.rules.specs.Answers.{codesOf};
 ghost use Rattle.rules.specs.Picturing.{eachPixel};
 ghost use Rattle.rules.specs.Promises.{Pictures};
-ghost use Rattle.rules.specs.Memory.{spliced};
 ghost use Rattle.colour.specs.Plans.{Planned};
-ghost use Rattle.picture.specs.Filling.{pixelFrom, Fillable};
+ghost use Rattle.picture.specs.Filling.{Fillable};
+
+mod cubes;
+mod pixels;
 
 // ---- 23, of all codes at once
 
@@ -40,34 +48,10 @@ fn greatest(codes: &[u16]) -> u16
     most
 }
 
-// ---- pixel by pixel
+// ---- each picture by its shortest way
 
-// The pixel whose codes begin at a place.
-fn pixel_from(codes: &[u16], at: usize) -> Codes
-    requires { ⌜ at + 2 < length (now codes) ⌝ }
-    ensures { λ r. ⌜ r ≡ pixelFrom (now (codes .entry)) at ⌝ }
-{
-    let red = codes[at];
-    let green = codes[at + 1];
-    let blue = codes[at + 2];
-    Codes { red, green, blue }
-}
-
-// Writes a pixel's codes from a place on: red, green, blue.
-fn write_pixel(dst: &mut [u16], at: usize, pixel: Codes)
-    requires { ⌜ at + 2 < length (now dst) ⌝ }
-    ensures { λ _. ⌜ now (dst .exit) ≡ spliced (now (dst .entry)) at (codesOf pixel) ⌝ }
-{
-    let red = pixel.red;
-    let green = pixel.green;
-    let blue = pixel.blue;
-    dst[at] = red;
-    dst[at + 1] = green;
-    dst[at + 2] = blue;
-}
-
-// Corrects a picture that has passed every check.
-fn correct_all(plan: Plan, table: &[i64], src: &[u16], dst: &mut [u16])
+// Pixel by pixel, by the way of look.
+fn correct_each(plan: Plan, table: &[i64], src: &[u16], dst: &mut [u16])
     requires { ⌜ Planned plan (now table) ⌝ }
     requires { ⌜ Fillable (now src) (length (now dst)) ⌝ }
     ensures { λ _. ⌜ ((p : Planned plan (now (table .entry))) → now (dst .exit) ≡ eachPixel (correct (p .d) (now (table .entry)) (p .depths)) (now (src .entry)) ++ drop (length (now (src .entry))) (now (dst .entry))) ⌝ }
@@ -77,6 +61,24 @@ fn correct_all(plan: Plan, table: &[i64], src: &[u16], dst: &mut [u16])
         let pixel = pixel_from(src, i);
         write_pixel(dst, i, correct(plan, table, pixel));
         i += 3;
+    }
+}
+
+// Corrects a picture that has passed every check, with its plan and the depths that it was made of. The codes are look's, whichever way they are found.
+pub fn correct_all(plan: Plan, depths: Depths, table: &[i64], src: &[u16], dst: &mut [u16])
+    requires { ⌜ ((p : Planned plan (now table)) × ((p .depths ≡ depths) × (every (λ c. leb c (rawM depths)) (now src) ≡ true))) ⌝ }
+    requires { ⌜ Fillable (now src) (length (now dst)) ⌝ }
+    ensures { λ _. ⌜ ((p : Planned plan (now (table .entry))) → p .depths ≡ depths → now (dst .exit) ≡ eachPixel (correct (p .d) (now (table .entry)) depths) (now (src .entry)) ++ drop (length (now (src .entry))) (now (dst .entry))) ⌝ }
+{
+    let kind = plan.kind;
+    let Kind::ThreeD = kind else {
+        correct_each(plan, table, src, dst);
+        return;
+    };
+    match cube_of(plan, depths) {
+        CubeFound::Near(cube) => correct_cube(cube, true, table, src, dst),
+        CubeFound::Far(cube) => correct_cube(cube, false, table, src, dst),
+        CubeFound::Beyond => correct_each(plan, table, src, dst),
     }
 }
 
@@ -100,6 +102,6 @@ pub fn picture(d: Description, table: &[i64], bits: Bits, src: &[u16], dst: &mut
     if raw.greatest() < greatest(src) {
         return Picture::Refused(Refusal::CodeTooGreat);
     }
-    correct_all(plan_of(d, depths), table, src, dst);
+    correct_all(plan_of(d, depths), depths, table, src, dst);
     Picture::Accepted
 }

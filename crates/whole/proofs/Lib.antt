@@ -6,6 +6,7 @@ pub mod Held
 -- the code is the nearest one, and the only one; the code of a weighed sum lies between those of its values
 pub mod NearestLaws
 pub mod Between
--- Euclid's steps; division by a reciprocal
+-- Euclid's steps; the upper half of a product; division by a reciprocal
 pub mod Divisors
+pub mod Products
 pub mod Reciprocals

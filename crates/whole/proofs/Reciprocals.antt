@@ -1,11 +1,19 @@
 -- The guess that a reciprocal gives is the quotient or one less. With k the divisor, r = 2^63 / k and N = n / 2^23, the guess g is N·r / 2^40: each division cuts
 -- off a little, so that g·k is at most n; what is cut off in all is less than 2·k, since N is below 2^39 and k at least 2^24.
-use Prim.Native.Nat.{ℕ, _+_, _-_, _*_, _/_, _≤_, _<_}
-use mathlib.Core.Path.{_≡_, _∙_, sym, subst}
+-- One that is rounded up gives the quotient q itself. With t·k = 2^64 + e, n·t is at least q·k·t, and that at least q·2^64; and it does not come to
+-- (q + 1)·2^64, since n·t·k is n·2^64 + n·e, which is less than (n + 1)·2^64 where n·e is less than 2^64, and n + 1 is at most (q + 1)·k.
+use Prim.Native.Nat.{ℕ, _+_, _-_, _*_, _/_, _%_, _≤_, _<_}
+use mathlib.Core.Path.{_≡_, _∙_, ap, sym, subst}
+use mathlib.Core.Bool.{true}
+use mathlib.Core.Logic.{_↔_}
 use native.Mathlib.Nat as NatL
+use native.Mathlib.Decide.{decLe}
 use native.Mathlib.Omega.{arith}
-use Rattle.whole.specs.Reciprocals.{Dividable}
+use borrow.Author.Tests.{leb-true, le-leb, lt-leb}
+use lib.Dec.{leb}
+use Rattle.whole.specs.Reciprocals.{Dividable, reciprocalOf, excess, Divides}
 use Rattle.whole.specs.declared.reciprocal.Divisor.{Divisor}
+use Rattle.whole.specs.declared.reciprocal.Reciprocal.{Reciprocal}
 
 module _ (n : ℕ) (d : Divisor) (f : Dividable n d) where
   abbrev k : ℕ
@@ -83,3 +91,85 @@ module _ (n : ℕ) (d : Divisor) (f : Dividable n d) where
   pub guess-short : k ≤ n - guess * k → guess + 1 ≡ n / k
   guess-short h =
       sym (NatL.div-eq-of-lt-le {k = guess + 1} k (omega (arith, h, NatL.add-mul guess 1 k)) (omega (arith, nearly, NatL.add-mul guess 1 k, NatL.add-mul (guess + 1) 1 k)))
+
+-- ---- rounded up
+
+module _ (r : Reciprocal) (n : ℕ) (f : Divides r n) where
+  abbrev by : ℕ
+  by = r .by
+
+  abbrev t : ℕ
+  t = r .times
+
+  abbrev e : ℕ
+  e = t * by - 18_446_744_073_709_551_616
+
+  abbrev q : ℕ
+  q = n / by
+
+  not-less : q * 18_446_744_073_709_551_616 ≤ n * t
+  not-less =
+      omega (
+        arith,
+        NatL.mul-le-mul-left q (f .above),
+        NatL.mul-assoc q by t,
+        NatL.mul-le-mul-right t (NatL.div-mul-le-self n by),
+      )
+
+  not-reached : n * t < (q + 1) * 18_446_744_073_709_551_616
+  not-reached =
+      let next : n + 1 ≤ (q + 1) * by = omega (arith, NatL.lt-div-mul-add {a = n} {b = by} (f .some), NatL.add-mul q 1 by) in
+      let whole : t * by ≡ 18_446_744_073_709_551_616 + e = omega (arith, f .above) in
+      NatL.lt-of-mul-lt-mul-right by
+      (omega (
+        arith,
+        NatL.mul-assoc n t by,
+        ap (λ x. n * x) whole,
+        NatL.mul-add n 18_446_744_073_709_551_616 e,
+        f .near,
+        NatL.mul-assoc 18_446_744_073_709_551_616 (q + 1) by,
+        next,
+      ))
+
+  pub divided : n * r .times / 18_446_744_073_709_551_616 ≡ n / r .by
+  divided = NatL.div-eq-of-lt-le {k = q} 18_446_744_073_709_551_616 not-less not-reached
+
+-- what is rounded up is not below
+not-below : (k : ℕ) → 0 < k → 18_446_744_073_709_551_616 ≤ (18_446_744_073_709_551_615 / k + 1) * k
+not-below k s =
+    omega (arith, NatL.lt-div-mul-add {a = 18_446_744_073_709_551_615} {b = k} s, NatL.add-mul (18_446_744_073_709_551_615 / k) 1 k)
+
+-- the test that `divides` makes, of the greatest number, is enough for those up to it
+pub reciprocal-divides : (k n most : ℕ) → 1 < k → n ≤ most → leb (most * excess k) 18_446_744_073_709_551_615 ≡ true → Divides (reciprocalOf k) n
+reciprocal-divides k n most s h l =
+    record {
+      some = omega arith;
+      above = not-below k (omega arith);
+      near = omega (arith, NatL.mul-le-mul-right (excess k) h, leb-true (most * excess k) 18_446_744_073_709_551_615 l);
+    }
+
+-- ---- how it is found out up to where it divides
+
+-- the next multiple is k − (2^64 − 1) % k above 2^64 − 1, and one less above 2^64
+pub excess-computed : (k : ℕ) → 0 < k → k - 1 - 18_446_744_073_709_551_615 % k ≡ excess k
+excess-computed k s =
+    omega (
+      arith,
+      NatL.mod-lt 18_446_744_073_709_551_615 s,
+      NatL.div-add-mod' 18_446_744_073_709_551_615 k,
+      NatL.add-mul (18_446_744_073_709_551_615 / k) 1 k,
+    )
+
+-- a product fits where one number is at most how often the other goes into the most that fits
+pub product-tested : (m x : ℕ) → 0 < m → leb x (18_446_744_073_709_551_615 / m) ≡ leb (m * x) 18_446_744_073_709_551_615
+product-tested m x s = by (decLe x (18_446_744_073_709_551_615 / m))
+  where
+    either : (x ≤ 18_446_744_073_709_551_615 / m) ↔ (x * m ≤ 18_446_744_073_709_551_615)
+    either = NatL.le-div-iff-mul-le s
+
+    over : (x ≤ 18_446_744_073_709_551_615 / m → ⊥) → 18_446_744_073_709_551_615 < m * x
+    over h = NatL.lt-of-not-le (λ k. h (either .1 (omega arith)))
+
+    by : Dec (x ≤ 18_446_744_073_709_551_615 / m) → leb x (18_446_744_073_709_551_615 / m) ≡ leb (m * x) 18_446_744_073_709_551_615
+    by (yes h) = le-leb _ _ h ∙ sym (le-leb (m * x) 18_446_744_073_709_551_615 (omega (arith, either .0 h)))
+    by (no h) = lt-leb x (18_446_744_073_709_551_615 / m) (omega arith) ∙ sym (lt-leb _ _ (over h))

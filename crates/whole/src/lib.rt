@@ -1,11 +1,14 @@
 // Whole numbers held in 64 bits: sums of weight times value, and the nearest code, exact over ℤ; the lesser and the greater of two numbers, and their
-// greatest common divisor; division by a number that stays the same.
+// greatest common divisor; the upper half of a product; division by a number that stays the same.
 pub use divisor::common_divisor;
+pub use order::greater;
 pub use order::greater_code;
 pub use order::lesser;
 pub use order::lesser_code;
 pub use order::lesser_count;
+pub use product::upper_half;
 pub use reciprocal::Divisor;
+pub use reciprocal::Reciprocal;
 ghost use mathlib.Core.Path.{_≡_};
 ghost use Prim.Native.Nat.{_+_, _*_, _≤_, _<_, max};
 ghost use lib.IntN.{pos, natAbs, _+ℤ_, _*ℤ_};
@@ -15,6 +18,7 @@ ghost use Rattle.whole.specs.Nearest.{rounded, code};
 
 mod divisor;
 mod order;
+mod product;
 mod reciprocal;
 
 pub struct Whole(pub i64);

@@ -8,6 +8,12 @@ pub fn lesser(a: u64, b: u64) -> u64
     if b < a { b } else { a }
 }
 
+pub fn greater(a: u64, b: u64) -> u64
+    ensures { λ r. ⌜ r ≡ max a b ⌝ }
+{
+    if a < b { b } else { a }
+}
+
 // Of two counts of things in memory.
 pub fn lesser_count(a: usize, b: usize) -> usize
     ensures { λ r. ⌜ r ≡ min a b ⌝ }

@@ -1,7 +1,10 @@
-// Division by a number that stays the same, without dividing: its reciprocal gives a guess, which is at most one too small.
+// Division by a number that stays the same, without dividing: its reciprocal, rounded down, gives a guess, which is at most one too small; rounded up, and
+// with the upper half of a product, it gives the quotient itself.
+use crate::product::upper_half;
 ghost use mathlib.Core.Path.{_≡_};
-ghost use Prim.Native.Nat.{_/_, _<_};
-ghost use Rattle.whole.specs.Reciprocals.{divisorOf, Dividable};
+ghost use Prim.Native.Nat.{_*_, _/_, _<_};
+ghost use lib.Dec.{leb};
+ghost use Rattle.whole.specs.Reciprocals.{divisorOf, Dividable, reciprocalOf, excess, Divides};
 
 // The number, and how often it goes into 2^63.
 pub struct Divisor {
@@ -29,5 +32,46 @@ impl Divisor {
         let guess = n / 8_388_608 * self.reciprocal / 1_099_511_627_776;
         let rest = n - guess * by;
         if rest < by { guess } else { guess + 1 }
+    }
+}
+
+// A number, and 2^64 over it, rounded up: the upper half of one product is the quotient, as long as what rounding up adds does not come to a whole.
+pub struct Reciprocal {
+    pub by: u64,
+    pub times: u64,
+}
+
+impl Reciprocal {
+    // Of 1 it would be 2^64, which does not fit.
+    pub fn of(by: u64) -> Reciprocal
+        requires { ⌜ 1 < by ⌝ }
+        ensures { λ r. ⌜ r ≡ reciprocalOf by ⌝ }
+    {
+        Reciprocal {
+            by,
+            times: 18_446_744_073_709_551_615 / by + 1,
+        }
+    }
+
+    // Whether it divides every number up to most. Most times the excess may not fit, so the excess is held to a quotient.
+    pub fn divides(self, most: u64) -> bool
+        requires { ⌜ 1 < self .by ⌝ }
+        requires { ⌜ self ≡ reciprocalOf (self .by) ⌝ }
+        ensures { λ r. ⌜ r ≡ leb (most * excess (self .by)) 18_446_744_073_709_551_615 ⌝ }
+    {
+        if most == 0 {
+            return true;
+        }
+        let by = self.by;
+        let excess = by - 1 - 18_446_744_073_709_551_615 % by;
+        excess <= 18_446_744_073_709_551_615 / most
+    }
+
+    // How often it goes into n.
+    pub fn quotient(self, n: u64) -> u64
+        requires { ⌜ Divides self n ⌝ }
+        ensures { λ r. ⌜ r ≡ n / self .by ⌝ }
+    {
+        upper_half(n, self.times)
     }
 }

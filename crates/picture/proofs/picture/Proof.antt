@@ -1,7 +1,7 @@
 -- The checks run 24, 20, 21, 22, 23; what each has shown goes on to the next, and what all have shown to the plan and the loop that writes.
 use denote.Ref.{now}
 use Prim.Native.Nat.{ℕ}
-use mathlib.Core.Path.{_≡_, sym, ap, _∙_}
+use mathlib.Core.Path.{_≡_, refl, sym, ap, _∙_}
 use mathlib.Core.Bool.{true}
 use mathlib.Core.List.{List, _++_}
 use borrow.Author.Needs.{needs}
@@ -146,7 +146,7 @@ plan-of-requires : tie.Need-plan-of-requires
 plan-of-requires c κs = let k = told c in ((_, could (asked k)), ratio-known (entry (asked k) .args .bits) (depths k) (known k))
 
 correct-all-requires : tie.Need-correct-all-requires
-correct-all-requires c κs = (plan-there (c .before), passed (c .before .before))
+correct-all-requires c κs = ((plan-there (c .before), (refl, inside (c .before .before))), passed (c .before .before))
 
 same-length : tie.Need-same-length
 same-length c = search needs
@@ -156,7 +156,7 @@ returns-6 c =
     let made = c .before .before .before .before in
     let tried = made .before in
     let k = told tried in
-    accepts (could (asked k)) (known k) (passed tried) (inside tried) (c .before .before .correct-all .ensures (plan-there made))
+    accepts (could (asked k)) (known k) (passed tried) (inside tried) (c .before .before .correct-all .ensures (plan-there made) refl)
 
 pub picture-spec : {M : Type 1} → statement M
 picture-spec =

@@ -6,8 +6,8 @@ use borrow.Author.Needs.{needs}
 use lib.ListN.{length-set}
 use Rattle.rules.specs.Answers.{codesOf}
 use Rattle.rules.proofs.Memory.{stores-splice}
-use Rattle.picture.proofs.write_pixel.Statement.{statement}
-use Rattle.picture.proofs.write_pixel.Tie as tie
+use Rattle.picture.proofs.pixels.write_pixel.Statement.{statement}
+use Rattle.picture.proofs.pixels.write_pixel.Tie as tie
 
 mul-dst : tie.Need-mul-dst
 mul-dst c = search needs

@@ -1,0 +1,2 @@
+-- What only the code needs: nothing here has to be believed.
+pub mod Strips
