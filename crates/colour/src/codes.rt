@@ -23,7 +23,7 @@ ghost use Rattle.colour.specs.Adding.{sumIn, SharesFit, Codable, Coded};
 
 // The code nearest to M·S / (D·10,000,000), with the M of corrected codes. Whatever S is, the nearest code is that of S moved into 0 to D·10,000,000; p times
 // that, over the unit, is as much, and fits 64 bits.
-pub fn code_of(p: u64, axis: Axis, sum: Whole) -> u16
+fn code_of(p: u64, axis: Axis, sum: Whole) -> u16
     requires { ⌜ ((m : ℕ) × Codable p axis m) ⌝ }
     ensures { λ r. ⌜ ((m : ℕ) → Codable p axis m → r ≡ code (pos m *ℤ sum .0) (axis .full) m) ⌝ }
 {

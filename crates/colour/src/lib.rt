@@ -1,5 +1,4 @@
 // One pixel to three corrected codes, with the rows and weights used: a plan, the two halves of the way over it, and both in one.
-pub use codes::code_of;
 use codes::codes_by;
 use codes::line_codes;
 pub use lines::Line;

@@ -50,7 +50,7 @@ module _ {plan : Plan} {table : List ℤ} (p : Planned plan table) (c : Colour) 
         in-terms = in-parts;
         divisor = parted .divisor-is;
         fits = omega (arith, whole .fits, NatL.mul-left-comm g (plan .times) (axis .full), ap (λ x. plan .times * x) full-parts, part-most (plan .times * axis .full), part-most (axis .unit), parted .unit-is);
-        least = parted .least;
+        least = omega (arith, parted .least);
         deepest = whole .deepest;
       }
     where

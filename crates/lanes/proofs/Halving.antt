@@ -1,14 +1,13 @@
--- With full = m·unit, m·s over full is s over the unit, and the nearest whole number is (s + unit / 2) / unit, s moved into 0 to full. Below 0 that is 0, above
--- full it is m.
+-- With p·full = m·unit, m·s over full is p·s over the unit, and the nearest whole number is (p·s + unit / 2) / unit, s moved into 0 to full. Below 0 that is 0,
+-- above full it is m.
 use Prim.Native.Nat.{ℕ, _+_, _*_, _/_, _≤_, _<_, min}
 use mathlib.Core.Path.{_≡_, sym, ap, _∙_}
 use native.Mathlib.Nat as NatL
-use native.Mathlib.Decide.{decLt}
 use native.Mathlib.Omega.{arith}
 use lib.IntN.{ℤ, pos, _*ℤ_}
 use Rattle.whole.specs.Integers.{up}
 use Rattle.whole.specs.Nearest.{rounded, code}
-use Rattle.whole.proofs.NearestLaws.{code-top, code-in-terms}
+use Rattle.whole.proofs.NearestLaws.{code-in-terms}
 
 by-half : (s unit : ℕ) → 0 < unit → rounded s unit ≡ (s + unit / 2) / unit
 by-half s unit u =
@@ -22,30 +21,32 @@ by-half s unit u =
 whole-and-half : (k unit : ℕ) → 0 < unit → (k * unit + unit / 2) / unit ≡ k
 whole-and-half k unit u = NatL.div-eq-of-lt-le {k = k} unit (omega arith) (omega (arith, NatL.add-mul k 1 unit))
 
-module _ (m full unit : ℕ) (in-terms : full ≡ m * unit) (some : 0 < unit) (z : ℤ) where
-  at-units : (k : ℕ) → min full (up z) ≡ k * unit → (min full (up z) + unit / 2) / unit ≡ k
-  at-units k e = ap (λ s. (s + unit / 2) / unit) e ∙ whole-and-half k unit some
+module _ (p m full unit : ℕ) (in-terms : p * full ≡ m * unit) (wide : 0 < full) (some : 0 < unit) (z : ℤ) where
+  halved-is : code (pos m *ℤ z) full m ≡ (p * min full (up z) + unit / 2) / unit
+  halved-is = code-in-terms p m full unit z wide some in-terms ∙ by-half (p * min full (up z)) unit some
 
-  -- also where m is 0, and full with it
-  near-is : code (pos m *ℤ z) full m ≡ (min full (up z) + unit / 2) / unit
-  near-is = by (decLt 0 m)
-    where
-      by : Dec (0 < m) → code (pos m *ℤ z) full m ≡ (min full (up z) + unit / 2) / unit
-      by (yes h) =
-          let wide : 0 < full = omega (arith, NatL.mul-le-mul-right unit h) in
-          code-in-terms 1 m full unit z wide some (omega arith)
-          ∙ ap (λ s. rounded s unit) (NatL.one-mul _)
-          ∙ by-half (min full (up z)) unit some
-      by (no h) =
-          let none : m ≡ 0 = omega arith in
-          let empty : full ≡ 0 * unit = in-terms ∙ ap (λ m. m * unit) none in
-          omega (arith, code-top (pos m *ℤ z) full m, none, at-units 0 (omega (arith, empty)))
+  at-units : (k s : ℕ) → min full (up z) ≡ s → p * s ≡ k * unit → k ≡ code (pos m *ℤ z) full m
+  at-units k s e u = sym (halved-is ∙ ap (λ x. (p * x + unit / 2) / unit) e ∙ ap (λ x. (x + unit / 2) / unit) u ∙ whole-and-half k unit some)
 
   pub when-below : up z ≡ 0 → 0 ≡ code (pos m *ℤ z) full m
-  when-below e = sym (near-is ∙ at-units 0 (omega arith))
+  when-below e = at-units 0 0 (omega arith) (omega arith)
 
   pub when-above : full < up z → m ≡ code (pos m *ℤ z) full m
-  when-above h = sym (near-is ∙ at-units m (omega arith))
+  when-above h = at-units m full (omega arith) in-terms
 
-  pub when-inside : up z ≤ full → (up z + unit / 2) / unit ≡ code (pos m *ℤ z) full m
-  when-inside h = ap (λ s. (s + unit / 2) / unit) (sym (NatL.min-eq-right h)) ∙ sym near-is
+  pub when-inside : up z ≤ full → (p * up z + unit / 2) / unit ≡ code (pos m *ℤ z) full m
+  when-inside h = ap (λ s. (p * s + unit / 2) / unit) (sym (NatL.min-eq-right h)) ∙ sym halved-is
+
+-- with p = 1
+module _ (m full unit : ℕ) (in-terms : full ≡ m * unit) (wide : 0 < full) (some : 0 < unit) (z : ℤ) where
+  once : 1 * full ≡ m * unit
+  once = NatL.one-mul full ∙ in-terms
+
+  pub once-below : up z ≡ 0 → 0 ≡ code (pos m *ℤ z) full m
+  once-below = when-below 1 m full unit once wide some z
+
+  pub once-above : full < up z → m ≡ code (pos m *ℤ z) full m
+  once-above = when-above 1 m full unit once wide some z
+
+  pub once-inside : up z ≤ full → (up z + unit / 2) / unit ≡ code (pos m *ℤ z) full m
+  once-inside h = ap (λ s. (s + unit / 2) / unit) (sym (NatL.one-mul (up z))) ∙ when-inside 1 m full unit once wide some z h

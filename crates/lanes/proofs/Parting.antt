@@ -50,7 +50,7 @@ low-in-parts z g low h = not-above z low ∙ ap (λ n. negℤ (pos n)) (in-parts
 -- ---- an axis
 
 -- divided by a number that goes into it
-pub axis-parted : (g : ℕ) (axis : Axis) {low : Whole} {divisor : Divisor} → up (axis .low .0) ≡ 0 → GoesInto g axis → 8_388_608 ≤ axis .unit / g
+pub axis-parted : (g : ℕ) (axis : Axis) {low : Whole} {divisor : Divisor} → up (axis .low .0) ≡ 0 → GoesInto g axis → 8_388_608 < axis .unit / g
     → low .0 ≡ quotZ (axis .low .0) (pos g) → divisor ≡ divisorOf (2 * (axis .unit / g))
     → Parted g axis
     (record {

@@ -5,7 +5,7 @@ use mathlib.Core.Bool.{true}
 use mathlib.Core.List.{List}
 use lib.Dec.{leb}
 use lib.IntN.{ℤ, natAbs}
-use Rattle.whole.specs.Reciprocals.{reciprocalOf, excess}
+use Rattle.whole.specs.Reciprocals.{reciprocalOf, excess, twoTo87, wideOf}
 use Rattle.rules.specs.Units.{rawM, correctedM, codeIn}
 use Rattle.rules.specs.declared.Codes.{Codes}
 use Rattle.rules.specs.declared.Colour.{Colour}
@@ -57,6 +57,21 @@ pub record Cuboid (plan : Plan) (table : List ℤ) : Type 0 where
   pub planned : Planned plan table
   pub three-d : plan .kind ≡ ThreeD
 
+-- half the unit and its reciprocals, of numbers that are small enough
+pub record Halved (cube : Cube) : Type 0 where
+  pub half-is : cube .half ≡ cube .axis .unit / 2
+  pub unit-is : cube .unit ≡ reciprocalOf (cube .axis .unit)
+  pub wide-is : cube .wide ≡ wideOf (cube .axis .unit)
+  pub least : 8_388_608 < cube .axis .unit
+  pub room : cube .axis .full < 9_223_372_036_854_775_808
+  pub fits : cube .times * cube .axis .full + cube .axis .unit < 9_223_372_036_854_775_808
+
+-- the wide reciprocal divides p times the greatest sum
+pub record Wide (cube : Cube) : Type 0 where
+  pub halved : Halved cube
+  pub exact : leb ((cube .times * cube .axis .full + cube .half + 1) * cube .axis .unit) twoTo87 ≡ true
+
+-- a cube of a plan, by parts of its axes
 pub record Cubed (cube : Cube) (table : List ℤ) : Type 0 where
   pub plan : Plan
   pub planned : Planned plan table
@@ -68,29 +83,23 @@ pub record Cubed (cube : Cube) (table : List ℤ) : Type 0 where
   pub across-is : cube .across ≡ cube .lanes .red .stride + cube .lanes .green .stride + cube .lanes .blue .stride
   pub times-is : cube .times ≡ plan .times
   pub most-is : cube .most ≡ correctedM (planned .depths)
+  pub wide : Wide cube
 
--- half the unit and its reciprocal, of numbers that are small enough
-pub record Halved (cube : Cube) : Type 0 where
-  pub half-is : cube .half ≡ cube .axis .unit / 2
-  pub unit-is : cube .unit ≡ reciprocalOf (cube .axis .unit)
-  pub least : 8_388_608 ≤ cube .axis .unit
-  pub most : cube .axis .unit < 9_223_372_036_854_775_808
-  pub room : cube .axis .full < 9_223_372_036_854_775_808
-
--- p is 1, and the reciprocal divides the greatest sum
+-- p is 1, and the shorter reciprocal divides the greatest sum
 pub record Single (cube : Cube) : Type 0 where
   pub halved : Halved cube
   pub one : cube .times ≡ 1
   pub exact : leb ((cube .axis .full + cube .half) * excess (cube .axis .unit)) 18_446_744_073_709_551_615 ≡ true
 
 abbrev pub NearOrFar : Cube → CubeFound → Type 0
-NearOrFar cube (C.Near c) = (c ≡ cube) × Single cube
-NearOrFar cube (C.Far c) = c ≡ cube
+NearOrFar cube (C.Near c) = (c ≡ cube) × (Wide cube × Single cube)
+NearOrFar cube (C.Far c) = (c ≡ cube) × Wide cube
 NearOrFar cube C.Beyond = Unit {0}
 
 -- so that its sums are codes by one product
 pub record Nearby (cube : Cube) : Type 0 where
   pub single : Single cube
+  pub some : 0 < cube .axis .full
   pub in-terms : cube .axis .full ≡ cube .most * cube .axis .unit
   pub deepest : cube .most ≤ 65535
 

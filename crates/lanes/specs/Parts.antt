@@ -1,5 +1,5 @@
 -- An axis in greater parts.
-use Prim.Native.Nat.{ℕ, _*_, _%_, _≤_}
+use Prim.Native.Nat.{ℕ, _*_, _%_, _≤_, _<_}
 use mathlib.Core.Path.{_≡_}
 use lib.IntN.{pos, negℤ, natAbs}
 use Rattle.whole.specs.Reciprocals.{divisorOf}
@@ -24,7 +24,7 @@ pub record Parted (g : ℕ) (axis parts : Axis) : Type 0 where
   pub full-is : parts .full ≡ denominator (parts .den)
   pub divisor-is : parts .divisor ≡ divisorOf (2 * parts .unit)
   pub stride-is : parts .stride ≡ axis .stride
-  pub least : 8_388_608 ≤ parts .unit
+  pub least : 8_388_608 < parts .unit
 
 abbrev pub PartedIf : ℕ → Axis → AxisFound → Type 0
 PartedIf g axis (In parts) = Parted g axis parts

@@ -3,6 +3,7 @@
 use crate::lane::Lane;
 use crate::lane::LaneFound;
 use crate::lane::lane_of;
+use crate::nearest::far_code;
 use crate::nearest::near_code;
 use crate::parts::AxisFound;
 use crate::parts::common_parts;
@@ -12,11 +13,11 @@ use crate::path::path_of;
 use crate::path::path_sum;
 use colour::Axis;
 use colour::Plan;
-use colour::code_of;
 use rules::Codes;
 use rules::Colour;
 use rules::Depths;
 use whole::Reciprocal;
+use whole::WideReciprocal;
 ghost use mathlib.Core.Path.{_≡_};
 ghost use mathlib.Core.List.{List};
 ghost use Prim.Native.Nat.{_≤_, _<_};
@@ -41,14 +42,15 @@ pub struct Cube {
     pub axis: Axis,
     // p, of the ratio p / q of the two M.
     pub times: u64,
-    // Half the unit and its reciprocal, for sums of equal depths.
+    // Half the unit and its reciprocals, the shorter for sums of equal depths.
     pub half: u64,
     pub unit: Reciprocal,
+    pub wide: WideReciprocal,
     // The M of corrected codes.
     pub most: u16,
 }
 
-// Near: the depths are equal and the unit's reciprocal is exact.
+// Near: the depths are equal and the unit's shorter reciprocal is exact. Far: the wide one is.
 pub enum CubeFound {
     Near(Cube),
     Far(Cube),
@@ -103,13 +105,17 @@ fn lanes_of(plan: Plan, g: u64, m: u16) -> LanesFound
 
 // ---- the cube
 
-// Near where p is 1 and the reciprocal of the unit is exact up to the greatest sum.
+// Near where p is 1 and the shorter reciprocal of the unit is exact up to the greatest sum. Beyond where the wide one is not, p times that.
 fn near_or_far(cube: Cube) -> CubeFound
     requires { ⌜ Halved cube ⌝ }
     ensures { λ r. ⌜ NearOrFar cube r ⌝ }
 {
     let axis = cube.axis;
     let unit = cube.unit;
+    let wide = cube.wide;
+    if !wide.divides(cube.times * axis.full + cube.half) {
+        return CubeFound::Beyond;
+    }
     if cube.times == 1 {
         if unit.divides(axis.full + cube.half) {
             return CubeFound::Near(cube);
@@ -117,6 +123,9 @@ fn near_or_far(cube: Cube) -> CubeFound
     }
     CubeFound::Far(cube)
 }
+
+// The wide reciprocal is kept of numbers below 2^41.
+const UNIT_END: u64 = 2_199_023_255_552;
 
 pub fn cube_of(plan: Plan, depths: Depths) -> CubeFound
     requires { ⌜ ((table : List ℤ) × ((p : Cuboid plan table) × (p .planned .depths ≡ depths))) ⌝ }
@@ -131,10 +140,13 @@ pub fn cube_of(plan: Plan, depths: Depths) -> CubeFound
     let AxisFound::In(axis) = parted(plan.red, g) else {
         return CubeFound::Beyond;
     };
+    let unit = axis.unit;
+    if unit >= UNIT_END {
+        return CubeFound::Beyond;
+    }
     let red = lanes.red;
     let green = lanes.green;
     let blue = lanes.blue;
-    let unit = axis.unit;
     near_or_far(Cube {
         lanes,
         across: red.stride as u64 + green.stride as u64 + blue.stride as u64,
@@ -142,6 +154,7 @@ pub fn cube_of(plan: Plan, depths: Depths) -> CubeFound
         times: plan.times,
         half: unit / 2,
         unit: Reciprocal::of(unit),
+        wide: WideReciprocal::of(unit),
         most: corrected.greatest(),
     })
 }
@@ -171,17 +184,15 @@ pub fn near_codes(cube: Cube, table: &[i64], start: u64, red: u64, green: u64, b
     }
 }
 
-// Both, far: by the way of look from the sums on.
+// Both, far: to their codes by p and another product each.
 pub fn far_codes(cube: Cube, table: &[i64], start: u64, red: u64, green: u64, blue: u64) -> Codes
     requires { ⌜ Placed cube (now table) start red green blue ⌝ }
     ensures { λ r. ⌜ ((p : Placed cube (now (table .entry)) start red green blue) → r ≡ correct (p .cubed .planned .d) (now (table .entry)) (p .cubed .planned .depths) (p .pixel)) ⌝ }
 {
     let path = path_in(cube, start, red, green, blue);
-    let times = cube.times;
-    let axis = cube.axis;
     Codes {
-        red: code_of(times, axis, path_sum(table, path, Colour::Red)),
-        green: code_of(times, axis, path_sum(table, path, Colour::Green)),
-        blue: code_of(times, axis, path_sum(table, path, Colour::Blue)),
+        red: far_code(cube, path_sum(table, path, Colour::Red)),
+        green: far_code(cube, path_sum(table, path, Colour::Green)),
+        blue: far_code(cube, path_sum(table, path, Colour::Blue)),
     }
 }

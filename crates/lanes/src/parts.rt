@@ -63,8 +63,8 @@ fn goes_into(g: u64, axis: Axis) -> bool
     axis.unit % g == 0
 }
 
-// The least number that a reciprocal is kept of, 2^23.
-const LEAST_UNIT: u64 = 8_388_608;
+// The least number that every kind of reciprocal is kept of, 2^23 and 1.
+const LEAST_UNIT: u64 = 8_388_609;
 
 // The axis in parts of g each, if g goes into it and no code is below its lower bound.
 pub fn parted(axis: Axis, g: u64) -> AxisFound

@@ -1,4 +1,6 @@
--- Laws that the proofs of the functions cite: of the greatest code, and of an output that is filled.
+-- Laws that the proofs of the functions cite: of the greatest code, of an output that is filled, of blocks, and of passes.
 pub mod Maxima
 pub mod Filled
 mod Blocking
+mod Passing
+mod ThreePasses

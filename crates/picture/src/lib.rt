@@ -6,6 +6,7 @@ use cubes::correct_cube;
 use judge::could_be_read;
 use lanes::CubeFound;
 use lanes::cube_of;
+use lines::correct_lines;
 use pixels::pixel_from;
 use pixels::write_pixel;
 use rules::Bits;
@@ -31,6 +32,7 @@ ghost use Rattle.colour.specs.Plans.{Planned};
 ghost use Rattle.picture.specs.Filling.{Fillable};
 
 mod cubes;
+mod lines;
 mod pixels;
 
 // ---- 23, of all codes at once
@@ -72,7 +74,7 @@ pub fn correct_all(plan: Plan, depths: Depths, table: &[i64], src: &[u16], dst: 
 {
     let kind = plan.kind;
     let Kind::ThreeD = kind else {
-        correct_each(plan, table, src, dst);
+        correct_lines(plan, depths, table, src, dst);
         return;
     };
     match cube_of(plan, depths) {

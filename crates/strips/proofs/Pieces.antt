@@ -37,7 +37,7 @@ use Rattle.lanes.proofs.Running.{runs-read}
 use Rattle.lanes.proofs.Positions.{positionIn, position-in-parts}
 use Rattle.lanes.proofs.Scaled.{reading-scaled, total-scaled, pair-scaled, code-in-parts}
 use Rattle.lanes.proofs.Parting.{parts-most}
-use Rattle.lanes.proofs.Halving.{when-below, when-above, when-inside}
+use Rattle.lanes.proofs.Halving.{once-below, once-above, once-inside}
 use Rattle.strips.specs.Strips.{Stripped, slopeParts, baseParts, stepOf, slopeOf, baseOf}
 use Rattle.strips.specs.declared.Strip.{Strip}
 
@@ -230,6 +230,9 @@ module _ {strip : Strip} {table : List ℤ} (s : Stripped strip table) where
   unit-some : 0 < unit
   unit-some = omega (arith, s .parted .least)
 
+  full-some : 0 < full
+  full-some = omega (arith, s .runs .wide, s .parted .full-is)
+
   half-most : 2 * strip .half ≤ unit
   half-most = omega (arith, s .half-is)
 
@@ -250,11 +253,11 @@ module _ {strip : Strip} {table : List ℤ} (s : Stripped strip table) where
 
     pub moved-below : up moved ≡ 0 → 0 ≡ nearest
     moved-below e =
-        when-below most full unit (s .in-terms) unit-some z (omega (arith, moved-is, H.split z, H.split moved))
+        once-below most full unit (s .in-terms) full-some unit-some z (omega (arith, moved-is, H.split z, H.split moved))
 
     pub moved-above : strip .top < up moved → most ≡ nearest
     moved-above h =
-        when-above most full unit (s .in-terms) unit-some z
+        once-above most full unit (s .in-terms) full-some unit-some z
         (omega (arith, moved-is, H.split z, H.split moved, s .top-is))
 
     pub moved-inside : dn moved ≡ 0 → up moved ≤ strip .top → up moved / strip .unit .by ≡ nearest
@@ -263,10 +266,10 @@ module _ {strip : Strip} {table : List ℤ} (s : Stripped strip table) where
         by : Dec (dn z ≤ 0) → up moved / unit ≡ nearest
         by (yes n) =
             ap (λ x. x / unit) (omega (arith, moved-is, s .half-is))
-            ∙ when-inside most full unit (s .in-terms) unit-some z (omega (arith, moved-is, s .top-is))
+            ∙ once-inside most full unit (s .in-terms) full-some unit-some z (omega (arith, moved-is, s .top-is))
         by (no n) =
             NatL.div-eq-of-lt (omega (arith, moved-is, H.split z, half-most))
-            ∙ when-below most full unit (s .in-terms) unit-some z (omega (arith, H.split z))
+            ∙ once-below most full unit (s .in-terms) full-some unit-some z (omega (arith, H.split z))
 
   -- ---- how great the numbers are
 

@@ -3,6 +3,7 @@ use Prim.Native.Nat.{ℕ, _+_, _-_, _*_, _/_, _≤_, _<_}
 use mathlib.Core.Path.{_≡_}
 use Rattle.whole.specs.declared.reciprocal.Divisor.{Divisor}
 use Rattle.whole.specs.declared.reciprocal.Reciprocal.{Reciprocal}
+use Rattle.whole.specs.declared.reciprocal.WideReciprocal.{WideReciprocal}
 
 -- ---- rounded down: the quotient is a guess or one more
 
@@ -32,3 +33,18 @@ pub record Divides (r : Reciprocal) (n : ℕ) : Type 0 where
   pub some : 0 < r .by
   pub above : 18_446_744_073_709_551_616 ≤ r .times * r .by
   pub near : n * (r .times * r .by - 18_446_744_073_709_551_616) < 18_446_744_073_709_551_616
+
+-- ---- the same with 23 bits more
+
+abbrev pub twoTo87 : ℕ
+twoTo87 = 154_742_504_910_672_534_362_390_528
+
+-- 2 ^ 87 over it, rounded down, and 1
+abbrev pub wideOf : ℕ → WideReciprocal
+wideOf k = record { by = k; times = twoTo87 / k + 1 }
+
+-- what the 1 adds to the n-fold does not come to a whole
+pub record WideDivides (r : WideReciprocal) (n : ℕ) : Type 0 where
+  pub some : 0 < r .by
+  pub above : twoTo87 ≤ r .times * r .by
+  pub near : n * (r .times * r .by - twoTo87) < twoTo87

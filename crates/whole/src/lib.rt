@@ -9,6 +9,7 @@ pub use order::lesser_count;
 pub use product::upper_half;
 pub use reciprocal::Divisor;
 pub use reciprocal::Reciprocal;
+pub use reciprocal::WideReciprocal;
 ghost use mathlib.Core.Path.{_≡_};
 ghost use Prim.Native.Nat.{_+_, _*_, _≤_, _<_, max};
 ghost use lib.IntN.{pos, natAbs, _+ℤ_, _*ℤ_};

@@ -1,10 +1,10 @@
 // Division by a number that stays the same, without dividing: its reciprocal, rounded down, gives a guess, which is at most one too small; rounded up, and
-// with the upper half of a product, it gives the quotient itself.
+// with the upper half of a product, it gives the quotient itself, of greater numbers where it has more bits.
 use crate::product::upper_half;
 ghost use mathlib.Core.Path.{_≡_};
-ghost use Prim.Native.Nat.{_*_, _/_, _<_};
+ghost use Prim.Native.Nat.{_+_, _*_, _/_, _<_};
 ghost use lib.Dec.{leb};
-ghost use Rattle.whole.specs.Reciprocals.{divisorOf, Dividable, reciprocalOf, excess, Divides};
+ghost use Rattle.whole.specs.Reciprocals.{divisorOf, Dividable, reciprocalOf, excess, Divides, twoTo87, wideOf, WideDivides};
 
 // The number, and how often it goes into 2^63.
 pub struct Divisor {
@@ -73,5 +73,44 @@ impl Reciprocal {
         ensures { λ r. ⌜ r ≡ n / self .by ⌝ }
     {
         upper_half(n, self.times)
+    }
+}
+
+// A number above 2^23, and 2^87 over it, rounded down, and 1: the upper half of one product, without its last 23 bits, is the quotient.
+pub struct WideReciprocal {
+    pub by: u64,
+    pub times: u64,
+}
+
+impl WideReciprocal {
+    // 2^64 is q·by + rest, and 2^23 times the rest still fits.
+    pub fn of(by: u64) -> WideReciprocal
+        requires { ⌜ 8_388_608 < by ⌝ }
+        requires { ⌜ by < 2_199_023_255_552 ⌝ }
+        ensures { λ r. ⌜ r ≡ wideOf by ⌝ }
+    {
+        let q = 18_446_744_073_709_551_615 / by;
+        let rest = 18_446_744_073_709_551_615 % by + 1;
+        WideReciprocal {
+            by,
+            times: q * 8_388_608 + rest * 8_388_608 / by + 1,
+        }
+    }
+
+    // Whether it surely divides every number up to most: what is added is at most the number itself.
+    pub fn divides(self, most: u64) -> bool
+        requires { ⌜ 0 < self .by ⌝ }
+        requires { ⌜ self ≡ wideOf (self .by) ⌝ }
+        ensures { λ r. ⌜ r ≡ leb ((most + 1) * self .by) twoTo87 ⌝ }
+    {
+        most < self.times - 1
+    }
+
+    // How often it goes into n.
+    pub fn quotient(self, n: u64) -> u64
+        requires { ⌜ WideDivides self n ⌝ }
+        ensures { λ r. ⌜ r ≡ n / self .by ⌝ }
+    {
+        upper_half(n, self.times) / 8_388_608
     }
 }

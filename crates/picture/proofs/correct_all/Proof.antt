@@ -1,4 +1,4 @@
--- Whichever way a picture goes, its codes are look's: by a cube that is one of its description and depths, or as look does.
+-- Whichever way a picture goes, its codes are look's: colour by colour, by a cube that is one of its description and depths, or as look does.
 use mathlib.Core.Path.{_≡_, ap, subst, _∙_}
 use mathlib.Core.Bool.{false≢true}
 use mathlib.Core.List.{_++_}
@@ -47,14 +47,14 @@ enum-told c = search needs
 enum-told-2 : tie.Need-enum-told-2
 enum-told-2 c = search needs
 
-correct-each-requires : tie.Need-correct-each-requires
-correct-each-requires c κs = search needs
+correct-lines-requires : tie.Need-correct-lines-requires
+correct-lines-requires c κs = search needs
 
 same-length : tie.Need-same-length
 same-length c = search needs
 
 returns : tie.Need-returns
-returns c = let s = c .before .before .before .before .before .before .before .before in λ p e. c .before .before .correct-each .ensures p ∙ by-depths s p e
+returns c = λ p e. c .before .before .correct-lines .ensures p e
 
 cube-of-requires : tie.Need-cube-of-requires
 cube-of-requires c κs =
@@ -84,8 +84,8 @@ correct-cube-requires-2 c κs =
 enum-told-3 : tie.Need-enum-told-3
 enum-told-3 c = search needs
 
-correct-each-requires-2 : tie.Need-correct-each-requires-2
-correct-each-requires-2 c κs = search needs
+correct-each-requires : tie.Need-correct-each-requires
+correct-each-requires c κs = search needs
 
 same-length-2 : tie.Need-same-length-2
 same-length-2 c = search needs
@@ -117,7 +117,7 @@ same-length-4 c = search needs
 returns-4 : tie.Need-returns-4
 returns-4 c =
     let s = entry (c .before .before .before .before .before .before) in
-    λ p e. c .before .before .correct-each2 .ensures p ∙ by-depths s p e
+    λ p e. c .before .before .correct-each .ensures p ∙ by-depths s p e
 
 pub correct-all-spec : {M : Type 1} → statement M
 correct-all-spec =
@@ -125,7 +125,7 @@ correct-all-spec =
     (tie.spec
     enum-told
     enum-told-2
-    correct-each-requires
+    correct-lines-requires
     same-length
     returns
     cube-of-requires
@@ -134,7 +134,7 @@ correct-all-spec =
     enum-known-cube-2
     correct-cube-requires-2
     enum-told-3
-    correct-each-requires-2
+    correct-each-requires
     same-length-2
     returns-2
     same-length-3

@@ -1,12 +1,12 @@
--- The lanes are those of the plan in parts, and so is the red axis; what makes codes of them follows from the plan by Cubing.
-use Prim.Native.Nat.{ℕ, _*_, _/_, _<_}
+-- The lanes are those of the plan in parts, and so is the red axis, whose unit has a wide reciprocal; what makes codes of them follows from the plan by Cubing.
+use Prim.Native.Nat.{ℕ, _+_, _*_, _/_, _<_}
 use mathlib.Core.Path.{_≡_, refl, sym, ap, subst, _∙_}
 use mathlib.Core.List.{List}
 use native.Mathlib.Nat as NatL
 use native.Mathlib.Omega.{arith}
 use borrow.Author.Needs.{needs}
 use lib.IntN.{ℤ}
-use Rattle.whole.specs.Reciprocals.{reciprocalOf}
+use Rattle.whole.specs.Reciprocals.{reciprocalOf, wideOf}
 use Rattle.rules.specs.Units.{rawM, correctedM}
 use Rattle.rules.specs.declared.Colour.the-variants.{Red}
 use Rattle.rules.specs.declared.Depths.{Depths}
@@ -15,7 +15,7 @@ use Rattle.colour.specs.Plans.{axisIn, Planned}
 use Rattle.colour.specs.declared.plan.Axis.{Axis}
 use Rattle.colour.specs.declared.plan.Plan.{Plan}
 use Rattle.colour.proofs.Plans.{axis-fits}
-use Rattle.lanes.specs.Cubes.{LaneOf, laneIn, LanesIf, Halved, Single, NearOrFar, Nearby, CubedFor, CubedIf}
+use Rattle.lanes.specs.Cubes.{LaneOf, laneIn, LanesIf, Halved, Wide, Single, NearOrFar, Nearby, CubedFor, CubedIf}
 use Rattle.lanes.specs.Parts.{Parted, PartedIf}
 use Rattle.lanes.specs.declared.cube.Cube.{Cube}
 use Rattle.lanes.specs.declared.cube.CubeFound.{CubeFound}
@@ -43,18 +43,26 @@ axis c = c .axis .given .0 .0
 parted-so : (c : tie.After-axis) → Parted (past c .before .before .before .before .common-parts .result) (entry (past c) .args .plan .red) (axis c)
 parted-so c = subst (PartedIf _ _) (c .axis .given .1) (c .before .before .parted .ensures)
 
+abbrev small : tie.After-struct-known3 → tie.Else1
+small c = c .before .before .before .before .before .before
+
+abbrev known : tie.After-struct-known3 → tie.After-axis
+known c = small c .before .before
+
 -- ---- a cube of it
 
 module _ {plan : Plan} {table : List ℤ} (p : Planned plan table) {g : ℕ} {cube : Cube} (some : 0 < g) (parted : Parted g (plan .red) (cube .axis)) where
-  halved : cube .half ≡ cube .axis .unit / 2 → cube .unit ≡ reciprocalOf (cube .axis .unit) → Halved cube
-  halved h u =
+  halved : cube .times ≡ plan .times → cube .half ≡ cube .axis .unit / 2 → cube .unit ≡ reciprocalOf (cube .axis .unit) → cube .wide ≡ wideOf (cube .axis .unit)
+      → Halved cube
+  halved t h u w =
       let whole = parts-codable p Red some parted in
       record {
         half-is = h;
         unit-is = u;
+        wide-is = w;
         least = parted .least;
-        most = omega (arith, whole .fits);
         room = omega (arith, parted .full-is, den-narrow p Red some parted);
+        fits = subst (λ x. x * cube .axis .full + cube .axis .unit < 9_223_372_036_854_775_808) (sym t) (omega (arith, whole .fits));
       }
 
   -- where p is 1
@@ -63,14 +71,15 @@ module _ {plan : Plan} {table : List ℤ} (p : Planned plan table) {g : ℕ} {cu
       let whole = parts-codable p Red some parted in
       record {
         single = single;
+        some = whole .wide;
         in-terms = sym (NatL.one-mul (cube .axis .full)) ∙ ap (λ x. x * cube .axis .full) (sym (single .one) ∙ t) ∙ whole .in-terms ∙ ap (λ x. x * cube .axis .unit) (sym e);
         deepest = rw e (p .corrected-most);
       }
 
-  found : {d : Description} {depths : Depths} → CubedFor d depths cube table → cube .times ≡ plan .times → cube .most ≡ correctedM (p .depths)
+  found : {d : Description} {depths : Depths} → (Wide cube → CubedFor d depths cube table) → cube .times ≡ plan .times → cube .most ≡ correctedM (p .depths)
       → (r : CubeFound) → NearOrFar cube r → CubedIf d depths table r
-  found {d} {depths} q t e (Near c) h = subst (λ x. CubedFor d depths x table × Nearby x) (sym (h .0)) (q, nearby t e (h .1))
-  found {d} {depths} q t e (Far c) h = subst (λ x. CubedFor d depths x table) (sym h) q
+  found {d} {depths} q t e (Near c) h = subst (λ x. CubedFor d depths x table × Nearby x) (sym (h .0)) (q (h .1 .0), nearby t e (h .1 .1))
+  found {d} {depths} q t e (Far c) h = subst (λ x. CubedFor d depths x table) (sym (h .0)) (q (h .1))
   found q t e Beyond h = tt
 
 -- ---- the answers
@@ -112,46 +121,53 @@ enum-told-2 c = search needs
 returns-2 : tie.Need-returns-2
 returns-2 c = λ table p e. tt
 
-cast-t15 : tie.Need-cast-t15
-cast-t15 c = search needs
+returns-3 : tie.Need-returns-3
+returns-3 c = λ table p e. tt
 
 cast-t16 : tie.Need-cast-t16
 cast-t16 c = search needs
 
-add-t17 : tie.Need-add-t17
-add-t17 c = search needs
+cast-t17 : tie.Need-cast-t17
+cast-t17 c = search needs
 
-cast-t18 : tie.Need-cast-t18
-cast-t18 c = search needs
+add-t18 : tie.Need-add-t18
+add-t18 c = search needs
 
-add-t19 : tie.Need-add-t19
-add-t19 c = search needs
+cast-t19 : tie.Need-cast-t19
+cast-t19 c = search needs
+
+add-t20 : tie.Need-add-t20
+add-t20 c = search needs
 
 of-requires : tie.Need-of-requires
-of-requires c κs = omega (arith, parted-so (c .before .before .before .before .before .before .before) .least)
+of-requires c κs = omega (arith, parted-so (known c) .least)
+
+of-requires-2 : tie.Need-of-requires-2
+of-requires-2 c κs = (parted-so (known (c .before)) .least, small (c .before) .if1 .left)
 
 greatest-requires-2 : tie.Need-greatest-requires-2
 greatest-requires-2 c κs = search needs
 
 near-or-far-requires : tie.Need-near-or-far-requires
 near-or-far-requires c κs =
-    let known = c .before .before .before .before .before .before .before .before .before in
-    let s = entry (past known) in
-    halved (s .pre .1 .0 .planned) (past known .before .before .before .before .common-parts .ensures) (parted-so known) refl (c .before .of .ensures)
+    let k = known (c .before .before .before) in
+    let s = entry (past k) in
+    halved (s .pre .1 .0 .planned) (past k .before .before .before .before .common-parts .ensures) (parted-so k) refl refl (c .before .before .of .ensures)
+    (c .before .of2 .ensures)
 
-returns-3 : tie.Need-returns-3
-returns-3 c =
+returns-4 : tie.Need-returns-4
+returns-4 c =
     let deepest = c .before in
-    let known = deepest .before .before .before .before .before .before .before .before .before in
-    let before = past known in
+    let k = known (deepest .before .before .before) in
+    let before = past k in
     let deep = before .before .before .before in
     let a = entry before .args in
     let g = deep .before .common-parts .result in
     let lanes-so = subst (LanesIf g (deep .greatest .result) (a .plan)) (before .lanes .given .1) (before .before .before .lanes-of .ensures) in
     λ table p e.
     let most = deepest .greatest2 .ensures ∙ ap correctedM (sym e) in
-    found (p .planned) (deep .before .common-parts .ensures) (parted-so known)
-    (record {
+    found (p .planned) (deep .before .common-parts .ensures) (parted-so k)
+    (λ w. record {
       cubed =
           record {
             plan = a .plan;
@@ -160,10 +176,11 @@ returns-3 c =
             g = g;
             some = deep .before .common-parts .ensures;
             lanes = λ k. subst (λ m. LaneOf g m (a .plan .cells) (axisIn (a .plan) k) (laneIn (lanes before) k)) (deep .greatest .ensures ∙ ap rawM (sym e)) (lanes-so k);
-            parted = parted-so known;
+            parted = parted-so k;
             across-is = refl;
             times-is = refl;
             most-is = most;
+            wide = w;
           };
       d-is = refl;
       depths-are = e;
@@ -184,12 +201,14 @@ cube-of-spec =
     enum-known-axis
     enum-told-2
     returns-2
-    cast-t15
+    returns-3
     cast-t16
-    add-t17
-    cast-t18
-    add-t19
+    cast-t17
+    add-t18
+    cast-t19
+    add-t20
     of-requires
+    of-requires-2
     greatest-requires-2
     near-or-far-requires
-    returns-3)
+    returns-4)

@@ -1,6 +1,6 @@
 -- Below 0 the code is 0, above full it is M, and in between it is (S + unit / 2) / unit, which the reciprocal gives, since it divides full and half the unit
 -- more.
-use Prim.Native.Nat.{ℕ, _+_, _/_, _≤_, _<_}
+use Prim.Native.Nat.{ℕ, _+_, _*_, _/_, _≤_, _<_}
 use mathlib.Core.Path.{_≡_, sym, ap, ap₂, subst, _∙_}
 use native.Mathlib.Omega.{arith}
 use lib.IntN.{ℤ, pos, natAbs, _*ℤ_}
@@ -16,7 +16,7 @@ use Rattle.whole.proofs.NearestLaws.{code-top}
 use Rattle.whole.proofs.Reciprocals.{reciprocal-divides}
 use Rattle.lanes.specs.Cubes.{Nearby}
 use Rattle.lanes.specs.declared.cube.Cube.{Cube}
-use Rattle.lanes.proofs.Halving.{when-below, when-above, when-inside}
+use Rattle.lanes.proofs.Halving.{once-below, once-above, once-inside}
 use Rattle.lanes.proofs.nearest.near_code.Statement.{statement}
 use Rattle.lanes.proofs.nearest.near_code.Tie as tie
 
@@ -43,15 +43,15 @@ module _ (cube : Cube) (n : Nearby cube) where
 
   module _ (z : ℤ) where
     below-full : up z ≡ 0 → 0 ≡ code (pos most *ℤ z) full most
-    below-full = when-below most full unit (n .in-terms) some z
+    below-full = once-below most full unit (n .in-terms) (n .some) some z
 
     above-full : full < up z → most ≡ code (pos most *ℤ z) full most
-    above-full = when-above most full unit (n .in-terms) some z
+    above-full = once-above most full unit (n .in-terms) (n .some) some z
 
     inside-full : up z ≤ full → (up z + cube .half) / cube .unit .by ≡ code (pos most *ℤ z) full most
     inside-full h =
         ap₂ (λ x (r : Reciprocal). (up z + x) / r .by) (n .single .halved .half-is) (n .single .halved .unit-is)
-        ∙ when-inside most full unit (n .in-terms) some z h
+        ∙ once-inside most full unit (n .in-terms) (n .some) some z h
 
 -- ---- S as a u64
 
@@ -79,7 +79,7 @@ returns-2 c =
 add-quotient : tie.Need-add-quotient
 add-quotient c =
     let h = c .before .before .before .before .before .before .before .pre .single .halved in
-    record { fits = omega (arith, c .before .before .if2 .left, h .room, h .half-is, h .most) }
+    record { fits = omega (arith, c .before .before .if2 .left, h .room, h .half-is, h .fits) }
 
 quotient-requires : tie.Need-quotient-requires
 quotient-requires c κs =

@@ -1,0 +1,95 @@
+-- Whichever way a colour goes, its codes are look's: kept, by a strip of the line, or one by one.
+use borrow.Author.Needs.{needs}
+use mathlib.Core.Path.{subst}
+use native.Mathlib.Omega.{arith}
+use denote.Ref.{now}
+use Rattle.strips.specs.Strips.{LineAt, StrippedFor, StrippedIf}
+use Rattle.picture.proofs.ThreePasses.{strip-inside, strip-passed}
+use Rattle.picture.proofs.lines.correct_line.Statement.{statement}
+use Rattle.picture.proofs.lines.correct_line.Tie as tie
+
+abbrev entry : tie.After-strip-of → tie.Start
+entry c = c .before .before .before .before .before
+
+abbrev AtEntry : tie.Start → Type 0
+AtEntry s = let a = s .args in LineAt (a .line) (now (a .table)) (a .raw) (a .most)
+
+-- a strip that is found is one of the line
+strip-so : (c : tie.After-strip) → let a = entry (c .before .before) .args in (l : AtEntry (entry (c .before .before)))
+    → StrippedFor (l .lined .planned .d) (l .lined .planned .depths) (a .line .colour) (c .strip .given .0 .0) (now (a .table))
+strip-so c l =
+    let f = c .before .before in
+    let a = entry f .args in
+    subst (StrippedIf (l .lined .planned .d) (l .lined .planned .depths) (a .line .colour) (now (a .table))) (c .strip .given .1) (f .strip-of .ensures (now (a .table)) l)
+
+add-count : tie.Need-add-count
+add-count c = search needs
+
+worth-keeping-requires : tie.Need-worth-keeping-requires
+worth-keeping-requires c κs = search needs
+
+correct-kept-requires : tie.Need-correct-kept-requires
+correct-kept-requires c κs =
+    let worth = c .before .before in
+    let s = worth .before .before .before in
+    (s .pre .0 .lined, (worth .worth-keeping .ensures (c .before .if1 .taken), ((λ k h. omega (arith, s .pre .1 .0 .inside k h)), s .pre .1 .1)))
+
+same-length : tie.Need-same-length
+same-length c = search needs
+
+returns : tie.Need-returns
+returns c = λ l. c .before .before .correct-kept .ensures (l .lined)
+
+strip-of-requires : tie.Need-strip-of-requires
+strip-of-requires c κs = let s = c .before .before .before .before in (now (s .args .table), s .pre .0)
+
+enum-known-strip : tie.Need-enum-known-strip
+enum-known-strip c = search needs
+
+correct-strip-requires : tie.Need-correct-strip-requires
+correct-strip-requires c κs =
+    let found = c .before .before in
+    let s = entry (found .before .before) in
+    let q = strip-so found (s .pre .0) in
+    ((q .stripped, strip-inside (s .pre .0) q (s .pre .1 .0)), s .pre .1 .1)
+
+enum-told : tie.Need-enum-told
+enum-told c = search needs
+
+pass-line-requires : tie.Need-pass-line-requires
+pass-line-requires c κs = let s = entry (c .before .before .before) in (s .pre .0 .lined, s .pre .1 .1)
+
+same-length-2 : tie.Need-same-length-2
+same-length-2 c = search needs
+
+returns-2 : tie.Need-returns-2
+returns-2 c =
+    let passed = c .before .before in
+    let found = passed .before .before .before in
+    let s = entry (found .before .before) in
+    λ l. let q = strip-so found l in strip-passed l q (passed .correct-strip .ensures (q .stripped) (strip-inside l q (s .pre .1 .0)))
+
+same-length-3 : tie.Need-same-length-3
+same-length-3 c = search needs
+
+returns-3 : tie.Need-returns-3
+returns-3 c = λ l. c .before .before .pass-line .ensures (l .lined)
+
+pub correct-line-spec : {M : Type 1} → statement M
+correct-line-spec =
+    tie.close
+    (tie.spec
+    add-count
+    worth-keeping-requires
+    correct-kept-requires
+    same-length
+    returns
+    strip-of-requires
+    enum-known-strip
+    correct-strip-requires
+    enum-told
+    pass-line-requires
+    same-length-2
+    returns-2
+    same-length-3
+    returns-3)

@@ -1,0 +1,202 @@
+// 1D, colour by colour, since each is a matter of its own codes: a pass for each colour over every third place.
+use colour::Line;
+use colour::Plan;
+use colour::colour_place;
+use colour::line_code;
+use colour::line_of;
+use rules::Colour;
+use rules::Depths;
+use strips::Strip;
+use strips::StripFound;
+use strips::lay_pieces;
+use strips::strip_code;
+use strips::strip_of;
+ghost use mathlib.Core.Path.{_≡_};
+ghost use mathlib.Core.Bool.{true};
+ghost use mathlib.Core.List.{List, _++_};
+ghost use Prim.Native.Nat.{ℕ, _≤_, _<_};
+ghost use lib.Dec.{leb};
+ghost use lib.IntN.{ℤ};
+ghost use lib.ListN.{length, getD, drop};
+ghost use Rattle.rules.specs.Reading.Lines.{every};
+ghost use Rattle.rules.specs.Units.{rawM, colourPlace};
+ghost use Rattle.rules.specs.Looking.{lineCode, correct};
+ghost use Rattle.rules.specs.Picturing.{eachPixel};
+ghost use Rattle.rules.specs.declared.Kind.the-variants.{OneD};
+ghost use Rattle.colour.specs.Plans.{Planned};
+ghost use Rattle.colour.specs.Lines.{Lined};
+ghost use Rattle.strips.specs.Strips.{LineAt, Stripped};
+ghost use Rattle.picture.specs.Filling.{Fillable};
+ghost use Rattle.picture.specs.Passes.{lineBy, stripBy, Kept, Inside, Passable, StripOver, Passed};
+
+// As many raw codes as 12 bits have are kept at most.
+const KEPT: usize = 4096;
+
+// ---- kept codes
+
+// The corrected codes of the first raw codes.
+fn keep_codes(line: Line, table: &[i64], kept: &mut [u16], count: usize)
+    requires { ⌜ Lined line (now table) ⌝ }
+    requires { ⌜ count ≤ length (now kept) ⌝ }
+    requires { ⌜ count ≤ 65536 ⌝ }
+    ensures { λ _. ⌜ ((l : Lined line (now (table .entry))) → Kept (lineBy l) count (now (kept .exit))) ⌝ }
+{
+    let mut c = 0;
+    while c < count {
+        kept[c] = line_code(line, table, c as u16);
+        c += 1;
+    }
+}
+
+// A pass in which each code is looked up.
+fn look_up(kept: &[u16], src: &[u16], dst: &mut [u16], first: usize)
+    requires { ⌜ ((k : ℕ) → k < length (now src) → getD (now src) k 0 < length (now kept)) ⌝ }
+    requires { ⌜ Inside 65535 (now src) ⌝ }
+    requires { ⌜ Passable first (now src) (length (now dst)) ⌝ }
+    ensures { λ _. ⌜ Passed (λ c. getD (now (kept .entry)) c 0) first (now (src .entry)) (now (dst .entry)) (now (dst .exit)) ⌝ }
+{
+    let mut i = first;
+    while i < src.len() {
+        dst[i] = kept[src[i] as usize];
+        i += 3;
+    }
+}
+
+// The corrected codes of all raw codes, then the pass.
+fn correct_kept(line: Line, count: usize, table: &[i64], src: &[u16], dst: &mut [u16], first: usize)
+    requires { ⌜ Lined line (now table) ⌝ }
+    requires { ⌜ count ≤ 4096 ⌝ }
+    requires { ⌜ ((k : ℕ) → k < length (now src) → getD (now src) k 0 < count) ⌝ }
+    requires { ⌜ Passable first (now src) (length (now dst)) ⌝ }
+    ensures { λ _. ⌜ ((l : Lined line (now (table .entry))) → Passed (lineBy l) first (now (src .entry)) (now (dst .entry)) (now (dst .exit))) ⌝ }
+{
+    // Ones, since for zeros the compiler would call a function of the C library, and this library needs none.
+    let mut kept: [u16; 4096] = [1; 4096];
+    keep_codes(line, table, &mut kept, count);
+    look_up(&kept, src, dst, first);
+}
+
+// ---- a strip
+
+// A pass in which each code is found by the piece of its cell.
+fn pass_strip(
+    strip: Strip,
+    slopes: &[i64],
+    bases: &[i64],
+    src: &[u16],
+    dst: &mut [u16],
+    first: usize,
+)
+    requires { ⌜ ((table : List ℤ) × StripOver strip table (now slopes) (now bases) (now src)) ⌝ }
+    requires { ⌜ Passable first (now src) (length (now dst)) ⌝ }
+    ensures { λ _. ⌜ ((table : List ℤ) (s : StripOver strip table (now (slopes .entry)) (now (bases .entry)) (now (src .entry))) → Passed (stripBy (s .stripped)) first (now (src .entry)) (now (dst .entry)) (now (dst .exit))) ⌝ }
+{
+    let mut i = first;
+    while i < src.len() {
+        dst[i] = strip_code(strip, slopes, bases, src[i]);
+        i += 3;
+    }
+}
+
+// The pieces of all cells, then the pass.
+fn correct_strip(strip: Strip, table: &[i64], src: &[u16], dst: &mut [u16], first: usize)
+    requires { ⌜ ((s : Stripped strip (now table)) × Inside (rawM (s .lined .planned .depths)) (now src)) ⌝ }
+    requires { ⌜ Passable first (now src) (length (now dst)) ⌝ }
+    ensures { λ _. ⌜ ((s : Stripped strip (now (table .entry))) → Inside (rawM (s .lined .planned .depths)) (now (src .entry)) → Passed (stripBy s) first (now (src .entry)) (now (dst .entry)) (now (dst .exit))) ⌝ }
+{
+    let mut slopes: [i64; 1024] = [1; 1024];
+    let mut bases: [i64; 1024] = [1; 1024];
+    lay_pieces(strip, table, &mut slopes, &mut bases);
+    pass_strip(strip, &slopes, &bases, src, dst, first);
+}
+
+// ---- code by code
+
+fn pass_line(line: Line, table: &[i64], src: &[u16], dst: &mut [u16], first: usize)
+    requires { ⌜ Lined line (now table) ⌝ }
+    requires { ⌜ Passable first (now src) (length (now dst)) ⌝ }
+    ensures { λ _. ⌜ ((l : Lined line (now (table .entry))) → Passed (lineBy l) first (now (src .entry)) (now (dst .entry)) (now (dst .exit))) ⌝ }
+{
+    let mut i = first;
+    while i < src.len() {
+        dst[i] = line_code(line, table, src[i]);
+        i += 3;
+    }
+}
+
+// ---- each colour by its shortest way
+
+// Whether so many codes are worth keeping: no more than there is room for, and fewer than the pixels.
+fn worth_keeping(count: usize, pixels: usize) -> bool
+    ensures { λ r. ⌜ (r ≡ true → count ≤ 4096) ⌝ }
+{
+    if count > KEPT {
+        return false;
+    }
+    count < pixels
+}
+
+// By kept codes, or else by the strip, or else code by code.
+fn correct_line(
+    line: Line,
+    raw: u16,
+    most: u16,
+    table: &[i64],
+    src: &[u16],
+    dst: &mut [u16],
+    first: usize,
+)
+    requires { ⌜ LineAt line (now table) raw most ⌝ }
+    requires { ⌜ Inside raw (now src) ⌝ }
+    requires { ⌜ Passable first (now src) (length (now dst)) ⌝ }
+    ensures { λ _. ⌜ ((l : LineAt line (now (table .entry)) raw most) → Passed (lineBy (l .lined)) first (now (src .entry)) (now (dst .entry)) (now (dst .exit))) ⌝ }
+{
+    let count = raw as usize + 1;
+    if worth_keeping(count, src.len() / 3) {
+        correct_kept(line, count, table, src, dst, first);
+        return;
+    }
+    match strip_of(line, raw, most) {
+        StripFound::Laid(strip) => correct_strip(strip, table, src, dst, first),
+        StripFound::Beyond => pass_line(line, table, src, dst, first),
+    }
+}
+
+// One colour of a picture that has passed every check.
+fn correct_colour(
+    plan: Plan,
+    depths: Depths,
+    c: Colour,
+    table: &[i64],
+    src: &[u16],
+    dst: &mut [u16],
+)
+    requires { ⌜ ((p : Planned plan (now table)) × ((p .depths ≡ depths) × (every (λ k. leb k (rawM depths)) (now src) ≡ true))) ⌝ }
+    requires { ⌜ plan .kind ≡ OneD ⌝ }
+    requires { ⌜ length (now src) ≤ length (now dst) ⌝ }
+    ensures { λ _. ⌜ ((p : Planned plan (now (table .entry))) → p .depths ≡ depths → Passed (lineCode (p .d) (now (table .entry)) depths c) (colourPlace c) (now (src .entry)) (now (dst .entry)) (now (dst .exit))) ⌝ }
+{
+    let raw = depths.raw;
+    let corrected = depths.corrected;
+    correct_line(
+        line_of(plan, c),
+        raw.greatest(),
+        corrected.greatest(),
+        table,
+        src,
+        dst,
+        colour_place(c),
+    );
+}
+
+// Corrects a picture that has passed every check, of a plan of kind 1D.
+pub fn correct_lines(plan: Plan, depths: Depths, table: &[i64], src: &[u16], dst: &mut [u16])
+    requires { ⌜ ((p : Planned plan (now table)) × ((p .depths ≡ depths) × (every (λ c. leb c (rawM depths)) (now src) ≡ true))) ⌝ }
+    requires { ⌜ plan .kind ≡ OneD ⌝ }
+    requires { ⌜ Fillable (now src) (length (now dst)) ⌝ }
+    ensures { λ _. ⌜ ((p : Planned plan (now (table .entry))) → p .depths ≡ depths → now (dst .exit) ≡ eachPixel (correct (p .d) (now (table .entry)) depths) (now (src .entry)) ++ drop (length (now (src .entry))) (now (dst .entry))) ⌝ }
+{
+    correct_colour(plan, depths, Colour::Red, table, src, &mut *dst);
+    correct_colour(plan, depths, Colour::Green, table, src, &mut *dst);
+    correct_colour(plan, depths, Colour::Blue, table, src, &mut *dst);
+}
