@@ -59,7 +59,7 @@ module _ {cube : Cube} {table : List ℤ} (q : Cubed cube table) where
   lane-stride : (k : Colour) → laneFor k .stride ≡ 3 * stride n k
   lane-stride k = q .lanes k .stride-is ∙ ap (λ x. 3 * x .stride) (axis-is (q .planned) k)
 
-  stride-below : (k : Colour) → laneFor k .stride < 4_294_967_296
+  pub stride-below : (k : Colour) → laneFor k .stride < 4_294_967_296
   stride-below k = omega (arith, q .lanes k .stride-is, stride-most (record { planned = q .planned; three-d = q .three-d }) k)
 
   could-sound : Sound d table

@@ -21,14 +21,16 @@ pub record Laid (lanes : Lanes) (n : ℕ) (times from strides : List ℕ) : Type
   pub from-are : (j : ℕ) → j < n → getD from j 0 ≡ laneAt lanes j .from
   pub strides-are : (j : ℕ) → j < n → getD strides j 0 ≡ laneAt lanes j .stride
 
--- room for n codes, and numbers that leave room for their spots
+-- room for n codes, and numbers of 32 bits, or of so many that they leave room for spots
 pub record Roomy (n : ℕ) (times from strides : List ℕ) (keys starts : ℕ) : Type 0 where
   pub times-long : n ≤ length times
   pub from-long : n ≤ length from
   pub strides-long : n ≤ length strides
   pub keys-long : n ≤ keys
   pub starts-long : n ≤ starts
+  pub slow : (j : ℕ) → j < n → getD times j 0 < 4_294_967_296
   pub near : (j : ℕ) → j < n → getD from j 0 ≤ 1_152_921_504_606_846_976
+  pub short : (j : ℕ) → j < n → getD strides j 0 < 4_294_967_296
 
 -- of one code, by the numbers of its lane
 abbrev pub spotAt : ℕ → ℕ → ℕ → ℕ

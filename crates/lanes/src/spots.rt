@@ -3,7 +3,7 @@ use crate::cube::Lanes;
 use crate::lane::Lane;
 use crate::lane::WHOLE;
 ghost use mathlib.Core.Path.{_≡_};
-ghost use Prim.Native.Nat.{_≤_};
+ghost use Prim.Native.Nat.{_≤_, _<_};
 ghost use lib.ListN.{length};
 ghost use Rattle.lanes.specs.Spots.{laneAt, Laid, spotAt, keyAt, startAt, Roomy, Spotted};
 
@@ -25,7 +25,7 @@ fn lane_at(lanes: Lanes, place: usize) -> Lane
 }
 
 // The lanes one after another, colour by colour.
-pub fn lay_lanes(lanes: Lanes, times: &mut [u32], from: &mut [u64], strides: &mut [u32])
+pub fn lay_lanes(lanes: Lanes, times: &mut [u64], from: &mut [u64], strides: &mut [u64])
     requires { ⌜ length (now from) ≡ length (now times) ⌝ }
     requires { ⌜ length (now strides) ≡ length (now times) ⌝ }
     ensures { λ _. ⌜ Laid lanes (length (now (times .entry))) (now (times .exit)) (now (from .exit)) (now (strides .exit)) ⌝ }
@@ -33,43 +33,47 @@ pub fn lay_lanes(lanes: Lanes, times: &mut [u32], from: &mut [u64], strides: &mu
     let mut j = 0;
     while j < times.len() {
         let lane = lane_at(lanes, j);
-        times[j] = lane.times;
+        times[j] = lane.times as u64;
         from[j] = lane.from;
-        strides[j] = lane.stride;
+        strides[j] = lane.stride as u64;
         j += 1;
     }
 }
 
-// Where a code stands, by the numbers of its lane.
-fn spot_at(code: u16, times: u32, from: u64) -> u64
+// Where a code stands, by the numbers of its lane. These are below 2^32, which is said again to the compiler: it then multiplies numbers of 32 bits, two
+// at once.
+fn spot_at(code: u16, times: u64, from: u64) -> u64
+    requires { ⌜ times < 4_294_967_296 ⌝ }
     requires { ⌜ from ≤ 1_152_921_504_606_846_976 ⌝ }
     ensures { λ r. ⌜ r ≡ spotAt code times from ⌝ }
 {
-    code as u64 * times as u64 + from
+    code as u64 * (times % WHOLE) + from
 }
 
 // Its fraction over D, rounded up, and the stride.
-fn key_at(den: u32, spot: u64, stride: u32) -> u64
+fn key_at(den: u32, spot: u64, stride: u64) -> u64
+    requires { ⌜ stride < 4_294_967_296 ⌝ }
     ensures { λ r. ⌜ r ≡ keyAt den spot stride ⌝ }
 {
     let part = spot % WHOLE * den as u64 + 4_294_967_295;
-    part / WHOLE * WHOLE + stride as u64
+    part / WHOLE * WHOLE + stride
 }
 
 // The place of its index.
-fn start_at(spot: u64, stride: u32) -> u64
+fn start_at(spot: u64, stride: u64) -> u64
+    requires { ⌜ stride < 4_294_967_296 ⌝ }
     ensures { λ r. ⌜ r ≡ startAt spot stride ⌝ }
 {
-    spot / WHOLE * stride as u64
+    spot / WHOLE * (stride % WHOLE)
 }
 
 // The key and the place of each code.
 pub fn find_spots(
     den: u32,
     codes: &[u16],
-    times: &[u32],
+    times: &[u64],
     from: &[u64],
-    strides: &[u32],
+    strides: &[u64],
     keys: &mut [u64],
     starts: &mut [u64],
 )

@@ -29,7 +29,7 @@ use Rattle.lanes.specs.Spots.{laneAt, Laid, Roomy, keyAt, startAt, spotIn, Spot
 use Rattle.lanes.specs.declared.cube.Cube.{Cube}
 use Rattle.lanes.specs.declared.cube.Lanes.{Lanes}
 use Rattle.lanes.specs.declared.lane.Lane.{Lane}
-use Rattle.lanes.proofs.Placing.{keyed}
+use Rattle.lanes.proofs.Placing.{stride-below, keyed}
 use Rattle.picture.specs.Filling.{pixelFrom, Fillable}
 use Rattle.picture.specs.Blocks.{correctBy, Within, Filled, startFrom, spotFrom, Blocked, FilledTo}
 use Rattle.picture.specs.declared.cubes.Spot.{Spot}
@@ -125,16 +125,16 @@ module _ {cube : Cube} {table : List ℤ} {keys starts dst : List ℕ} {at end :
 -- ---- a block whose keys and places have just been found
 
 -- what holds of the three lanes holds of the lane at every place
-lane-anywhere : (P : Lane → Type 0) (lanes : Lanes) → P (lanes .red) → P (lanes .green) → P (lanes .blue) → (j : ℕ) → P (laneAt lanes j)
-lane-anywhere P lanes r g b j = by (eqb (j % 3) 0) (eqb (j % 3) 1)
+lane-anywhere : (P : Lane → Type 0) (lanes : Lanes) → ((c : Colour) → P (laneIn lanes c)) → (j : ℕ) → P (laneAt lanes j)
+lane-anywhere P lanes each j = by (eqb (j % 3) 0) (eqb (j % 3) 1)
   where
     by : (x y : Bool) → P (cond x (lanes .red) (cond y (lanes .green) (lanes .blue)))
-    by true y = r
-    by false true = g
-    by false false = b
+    by true y = each Red
+    by false true = each Green
+    by false false = each Blue
 
 module _ {cube : Cube} {table : List ℤ} {times from strides : List ℕ} (q : Cubed cube table) (laid : Laid (cube .lanes) 192 times from strides) where
-  from-near : (c : Colour) → laneIn (cube .lanes) c .from ≤ 281_474_976_710_656
+  from-near : (c : Colour) → laneIn (cube .lanes) c .from ≤ 1_152_921_504_606_846_976
   from-near c = omega (arith, q .lanes c .runs .near, cells-fit (q .planned) .most)
 
   pub roomy : {n keys starts : ℕ} → n ≤ 192 → keys ≡ 192 → starts ≡ 192 → Roomy n times from strides keys starts
@@ -145,10 +145,9 @@ module _ {cube : Cube} {table : List ℤ} {times from strides : List ℕ} (q : C
         strides-long = omega (arith, few, laid .strides-long);
         keys-long = omega (arith, few, keys-long);
         starts-long = omega (arith, few, starts-long);
-        near = λ j h.
-            NatL.le-trans
-            (NatL.le-of-eq (laid .from-are j (omega (arith, few, h))))
-            (NatL.le-trans (lane-anywhere (λ l. l .from ≤ 281_474_976_710_656) (cube .lanes) (from-near Red) (from-near Green) (from-near Blue) j) (omega arith));
+        slow = λ j h. NatL.lt-of-le-of-lt (NatL.le-of-eq (laid .times-are j (omega (arith, few, h)))) (lane-anywhere (λ l. l .times < 4_294_967_296) (cube .lanes) (λ c. q .lanes c .runs .slow) j);
+        near = λ j h. NatL.le-trans (NatL.le-of-eq (laid .from-are j (omega (arith, few, h)))) (lane-anywhere (λ l. l .from ≤ 1_152_921_504_606_846_976) (cube .lanes) from-near j);
+        short = λ j h. NatL.lt-of-le-of-lt (NatL.le-of-eq (laid .strides-are j (omega (arith, few, h)))) (lane-anywhere (λ l. l .stride < 4_294_967_296) (cube .lanes) (stride-below q) j);
       }
 
 -- where a block ends

@@ -25,7 +25,7 @@ use Rattle.rules.proofs.Colours.{place-below, code-at-place}
 use Rattle.rules.proofs.Looking.Demand3.{line-looked}
 use Rattle.rules.proofs.Picturing.Checks.{every-at, each-length, each-at}
 use Rattle.colour.specs.Plans.{Planned}
-use Rattle.colour.specs.Lines.{lineOf}
+use Rattle.colour.specs.Lines.{lineOf, Lined}
 use Rattle.colour.specs.declared.lines.Line.{Line}
 use Rattle.colour.specs.declared.plan.Plan.{Plan}
 use Rattle.strips.specs.Strips.{LineAt, StrippedFor}
@@ -68,23 +68,27 @@ passable c room e = record { of-three = subst (λ x. x < 3) (sym e) (place-below
 pub one-d-so : {plan : Plan} {table : List ℤ} (p : Planned plan table) → plan .kind ≡ OneD → p .d .kind ≡ OneD
 one-d-so p k = sym (ap (λ x. x .kind) (p .is)) ∙ k
 
-module _ {plan : Plan} {table : List ℤ} {depths : Depths} {c : Colour} (p : Planned plan table) (one-d : plan .kind ≡ OneD) (e : p .depths ≡ depths) {line : Line} (is : line ≡ lineOf plan c) where
-  pub colour-so : line .colour ≡ c
+module _ {plan : Plan} {table : List ℤ} {c : Colour} (p : Planned plan table) (one-d : plan .kind ≡ OneD) {line : Line} (is : line ≡ lineOf plan c) where
+  abbrev colour-so : line .colour ≡ c
   colour-so = ap (λ x. x .colour) is
 
-  abbrev pub line-at : {raw most : ℕ} → raw ≡ rawM depths → most ≡ correctedM depths → LineAt line table raw most
-  line-at r m = record {
-    lined = record { plan = plan; planned = p; one-d = one-d-so p one-d; is = is ∙ ap (lineOf plan) (sym colour-so) };
-    raw-is = r ∙ ap rawM (sym e);
-    most-is = m ∙ ap correctedM (sym e);
-  }
+  abbrev pub lined-so : Lined line table
+  lined-so = record { plan = plan; planned = p; one-d = one-d-so p one-d; is = is ∙ ap (lineOf plan) (sym colour-so) }
 
-  pub colour-passed : {first : ℕ} → first ≡ colourPlace c → {src dst dst′ : List ℕ} → Passed (lineCode (p .d) table (p .depths) (line .colour)) first src dst dst′
+  pub colour-passed : (depths : Depths) {src dst dst′ : List ℕ} → Passed (lineCode (p .d) table depths (line .colour)) (colourPlace (line .colour)) src dst dst′
       → Passed (lineCode (p .d) table depths c) (colourPlace c) src dst dst′
-  colour-passed {first} f {src} {dst} {dst′} s =
-      let by-place = subst (λ x. Passed (lineCode (p .d) table (p .depths) (line .colour)) x src dst dst′) f s in
-      let by-depths = subst (λ x. Passed (lineCode (p .d) table x (line .colour)) (colourPlace c) src dst dst′) e by-place in
-      subst (λ x. Passed (lineCode (p .d) table depths x) (colourPlace c) src dst dst′) colour-so by-depths
+  colour-passed depths {src} {dst} {dst′} s = subst (λ x. Passed (lineCode (p .d) table depths x) (colourPlace x) src dst dst′) colour-so s
+
+-- a line, at its depths
+module _ {line : Line} {table : List ℤ} {depths : Depths} (l : Lined line table) (e : l .planned .depths ≡ depths) where
+  abbrev pub line-at : {raw most : ℕ} → raw ≡ rawM depths → most ≡ correctedM depths → LineAt line table raw most
+  line-at r m = record { lined = l; raw-is = r ∙ ap rawM (sym e); most-is = m ∙ ap correctedM (sym e) }
+
+  pub line-passed : {first : ℕ} → first ≡ colourPlace (line .colour) → {src dst dst′ : List ℕ} → Passed (lineBy l) first src dst dst′
+      → Passed (lineCode (l .planned .d) table depths (line .colour)) (colourPlace (line .colour)) src dst dst′
+  line-passed f {src} {dst} {dst′} s =
+      let by-place = subst (λ x. Passed (lineBy l) x src dst dst′) f s in
+      subst (λ x. Passed (lineCode (l .planned .d) table x (line .colour)) (colourPlace (line .colour)) src dst dst′) e by-place
 
 -- ---- all three
 

@@ -137,9 +137,9 @@ fn correct_blocks(
     table: &[i64],
     src: &[u16],
     dst: &mut [u16],
-    times: &[u32],
+    times: &[u64],
     from: &[u64],
-    strides: &[u32],
+    strides: &[u64],
     keys: &mut [u64],
     starts: &mut [u64],
 )
@@ -178,9 +178,9 @@ pub fn correct_cube(cube: Cube, near: bool, table: &[i64], src: &[u16], dst: &mu
     ensures { λ _. ⌜ ((q : Cubed cube (now (table .entry))) → Within q (now (src .entry)) → now (dst .exit) ≡ eachPixel (correctBy q) (now (src .entry)) ++ drop (length (now (src .entry))) (now (dst .entry))) ⌝ }
 {
     // Ones, since for zeros the compiler would call a function of the C library, and this library needs none.
-    let mut times: [u32; 192] = [1; 192];
+    let mut times: [u64; 192] = [1; 192];
     let mut from: [u64; 192] = [1; 192];
-    let mut strides: [u32; 192] = [1; 192];
+    let mut strides: [u64; 192] = [1; 192];
     let mut keys: [u64; 192] = [1; 192];
     let mut starts: [u64; 192] = [1; 192];
     let lanes = cube.lanes;

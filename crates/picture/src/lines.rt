@@ -163,23 +163,16 @@ fn correct_line(
 }
 
 // One colour of a picture that has passed every check.
-fn correct_colour(
-    plan: Plan,
-    depths: Depths,
-    c: Colour,
-    table: &[i64],
-    src: &[u16],
-    dst: &mut [u16],
-)
-    requires { ⌜ ((p : Planned plan (now table)) × ((p .depths ≡ depths) × (every (λ k. leb k (rawM depths)) (now src) ≡ true))) ⌝ }
-    requires { ⌜ plan .kind ≡ OneD ⌝ }
+fn correct_colour(line: Line, depths: Depths, table: &[i64], src: &[u16], dst: &mut [u16])
+    requires { ⌜ ((l : Lined line (now table)) × ((l .planned .depths ≡ depths) × (every (λ k. leb k (rawM depths)) (now src) ≡ true))) ⌝ }
     requires { ⌜ length (now src) ≤ length (now dst) ⌝ }
-    ensures { λ _. ⌜ ((p : Planned plan (now (table .entry))) → p .depths ≡ depths → Passed (lineCode (p .d) (now (table .entry)) depths c) (colourPlace c) (now (src .entry)) (now (dst .entry)) (now (dst .exit))) ⌝ }
+    ensures { λ _. ⌜ ((l : Lined line (now (table .entry))) → l .planned .depths ≡ depths → Passed (lineCode (l .planned .d) (now (table .entry)) depths (line .colour)) (colourPlace (line .colour)) (now (src .entry)) (now (dst .entry)) (now (dst .exit))) ⌝ }
 {
     let raw = depths.raw;
     let corrected = depths.corrected;
+    let c = line.colour;
     correct_line(
-        line_of(plan, c),
+        line,
         raw.greatest(),
         corrected.greatest(),
         table,
@@ -196,7 +189,7 @@ pub fn correct_lines(plan: Plan, depths: Depths, table: &[i64], src: &[u16], dst
     requires { ⌜ Fillable (now src) (length (now dst)) ⌝ }
     ensures { λ _. ⌜ ((p : Planned plan (now (table .entry))) → p .depths ≡ depths → now (dst .exit) ≡ eachPixel (correct (p .d) (now (table .entry)) depths) (now (src .entry)) ++ drop (length (now (src .entry))) (now (dst .entry))) ⌝ }
 {
-    correct_colour(plan, depths, Colour::Red, table, src, &mut *dst);
-    correct_colour(plan, depths, Colour::Green, table, src, &mut *dst);
-    correct_colour(plan, depths, Colour::Blue, table, src, &mut *dst);
+    correct_colour(line_of(plan, Colour::Red), depths, table, src, &mut *dst);
+    correct_colour(line_of(plan, Colour::Green), depths, table, src, &mut *dst);
+    correct_colour(line_of(plan, Colour::Blue), depths, table, src, &mut *dst);
 }

@@ -45,7 +45,9 @@ shared-slice-read-spot-at-3 c = search needs
 spot-at-requires : tie.Need-spot-at-requires Inv-loop μ-loop
 spot-at-requires c κs =
     let turn = c .before .before .before in
-    entry (turn .before) .pre .near (turn .before .loop .j) (turn .loop-test .taken)
+    let room = entry (turn .before) .pre in
+    let j = turn .before .loop .j in
+    (room .slow j (turn .loop-test .taken), room .near j (turn .loop-test .taken))
 
 mul-stride : tie.Need-mul-stride Inv-loop μ-loop
 mul-stride c = search needs
@@ -54,7 +56,9 @@ shared-slice-read-stride : tie.Need-shared-slice-read-stride Inv-loop μ-loop
 shared-slice-read-stride c = search needs
 
 key-at-requires : tie.Need-key-at-requires Inv-loop μ-loop
-key-at-requires c κs = search needs
+key-at-requires c κs =
+    let turn = c .before .before .before .before .before in
+    entry (turn .before) .pre .short (turn .before .loop .j) (turn .loop-test .taken)
 
 mul-keys : tie.Need-mul-keys Inv-loop μ-loop
 mul-keys c = search needs
@@ -63,7 +67,9 @@ slice-write-keys : tie.Need-slice-write-keys Inv-loop μ-loop
 slice-write-keys c = search needs
 
 start-at-requires : tie.Need-start-at-requires Inv-loop μ-loop
-start-at-requires c κs = search needs
+start-at-requires c κs =
+    let turn = c .before .before .before .before .before .before in
+    entry (turn .before) .pre .short (turn .before .loop .j) (turn .loop-test .taken)
 
 mul-starts : tie.Need-mul-starts Inv-loop μ-loop
 mul-starts c = search needs

@@ -20,7 +20,7 @@ mul-result : tie.Need-mul-result
 mul-result c = record { fits = omega (arith, product-most c) }
 
 add-result : tie.Need-add-result
-add-result c = record { fits = omega (arith, product-most c, c .fits .stride .fits) }
+add-result c = record { fits = omega (arith, product-most c, c .pre) }
 
 returns : tie.Need-returns
 returns c = search needs

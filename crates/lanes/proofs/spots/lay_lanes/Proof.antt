@@ -27,6 +27,9 @@ loop-holds c = search needs
 lane-at-requires : tie.Need-lane-at-requires Inv-loop μ-loop
 lane-at-requires c κs = search needs
 
+cast-times : tie.Need-cast-times Inv-loop μ-loop
+cast-times c = search needs
+
 mul-times : tie.Need-mul-times Inv-loop μ-loop
 mul-times c = search needs
 
@@ -38,6 +41,9 @@ mul-from c = search needs
 
 slice-write-from : tie.Need-slice-write-from Inv-loop μ-loop
 slice-write-from c = search needs
+
+cast-strides : tie.Need-cast-strides Inv-loop μ-loop
+cast-strides c = search needs
 
 mul-strides : tie.Need-mul-strides Inv-loop μ-loop
 mul-strides c = search needs
@@ -53,11 +59,12 @@ loop-less c = search needs
 
 loop-again : tie.Need-loop-again Inv-loop μ-loop
 loop-again c =
-    let turn = c .before in
+    let found = c .before .before in
+    let turn = found .before in
     let l = turn .before in
     let s = entry l in
     let here : l .loop .j < length (now (s .args .times)) = omega (arith, turn .loop-test .taken, l .loop .inv .1 .long) in
-    let lane = c .lane-at .ensures in (
+    let lane = found .lane-at .ensures in (
       omega arith,
       one-stored (l .loop .inv .1) here (ap (λ x. x .times) lane),
       one-stored (l .loop .inv .2) here (ap (λ x. x .from) lane),
@@ -93,10 +100,12 @@ lay-lanes-spec =
     μ-loop
     loop-holds
     lane-at-requires
+    cast-times
     mul-times
     slice-write-times
     mul-from
     slice-write-from
+    cast-strides
     mul-strides
     slice-write-strides
     add-j

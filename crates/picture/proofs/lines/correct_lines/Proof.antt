@@ -2,29 +2,50 @@
 use borrow.Author.Needs.{needs}
 use native.Mathlib.Omega.{arith}
 use denote.Ref.{now}
-use Rattle.picture.proofs.ThreePasses.{one-d-so, three-passed}
+use Rattle.picture.proofs.ThreePasses.{one-d-so, lined-so, colour-passed, three-passed}
 use Rattle.picture.proofs.lines.correct_lines.Statement.{statement}
 use Rattle.picture.proofs.lines.correct_lines.Tie as tie
 
 abbrev entry : tie.After-correct-colour → tie.Start
-entry c = c .before .before .before .before
+entry c = c .before .before .before .before .before
+
+-- ---- the answers
+
+line-of-requires : tie.Need-line-of-requires
+line-of-requires c κs = search needs
 
 correct-colour-requires : tie.Need-correct-colour-requires
-correct-colour-requires c κs = let s = c .before .before .before in (s .pre .0, (s .pre .1 .0, s .pre .1 .1 .room))
+correct-colour-requires c κs =
+    let line = c .before in
+    let s = line .before .before .before in
+    ((lined-so (s .pre .0 .0) (s .pre .1 .0) (line .line-of .ensures), s .pre .0 .1), s .pre .1 .1 .room)
+
+line-of-requires-2 : tie.Need-line-of-requires-2
+line-of-requires-2 c κs = search needs
 
 correct-colour-requires-2 : tie.Need-correct-colour-requires-2
 correct-colour-requires-2 c κs =
-    let red = c .before .before .before in
+    let line = c .before in
+    let red = line .before .before .before in
     let s = entry red in
-    (s .pre .0, (s .pre .1 .0, omega (arith, s .pre .1 .1 .room, red .correct-colour .ensures (s .pre .0 .0) (s .pre .0 .1 .0) .long)))
+    let (p, (e, _)) = s .pre .0 in
+    let first = red .correct-colour .ensures (lined-so p (s .pre .1 .0) (red .before .before .line-of .ensures)) e in
+    ((lined-so p (s .pre .1 .0) (line .line-of2 .ensures), s .pre .0 .1), omega (arith, s .pre .1 .1 .room, first .long))
+
+line-of-requires-3 : tie.Need-line-of-requires-3
+line-of-requires-3 c κs = search needs
 
 correct-colour-requires-3 : tie.Need-correct-colour-requires-3
 correct-colour-requires-3 c κs =
-    let green = c .before .before .before in
-    let red = green .before .before .before .before in
+    let line = c .before in
+    let green = line .before .before .before in
+    let red = green .before .before .before .before .before in
     let s = entry red in
     let (p, (e, _)) = s .pre .0 in
-    (s .pre .0, (s .pre .1 .0, omega (arith, s .pre .1 .1 .room, red .correct-colour .ensures p e .long, green .correct-colour2 .ensures p e .long)))
+    let one-d = s .pre .1 .0 in
+    let first = red .correct-colour .ensures (lined-so p one-d (red .before .before .line-of .ensures)) e in
+    let second = green .correct-colour2 .ensures (lined-so p one-d (green .before .before .line-of2 .ensures)) e in
+    ((lined-so p one-d (line .line-of3 .ensures), s .pre .0 .1), omega (arith, s .pre .1 .1 .room, first .long, second .long))
 
 same-length : tie.Need-same-length
 same-length c = search needs
@@ -32,19 +53,29 @@ same-length c = search needs
 returns : tie.Need-returns
 returns c =
     let blue = c .before .before in
-    let green = blue .before .before .before .before in
-    let red = green .before .before .before .before in
+    let green = blue .before .before .before .before .before in
+    let red = green .before .before .before .before .before in
     let s = entry red in
-    λ p e.
     let a = s .args in
-    three-passed (p .d) (now (a .table)) (a .depths) (one-d-so p (s .pre .1 .0)) (now (a .src)) (now (a .dst)) (s .pre .1 .1) (red .correct-colour .ensures p e) (green .correct-colour2 .ensures p e) (blue .correct-colour3 .ensures p e)
+    let one-d = s .pre .1 .0 in
+    let of-red = red .before .before .line-of .ensures in
+    let of-green = green .before .before .line-of2 .ensures in
+    let of-blue = blue .before .before .line-of3 .ensures in
+    λ p e.
+    three-passed (p .d) (now (a .table)) (a .depths) (one-d-so p one-d) (now (a .src)) (now (a .dst)) (s .pre .1 .1)
+    (colour-passed p one-d of-red (a .depths) (red .correct-colour .ensures (lined-so p one-d of-red) e))
+    (colour-passed p one-d of-green (a .depths) (green .correct-colour2 .ensures (lined-so p one-d of-green) e))
+    (colour-passed p one-d of-blue (a .depths) (blue .correct-colour3 .ensures (lined-so p one-d of-blue) e))
 
 pub correct-lines-spec : {M : Type 1} → statement M
 correct-lines-spec =
     tie.close
     (tie.spec
+    line-of-requires
     correct-colour-requires
+    line-of-requires-2
     correct-colour-requires-2
+    line-of-requires-3
     correct-colour-requires-3
     same-length
     returns)
