@@ -1,6 +1,6 @@
 -- Below 0 the code is 0, above full it is M, and in between it is (S + unit / 2) / unit, which the reciprocal gives, since it divides full and half the unit
 -- more.
-use Prim.Native.Nat.{ℕ, _+_, _*_, _/_, _≤_, _<_}
+use Prim.Native.Nat.{ℕ, _+_, _/_, _≤_, _<_}
 use mathlib.Core.Path.{_≡_, sym, ap, ap₂, subst, _∙_}
 use native.Mathlib.Omega.{arith}
 use lib.IntN.{ℤ, pos, natAbs, _*ℤ_}

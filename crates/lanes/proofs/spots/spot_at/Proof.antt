@@ -3,7 +3,6 @@ use Prim.Native.Nat.{_+_, _*_, _%_, _≤_}
 use mathlib.Core.Path.{ap}
 use native.Mathlib.Nat as NatL
 use native.Mathlib.Omega.{arith}
-use borrow.Author.Needs.{needs}
 use Rattle.lanes.proofs.spots.spot_at.Statement.{statement}
 use Rattle.lanes.proofs.spots.spot_at.Tie as tie
 
