@@ -42,7 +42,7 @@ pub struct Cube {
     pub axis: Axis,
     // p, of the ratio p / q of the two M.
     pub times: u64,
-    // Half the unit and its reciprocals, the shorter for sums of equal depths.
+    // Half the unit and its reciprocals, the shorter for sums where p is 1.
     pub half: u64,
     pub unit: Reciprocal,
     pub wide: WideReciprocal,
@@ -50,7 +50,7 @@ pub struct Cube {
     pub most: u16,
 }
 
-// Near: the depths are equal and the unit's shorter reciprocal is exact. Far: the wide one is.
+// Near: p is 1, as at equal depths, and the unit's shorter reciprocal is exact. Far: the wide one is.
 pub enum CubeFound {
     Near(Cube),
     Far(Cube),

@@ -7,7 +7,7 @@ ghost use Rattle.whole.specs.Nearest.{code};
 ghost use Rattle.colour.specs.Adding.{Codable};
 ghost use Rattle.lanes.specs.Cubes.{Wide, Nearby};
 
-// Where the two depths are one and the unit's shorter reciprocal is exact up to the greatest sum.
+// Where p is 1 and the unit's shorter reciprocal is exact up to the greatest sum.
 pub fn near_code(cube: Cube, sum: Whole) -> u16
     requires { ⌜ Nearby cube ⌝ }
     ensures { λ r. ⌜ r ≡ code (pos (cube .most) *ℤ sum .0) (cube .axis .full) (cube .most) ⌝ }

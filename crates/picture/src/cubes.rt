@@ -17,7 +17,7 @@ ghost use Rattle.picture.specs.Filling.{Fillable};
 ghost use Rattle.picture.specs.Blocks.{correctBy, Within, startFrom, spotFrom, Blocked, FilledTo};
 
 // Whole pixels, and not so many codes that their keys leave the nearest memory.
-const BLOCK: usize = 192;
+pub const BLOCK: usize = 192;
 
 fn block_end(at: usize, len: usize) -> usize
     requires { ⌜ at ≤ len ⌝ }

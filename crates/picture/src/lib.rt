@@ -2,6 +2,7 @@
 use colour::Plan;
 use colour::correct;
 use colour::plan_of;
+use cubes::BLOCK;
 use cubes::correct_cube;
 use judge::could_be_read;
 use lanes::CubeFound;
@@ -18,10 +19,11 @@ use rules::Picture;
 use rules::Refusal;
 use whole::greater_code;
 ghost use mathlib.Core.Path.{_≡_};
-ghost use mathlib.Core.List.{_++_};
+ghost use mathlib.Core.List.{List, _++_};
 ghost use mathlib.Core.Bool.{true};
 ghost use Prim.Native.Nat.{ℕ};
 ghost use lib.Dec.{leb};
+ghost use lib.IntN.{ℤ};
 ghost use lib.ListN.{length, drop};
 ghost use Rattle.rules.specs.Reading.Lines.{every};
 ghost use Rattle.rules.specs.Units.{rawM};
@@ -29,6 +31,7 @@ ghost use Rattle.rules.specs.Looking.{correct};
 ghost use Rattle.rules.specs.Picturing.{eachPixel};
 ghost use Rattle.rules.specs.Promises.{Pictures};
 ghost use Rattle.colour.specs.Plans.{Planned};
+ghost use Rattle.lanes.specs.Cubes.{Cuboid, CubedIf};
 ghost use Rattle.picture.specs.Filling.{Fillable};
 
 mod cubes;
@@ -66,6 +69,17 @@ fn correct_each(plan: Plan, table: &[i64], src: &[u16], dst: &mut [u16])
     }
 }
 
+// The cube of a plan, if it is worth making: not for less than a block.
+fn cube_for(plan: Plan, depths: Depths, codes: usize) -> CubeFound
+    requires { ⌜ ((table : List ℤ) × ((p : Cuboid plan table) × (p .planned .depths ≡ depths))) ⌝ }
+    ensures { λ r. ⌜ ((table : List ℤ) (p : Cuboid plan table) → p .planned .depths ≡ depths → CubedIf (p .planned .d) depths table r) ⌝ }
+{
+    if codes < BLOCK {
+        return CubeFound::Beyond;
+    }
+    cube_of(plan, depths)
+}
+
 // Corrects a picture that has passed every check, with its plan and the depths that it was made of. The codes are look's, whichever way they are found.
 pub fn correct_all(plan: Plan, depths: Depths, table: &[i64], src: &[u16], dst: &mut [u16])
     requires { ⌜ ((p : Planned plan (now table)) × ((p .depths ≡ depths) × (every (λ c. leb c (rawM depths)) (now src) ≡ true))) ⌝ }
@@ -77,7 +91,7 @@ pub fn correct_all(plan: Plan, depths: Depths, table: &[i64], src: &[u16], dst: 
         correct_lines(plan, depths, table, src, dst);
         return;
     };
-    match cube_of(plan, depths) {
+    match cube_for(plan, depths, src.len()) {
         CubeFound::Near(cube) => correct_cube(cube, true, table, src, dst),
         CubeFound::Far(cube) => correct_cube(cube, false, table, src, dst),
         CubeFound::Beyond => correct_each(plan, table, src, dst),

@@ -25,7 +25,7 @@ ghost use Rattle.rules.specs.Picturing.{eachPixel};
 ghost use Rattle.rules.specs.declared.Kind.the-variants.{OneD};
 ghost use Rattle.colour.specs.Plans.{Planned};
 ghost use Rattle.colour.specs.Lines.{Lined};
-ghost use Rattle.strips.specs.Strips.{LineAt, Stripped};
+ghost use Rattle.strips.specs.Strips.{LineAt, Stripped, StrippedIf};
 ghost use Rattle.picture.specs.Filling.{Fillable};
 ghost use Rattle.picture.specs.Passes.{lineBy, stripBy, Kept, Inside, Passable, StripOver, Passed};
 
@@ -136,6 +136,23 @@ fn worth_keeping(count: usize, pixels: usize) -> bool
     count < pixels
 }
 
+// Laying out the pieces takes about as long as so many pixels do code by code, however few cells there are.
+const FEW_PIXELS: usize = 128;
+
+// The strip of a colour, if it is worth laying out: not for a few pixels, nor for fewer than there are cells.
+fn strip_for(line: Line, raw: u16, most: u16, pixels: usize) -> StripFound
+    requires { ⌜ ((table : List ℤ) × LineAt line table raw most) ⌝ }
+    ensures { λ r. ⌜ ((table : List ℤ) (l : LineAt line table raw most) → StrippedIf (l .lined .planned .d) (l .lined .planned .depths) (line .colour) table r) ⌝ }
+{
+    if pixels < FEW_PIXELS {
+        return StripFound::Beyond;
+    }
+    if pixels < line.cells {
+        return StripFound::Beyond;
+    }
+    strip_of(line, raw, most)
+}
+
 // By kept codes, or else by the strip, or else code by code.
 fn correct_line(
     line: Line,
@@ -152,11 +169,12 @@ fn correct_line(
     ensures { λ _. ⌜ ((l : LineAt line (now (table .entry)) raw most) → Passed (lineBy (l .lined)) first (now (src .entry)) (now (dst .entry)) (now (dst .exit))) ⌝ }
 {
     let count = raw as usize + 1;
-    if worth_keeping(count, src.len() / 3) {
+    let pixels = src.len() / 3;
+    if worth_keeping(count, pixels) {
         correct_kept(line, count, table, src, dst, first);
         return;
     }
-    match strip_of(line, raw, most) {
+    match strip_for(line, raw, most, pixels) {
         StripFound::Laid(strip) => correct_strip(strip, table, src, dst, first),
         StripFound::Beyond => pass_line(line, table, src, dst, first),
     }

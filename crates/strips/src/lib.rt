@@ -55,7 +55,7 @@ impl Strip {
     pub const MOST_PARTS: u64 = 100_000_000;
 }
 
-// The strip of a colour, if there are not too many cells, the depths are equal and all is exact.
+// The strip of a colour, if there are not too many cells, p of the ratio p / q of the two M is 1, as at equal depths, and all is exact.
 pub fn strip_of(line: Line, raw: u16, most: u16) -> StripFound
     requires { ⌜ ((table : List ℤ) × LineAt line table raw most) ⌝ }
     ensures { λ r. ⌜ ((table : List ℤ) (l : LineAt line table raw most) → StrippedIf (l .lined .planned .d) (l .lined .planned .depths) (line .colour) table r) ⌝ }

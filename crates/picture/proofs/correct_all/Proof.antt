@@ -13,7 +13,7 @@ use Rattle.picture.proofs.Blocking.{within-so, made-for}
 use Rattle.picture.proofs.correct_all.Statement.{statement}
 use Rattle.picture.proofs.correct_all.Tie as tie
 
-abbrev entry : tie.After-cube-of → tie.Start
+abbrev entry : tie.After-cube-for → tie.Start
 entry c = c .before .before .before .before .before
 
 -- ---- what is found
@@ -21,9 +21,9 @@ entry c = c .before .before .before .before .before
 abbrev PlannedBy : tie.Start → Type 0
 PlannedBy s = Planned (s .args .plan) (now (s .args .table))
 
-found : (c : tie.After-cube-of) (p : PlannedBy (entry c)) → p .depths ≡ entry c .args .depths
-    → CubedIf (p .d) (entry c .args .depths) (now (entry c .args .table)) (c .cube-of .result)
-found c p e = c .cube-of .ensures (now (entry c .args .table)) (record { planned = p; three-d = c .before .enum-told .given .1 }) e
+found : (c : tie.After-cube-for) (p : PlannedBy (entry c)) → p .depths ≡ entry c .args .depths
+    → CubedIf (p .d) (entry c .args .depths) (now (entry c .args .table)) (c .cube-for .result)
+found c p e = c .cube-for .ensures (now (entry c .args .table)) (record { planned = p; three-d = c .before .enum-told .given .1 }) e
 
 near : (c : tie.After-cube) → let f = c .before .before in let a = entry f .args in (p : PlannedBy (entry f)) → p .depths ≡ a .depths
     → CubedFor (p .d) (a .depths) (c .cube .given .0 .0) (now (a .table)) × Nearby (c .cube .given .0 .0)
@@ -56,8 +56,8 @@ same-length c = search needs
 returns : tie.Need-returns
 returns c = λ p e. c .before .before .correct-lines .ensures p e
 
-cube-of-requires : tie.Need-cube-of-requires
-cube-of-requires c κs =
+cube-for-requires : tie.Need-cube-for-requires
+cube-for-requires c κs =
     let s = c .before .before .before .before in
     (now (s .args .table), (record { planned = s .pre .0 .0; three-d = c .enum-told .given .1 }, s .pre .0 .1 .0))
 
@@ -128,7 +128,7 @@ correct-all-spec =
     correct-lines-requires
     same-length
     returns
-    cube-of-requires
+    cube-for-requires
     enum-known-cube
     correct-cube-requires
     enum-known-cube-2

@@ -8,7 +8,7 @@ use Rattle.picture.proofs.ThreePasses.{strip-inside, strip-passed}
 use Rattle.picture.proofs.lines.correct_line.Statement.{statement}
 use Rattle.picture.proofs.lines.correct_line.Tie as tie
 
-abbrev entry : tie.After-strip-of → tie.Start
+abbrev entry : tie.After-strip-for → tie.Start
 entry c = c .before .before .before .before .before
 
 abbrev AtEntry : tie.Start → Type 0
@@ -20,7 +20,7 @@ strip-so : (c : tie.After-strip) → let a = entry (c .before .before) .args in 
 strip-so c l =
     let f = c .before .before in
     let a = entry f .args in
-    subst (StrippedIf (l .lined .planned .d) (l .lined .planned .depths) (a .line .colour) (now (a .table))) (c .strip .given .1) (f .strip-of .ensures (now (a .table)) l)
+    subst (StrippedIf (l .lined .planned .d) (l .lined .planned .depths) (a .line .colour) (now (a .table))) (c .strip .given .1) (f .strip-for .ensures (now (a .table)) l)
 
 add-count : tie.Need-add-count
 add-count c = search needs
@@ -40,8 +40,8 @@ same-length c = search needs
 returns : tie.Need-returns
 returns c = λ l. c .before .before .correct-kept .ensures (l .lined)
 
-strip-of-requires : tie.Need-strip-of-requires
-strip-of-requires c κs = let s = c .before .before .before .before in (now (s .args .table), s .pre .0)
+strip-for-requires : tie.Need-strip-for-requires
+strip-for-requires c κs = let s = c .before .before .before .before in (now (s .args .table), s .pre .0)
 
 enum-known-strip : tie.Need-enum-known-strip
 enum-known-strip c = search needs
@@ -84,7 +84,7 @@ correct-line-spec =
     correct-kept-requires
     same-length
     returns
-    strip-of-requires
+    strip-for-requires
     enum-known-strip
     correct-strip-requires
     enum-told
