@@ -39,5 +39,5 @@ test: ## all proofs and all tests, from nothing; the last line counts them
 fuzz: ## the tests' streams with new seeds, for SECONDS=.. or until it is stopped
 	@tests/fuzz $(SECONDS)
 
-bench: ## speed, beside the same rules in plain Rust
+bench: ## speed, beside the same rules in plain Rust, ffmpeg and OpenColorIO
 	@tests/bench/run

@@ -1,8 +1,10 @@
 //! How fast the proved library corrects pictures, searches for raw codes, reads files and writes
-//! them, beside docs/baseline.
+//! them, beside docs/baseline; and pictures beside ffmpeg and OpenColorIO too.
 //! docs/baseline/README.md tells the method.
 
 mod library;
+mod peers;
+mod pictures;
 mod rows;
 
 use baseline::inverse::Aim;
@@ -12,9 +14,8 @@ use rows::{Rows, OTHERS, SEVEN_DECIMALS};
 use std::hint::black_box;
 use std::process::ExitCode;
 use std::time::Instant;
+use std::{env, fs};
 
-const PIXELS: usize = 20_000;
-const PICTURE_ROUNDS: usize = 201;
 const INVERSE_ROUNDS: usize = 101;
 const FILE_ROUNDS: usize = 21;
 /// Of a file of 500 MB.
@@ -22,29 +23,21 @@ const LONG_ROUNDS: usize = 5;
 
 /// Depths of raw and of corrected codes.
 const EQUAL: &[Bits] = &[Bits { raw: 8, corrected: 8 }, Bits { raw: 16, corrected: 16 }];
-const WIDER: &[Bits] = &[EQUAL[0], EQUAL[1], Bits { raw: 12, corrected: 16 }];
 
-/// One domain for all colours, and red's twice as wide.
+/// One domain for all colours.
 const ONE: Domains = [[0, 1000]; 3];
-const MIXED: Domains = [[0, 2000], [0, 1000], [0, 1000]];
 
 fn main() -> ExitCode {
-    println!("pictures of {PIXELS} pixels, medians of {PICTURE_ROUNDS} rounds");
-    println!("kind\tN\tbits\tours, ns a pixel\tbaseline, ns a pixel\tratio");
-    let shapes = [
-        (Kind::ThreeD, 13, ONE, WIDER),
-        (Kind::ThreeD, 33, ONE, WIDER),
-        (Kind::ThreeD, 33, MIXED, EQUAL),
-        (Kind::OneD, 13, ONE, EQUAL),
-        (Kind::OneD, 33, ONE, WIDER),
-        (Kind::OneD, 1024, ONE, EQUAL),
-    ];
-    let mut alike = true;
-    for (kind, n, domains, depths) in shapes {
-        for bits in depths {
-            alike &= pictures(&Description { kind, n, domains }, *bits);
+    println!("machine: {}", machine());
+    let peers = peers::all();
+    peers.iter().for_each(|peer| println!("{peer}"));
+    let mut alike = match pictures::pictures(&peers) {
+        Ok(alike) => alike,
+        Err(trouble) => {
+            eprintln!("no folder for the peers' files: {trouble}");
+            return ExitCode::FAILURE;
         }
-    }
+    };
     println!("\ninverses that try every raw code of 16 bits, medians of {INVERSE_ROUNDS} rounds");
     println!("kind\tN\tbits\tours, ms\tbaseline, ms\tratio");
     for n in [1024, 65_536] {
@@ -76,6 +69,14 @@ fn main() -> ExitCode {
         println!("the two do not agree");
         ExitCode::FAILURE
     }
+}
+
+/// The processor's model where the system tells it, else its architecture.
+fn machine() -> String {
+    let told = fs::read_to_string("/proc/cpuinfo").unwrap_or_default();
+    let mut named = told.lines().filter_map(|line| line.split_once(':'));
+    let model = named.find(|(name, _)| name.trim() == "model name");
+    model.map_or(env::consts::ARCH, |(_, model)| model.trim()).to_string()
 }
 
 /// Numbers that look random, the same at every run (splitmix64).
@@ -115,26 +116,6 @@ fn timed(work: &mut impl FnMut()) -> u128 {
 fn median(mut times: Vec<u128>) -> f64 {
     times.sort_unstable();
     times[times.len() / 2] as f64
-}
-
-/// One line of the table of pictures; whether the two gave the same codes.
-fn pictures(description: &Description, bits: Bits) -> bool {
-    let mut draws = Draws(1);
-    let eleven = eleven(description);
-    let table: Vec<i64> = (0..3 * description.rows()).map(|_| draws.sample()).collect();
-    let source: Vec<u16> = (0..3 * PIXELS).map(|_| draws.below(1 << bits.raw) as u16).collect();
-    let (mut ours, mut plain) = (vec![0; source.len()], vec![0; source.len()]);
-    let (mut number, mut answer) = (0, Ok(()));
-    let (our_time, plain_time) = medians(
-        PICTURE_ROUNDS,
-        || number = library::picture(&eleven, &table, bits, &source, &mut ours),
-        || answer = baseline::picture::picture(description, &table, bits, &source, &mut plain),
-    );
-    let (our_time, plain_time) = (our_time / PIXELS as f64, plain_time / PIXELS as f64);
-    let ratio = our_time / plain_time;
-    let (kind, n, bits) = (kind_shown(description), description.n, shown(bits));
-    println!("{kind}\t{n}\t{bits}\t{our_time:.1}\t{plain_time:.1}\t{ratio:.2}");
-    number == 0 && answer.is_ok() && ours == plain
 }
 
 /// One line of the table of inverses; whether the two found the same. The table's samples lie from
