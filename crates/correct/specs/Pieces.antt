@@ -14,9 +14,10 @@ use Rattle.rules.specs.declared.Bits.{Bits}
 use Rattle.rules.specs.declared.Depths.{Depths}
 use Rattle.rules.specs.declared.DepthsFound.the-variants.{Both}
 use Rattle.rules.specs.declared.Description.{Description}
+use Rattle.colour.specs.Plans.{planOf}
+use Rattle.colour.specs.declared.plan.Plan.{Plan}
 use Rattle.ppm.specs.Header.{mostSize}
 use Rattle.ppm.specs.Raster.{bytesOf, byteCount, codeCount, codesOf}
-use Rattle.ppm.specs.Scales.{depthIn}
 use Rattle.desk.specs.declared.outcomes.Outcome.{Outcome}
 use Rattle.desk.specs.declared.outcomes.Outcome.the-variants.{Done, Refused, Failed}
 use Rattle.correct.specs.declared.pieces.Passed.{Passed}
@@ -31,15 +32,16 @@ pixelBytes true = 6
 
 -- the depths of the picture and of the output
 abbrev pub bitsIn : Scales → Bits
-bitsIn s = bitsOf (s .raw .bits) (s .corrected .bits)
+bitsIn s = bitsOf (s .raw .depth .bits) (s .corrected .depth .bits)
 
 abbrev pub depthsIn : Scales → Depths
-depthsIn s = record { raw = depthIn (s .raw); corrected = depthIn (s .corrected) }
+depthsIn s = record { raw = s .raw .depth; corrected = s .corrected .depth }
 
--- a table that was read, at known depths
-pub record Readable (d : Description) (table : List ℤ) (s : Scales) : Type 0 where
+-- a table that was read, at known depths, and the plan of both
+pub record Readable (d : Description) (table : List ℤ) (s : Scales) (plan : Plan) : Type 0 where
   pub could : couldBeRead d table ≡ true
   pub known : depthsOf (bitsIn s) ≡ Both (depthsIn s)
+  pub planned : plan ≡ planOf d (depthsIn s)
 
 -- room for the codes that n bytes are, raw and corrected, and for the bytes that those are
 pub record Room (s : Scales) (n bytes raw corrected : ℕ) : Type 0 where
@@ -54,7 +56,7 @@ pixelsWithin m codes = length (run (λ c. leb c m) codes) / 3
 
 -- the first bytes are the corrected pixels of the input, as many as stand before the first with a code above the greatest
 pub record Corrects (d : Description) (table : List ℤ) (s : Scales) (input : List ℕ) (r : Piece) (bytes : List ℕ) : Type 0 where
-  pub pixels : r .pixels ≡ pixelsWithin (s .raw .greatest) (codesOf (s .raw .wide) input)
+  pub pixels : r .pixels ≡ pixelsWithin (s .raw .depth .greatest) (codesOf (s .raw .wide) input)
   pub few : r .pixels ≤ length input
   pub inside : r .bytes ≤ length bytes
   pub made : take (r .bytes) bytes ≡ bytesOf (s .corrected .wide) (corrected d table (bitsIn s) (take (r .pixels * 3) (codesOf (s .raw .wide) input)))

@@ -3,6 +3,7 @@ mod headers;
 mod pieces;
 mod words;
 
+use colour::plan_of;
 use desk::Last;
 use desk::Loaded;
 use desk::Outcome;
@@ -14,6 +15,7 @@ use desk::write;
 use headers::Heading;
 use libc::STDERR_FILENO;
 use pieces::Scales;
+use pieces::depths_in;
 use pieces::has_room;
 use pieces::outcome_of;
 use pieces::pass_all;
@@ -71,13 +73,14 @@ fn correct_pixels(
         say_unwritten(b"erythmoda correct");
         return Outcome::Failed;
     }
+    let scales = Scales {
+        raw: raw_scale,
+        corrected: corrected_scale,
+    };
     let passed = pass_all(
-        d,
+        plan_of(d, depths_in(scales)),
         table,
-        Scales {
-            raw: raw_scale,
-            corrected: corrected_scale,
-        },
+        scales,
         headers::pixels(frame),
         bytes,
         raw,

@@ -1,20 +1,21 @@
 // The pixels, piece by piece: read, corrected, written.
+use colour::Plan;
 use desk::Filled;
 use desk::Outcome;
 use desk::fill;
 use libc::STDIN_FILENO;
 use libc::STDOUT_FILENO;
-use picture::picture;
+use picture::correct_all;
 use ppm::Scale;
 use ppm::bytes_from;
 use ppm::codes_from;
 use ppm::count_within;
-use rules::Bits;
-use rules::Description;
+use rules::Depths;
 ghost use mathlib.Core.Path.{_≡_};
 ghost use Prim.Native.Nat.{_≤_, min};
 ghost use lib.ListN.{length, take};
-ghost use Rattle.correct.specs.Pieces.{Buffers, Corrects, Readable, Room, hasRoom, mostPixels, outcomeOf, piecePixels, pixelBytes};
+ghost use Rattle.rules.specs.declared.Description.{Description};
+ghost use Rattle.correct.specs.Pieces.{Buffers, Corrects, Readable, Room, depthsIn, hasRoom, mostPixels, outcomeOf, piecePixels, pixelBytes};
 
 // What became of the pixels: all are written, or the pixel at which it stopped.
 pub enum Passed {
@@ -44,13 +45,21 @@ pub struct Scales {
     pub corrected: Scale,
 }
 
+pub fn depths_in(scales: Scales) -> Depths
+    ensures { λ r. ⌜ r ≡ depthsIn scales ⌝ }
+{
+    let raw = scales.raw.depth;
+    let corrected = scales.corrected.depth;
+    Depths { raw, corrected }
+}
+
 // How many pixels of a piece were corrected, and how many bytes those are.
 struct Piece {
     pixels: usize,
     bytes: usize,
 }
 
-// `picture` judges the whole table at each call, so a piece is large beside a table.
+// A piece is what fixed memory holds of a picture. The larger it is, the fewer are the reads and writes, and for 1D the codes that are kept are worked once a piece.
 const PIECE_PIXELS: usize = 1_048_576;
 
 // Whether lent space of these lengths holds a piece: as bytes, as raw and as corrected codes.
@@ -67,9 +76,9 @@ pub fn has_room(bytes: usize, raw: usize, corrected: usize) -> bool
 }
 
 // Corrects the pixels that the first n bytes are, up to the first that has a code above the greatest, into the same bytes.
-// Nothing is refused: what `picture` checks is asked for here, or was made sure of before the call.
+// Nothing is judged here but the codes: the table was judged when it was read, and its plan is made once for the picture.
 fn correct_piece(
-    d: Description,
+    plan: Plan,
     table: &[i64],
     scales: Scales,
     bytes: &mut [u8],
@@ -77,21 +86,23 @@ fn correct_piece(
     raw: &mut [u16],
     corrected: &mut [u16],
 ) -> Piece
-    requires { ⌜ Readable d (now table) scales ⌝ }
+    requires { ⌜ ((d : Description) × Readable d (now table) scales plan) ⌝ }
     requires { ⌜ Room scales n (length (now bytes)) (length (now raw)) (length (now corrected)) ⌝ }
-    ensures corrects { λ r. ⌜ Corrects d (now (table .entry)) scales (take n (now (bytes .entry))) r (now (bytes .exit)) ⌝ }
+    ensures corrects { λ r. ⌜ ((d : Description) → Readable d (now (table .entry)) scales plan → Corrects d (now (table .entry)) scales (take n (now (bytes .entry))) r (now (bytes .exit))) ⌝ }
     ensures few { λ r. ⌜ r .pixels ≤ n ⌝ }
 {
     let of_raw = scales.raw;
     let of_corrected = scales.corrected;
     let count = codes_from(&bytes[..n], of_raw.wide, &mut *raw);
-    let pixels = count_within(&raw[..count], of_raw.greatest) / 3;
+    let pixels = count_within(&raw[..count], of_raw.depth.greatest()) / 3;
     let codes = pixels * 3;
-    let bits = Bits {
-        raw: of_raw.bits,
-        corrected: of_corrected.bits,
-    };
-    picture(d, table, bits, &raw[..codes], &mut *corrected);
+    correct_all(
+        plan,
+        depths_in(scales),
+        table,
+        &raw[..codes],
+        &mut *corrected,
+    );
     let made = bytes_from(&corrected[..codes], of_corrected.wide, bytes);
     Piece {
         pixels,
@@ -107,7 +118,7 @@ fn pixel_bytes(wide: bool) -> usize
 
 // One piece of so many pixels, of which the first has a number in the picture.
 fn pass_piece(
-    d: Description,
+    plan: Plan,
     table: &[i64],
     scales: Scales,
     first: u64,
@@ -116,7 +127,7 @@ fn pass_piece(
     raw: &mut [u16],
     corrected: &mut [u16],
 ) -> Passed
-    requires { ⌜ Readable d (now table) scales ⌝ }
+    requires { ⌜ ((d : Description) × Readable d (now table) scales plan) ⌝ }
     requires { ⌜ Buffers (length (now bytes)) (length (now raw)) (length (now corrected)) ⌝ }
     requires { ⌜ (first ≤ mostPixels) × (want ≤ piecePixels) ⌝ }
 {
@@ -125,7 +136,7 @@ fn pass_piece(
     let Filled::Bytes(got) = fill(STDIN_FILENO, &mut bytes[..want * size]) else {
         return Passed::Unread(first);
     };
-    let piece = correct_piece(d, table, scales, &mut *bytes, got, raw, corrected);
+    let piece = correct_piece(plan, table, scales, &mut *bytes, got, raw, corrected);
     let made = piece.bytes;
     if !io::write_all(STDOUT_FILENO, &bytes[..made]) {
         return Passed::Unwritten;
@@ -153,7 +164,7 @@ fn next_piece(left: u64) -> usize
 
 // So many pixels of standard input, corrected, to standard output.
 pub fn pass_all(
-    d: Description,
+    plan: Plan,
     table: &[i64],
     scales: Scales,
     pixels: u64,
@@ -161,7 +172,7 @@ pub fn pass_all(
     raw: &mut [u16],
     corrected: &mut [u16],
 ) -> Passed
-    requires { ⌜ Readable d (now table) scales ⌝ }
+    requires { ⌜ ((d : Description) × Readable d (now table) scales plan) ⌝ }
     requires { ⌜ Buffers (length (now bytes)) (length (now raw)) (length (now corrected)) ⌝ }
     requires { ⌜ pixels ≤ mostPixels ⌝ }
 {
@@ -169,7 +180,7 @@ pub fn pass_all(
     while left > 0 {
         let want = next_piece(left);
         let passed = pass_piece(
-            d,
+            plan,
             table,
             scales,
             pixels - left,

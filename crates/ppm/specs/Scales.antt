@@ -3,7 +3,6 @@ use Prim.Native.Nat.{ℕ}
 use mathlib.Core.Path.{_≡_}
 use lib.Dec.{ltb}
 use Rattle.rules.specs.Units.{depthOf, depthWith}
-use Rattle.rules.specs.declared.Depth.{Depth}
 use Rattle.rules.specs.declared.DepthFound.{DepthFound}
 use Rattle.rules.specs.declared.DepthFound.the-variants.{Known as KnownDepth, Unknown as UnknownDepth}
 use Rattle.ppm.specs.declared.depth.Scale.{Scale}
@@ -11,18 +10,14 @@ use Rattle.ppm.specs.declared.depth.ScaleFound.{ScaleFound}
 use Rattle.ppm.specs.declared.depth.ScaleFound.the-variants.{Known, Unknown}
 
 abbrev pub scaleBy : DepthFound → ScaleFound
-scaleBy (KnownDepth d) = Known (record { bits = d .bits; greatest = d .greatest; wide = ltb 255 (d .greatest) })
+scaleBy (KnownDepth d) = Known (record { depth = d; wide = ltb 255 (d .greatest) })
 scaleBy UnknownDepth = Unknown
 
 abbrev pub scaleOf : ℕ → ScaleFound
 scaleOf maxval = scaleBy (depthWith maxval)
 
--- the depth that a scale is of
-abbrev pub depthIn : Scale → Depth
-depthIn s = record { bits = s .bits; greatest = s .greatest }
-
 -- a scale fits a maxval: its depth is known and has maxval as greatest code, and above 255 a code is two bytes
 pub record ScaleFits (maxval : ℕ) (s : Scale) : Type 0 where
-  pub depth : depthOf (s .bits) ≡ KnownDepth (depthIn s)
-  pub greatest : s .greatest ≡ maxval
+  pub depth : depthOf (s .depth .bits) ≡ KnownDepth (s .depth)
+  pub greatest : s .depth .greatest ≡ maxval
   pub wide : s .wide ≡ ltb 255 maxval

@@ -4,10 +4,9 @@ use rules::DepthFound;
 ghost use mathlib.Core.Path.{_≡_};
 ghost use Rattle.ppm.specs.Scales.{scaleOf};
 
-// The depth in bits, its greatest code, and whether a code is two bytes.
+// The depth whose greatest code a maxval is, and whether a code is two bytes.
 pub struct Scale {
-    pub bits: u32,
-    pub greatest: u16,
+    pub depth: Depth,
     pub wide: bool,
 }
 
@@ -25,10 +24,8 @@ pub fn scale_of(maxval: u64) -> ScaleFound
     let DepthFound::Known(depth) = Depth::with_greatest(maxval) else {
         return ScaleFound::Unknown;
     };
-    let greatest = depth.greatest();
     ScaleFound::Known(Scale {
-        bits: depth.bits(),
-        greatest,
-        wide: greatest > BYTE_GREATEST,
+        depth,
+        wide: depth.greatest() > BYTE_GREATEST,
     })
 }

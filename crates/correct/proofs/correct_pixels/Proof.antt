@@ -1,10 +1,39 @@
--- The buffers hold a piece, and scales that are found are those of known depths.
-use mathlib.Core.Path.{sym, ap₂, _∙_}
-use Rattle.rules.specs.Units.{together}
+-- The buffers hold a piece, scales that are found are those of known depths, and the plan is of the table and those depths.
+use mathlib.Core.Path.{_≡_, sym, ap, ap₂, subst, _∙_}
+use Rattle.rules.specs.Units.{depthsOf, together}
+use Rattle.rules.specs.declared.DepthsFound.the-variants.{Both}
+use Rattle.colour.specs.Plans.{planOf}
+use Rattle.colour.specs.Ratios.{ratioOf, InTerms}
+use Rattle.colour.proofs.Ratios.{ratio-known}
 use Rattle.ppm.proofs.Scaling.{scale-fits}
+use Rattle.correct.specs.Pieces.{bitsIn, depthsIn}
+use Rattle.correct.specs.declared.pieces.Scales.{Scales}
 use borrow.Author.Needs.{needs}
 use Rattle.correct.proofs.correct_pixels.Statement.{statement}
 use Rattle.correct.proofs.correct_pixels.Tie as tie
+
+-- ---- the entry and the raw scale, as the later places see them
+
+abbrev entry : tie.After-raw-scale → tie.Start
+entry c = c .before .before .before .before .before .before
+
+abbrev found : tie.After-corrected-scale → tie.After-raw-scale
+found c = c .before .before .before .before .before
+
+-- ---- what has been found
+
+abbrev scales : tie.After-corrected-scale → Scales
+scales c = record { raw = found c .raw-scale .given .0 .0; corrected = c .corrected-scale .given .0 .0 }
+
+known : (c : tie.After-corrected-scale) → depthsOf (bitsIn (scales c)) ≡ Both (depthsIn (scales c))
+known c =
+    let raw = found c in
+    let wanted = c .before .before in
+    let of-raw = scale-fits (entry raw .args .frame .maxval) _ (sym (raw .before .before .scale-of .ensures) ∙ raw .raw-scale .given .1) in
+    let of-corrected = scale-fits (wanted .before .maxval-wanted .result) _ (sym (wanted .scale-of2 .ensures) ∙ c .corrected-scale .given .1) in
+    ap₂ together (of-raw .depth) (of-corrected .depth)
+
+-- ---- the answers
 
 scale-of-requires : tie.Need-scale-of-requires
 scale-of-requires c κs = search needs
@@ -51,20 +80,27 @@ say-unwritten-requires c κs = search needs
 returns-3 : tie.Need-returns-3
 returns-3 c = search needs
 
+depths-in-requires : tie.Need-depths-in-requires
+depths-in-requires c κs = search needs
+
+plan-of-requires : tie.Need-plan-of-requires
+plan-of-requires c κs =
+    let k = c .before .before .before .before in (
+      (_, entry (found k) .pre .0),
+      subst (λ x. InTerms (ratioOf x) x) (sym (c .depths-in .ensures)) (ratio-known (bitsIn (scales k)) (depthsIn (scales k)) (known k)),
+    )
+
 pixels-requires : tie.Need-pixels-requires
-pixels-requires c κs = search needs
+pixels-requires c κs = entry (found (c .before .before .before .before .before)) .pre .1 .0
 
 pass-all-requires : tie.Need-pass-all-requires
 pass-all-requires c κs =
-    let corrected = c .before .before .before .before .before .before .before in
-    let wanted = corrected .before .before in
-    let raw = wanted .before .before .before in
-    let found = raw .before .before in
-    let s = found .before .before .before .before in
-    let of-raw = scale-fits (s .args .frame .maxval) _ (sym (found .scale-of .ensures) ∙ raw .raw-scale .given .1) in
-    let of-corrected = scale-fits (wanted .before .maxval-wanted .result) _ (sym (wanted .scale-of2 .ensures) ∙ corrected .corrected-scale .given .1) in (
-      record { could = s .pre .0; known = ap₂ together (of-raw .depth) (of-corrected .depth) },
-      (s .pre .1 .1, c .before .before .before .pixels .ensures .1),
+    let pixels = c .before .before .before in
+    let plan = pixels .before in
+    let k = plan .before .before .before .before .before in
+    let s = entry (found k) in (
+      (s .args .d, record { could = s .pre .0; known = known k; planned = plan .plan-of .ensures ∙ ap (planOf (s .args .d)) (plan .before .depths-in .ensures) }),
+      (s .pre .1 .1, pixels .pixels .ensures .1),
     )
 
 say-passed-requires : tie.Need-say-passed-requires
@@ -104,6 +140,8 @@ correct-pixels-spec =
     slice-aggregate-say-unwritten
     say-unwritten-requires
     returns-3
+    depths-in-requires
+    plan-of-requires
     pixels-requires
     pass-all-requires
     say-passed-requires

@@ -8,10 +8,10 @@ use Rattle.correct.proofs.pieces.pass_all.Statement.{statement}
 use Rattle.correct.proofs.pieces.pass_all.Tie as tie
 
 abbrev Inv-loop : tie.InvT-loop
-Inv-loop d table scales pixels bytes₀ raw₀ corrected₀ left₀ bytes raw corrected left = (left ≤ pixels) × ((length bytes ≡ length bytes₀) × ((length raw ≡ length raw₀) × (length corrected ≡ length corrected₀)))
+Inv-loop plan table scales pixels bytes₀ raw₀ corrected₀ left₀ bytes raw corrected left = (left ≤ pixels) × ((length bytes ≡ length bytes₀) × ((length raw ≡ length raw₀) × (length corrected ≡ length corrected₀)))
 
 abbrev μ-loop : tie.MeasureT-loop
-μ-loop d table scales pixels bytes₀ raw₀ corrected₀ left₀ bytes raw corrected left = left
+μ-loop plan table scales pixels bytes₀ raw₀ corrected₀ left₀ bytes raw corrected left = left
 
 loop-holds : tie.Need-loop-holds Inv-loop μ-loop
 loop-holds c = search needs

@@ -55,6 +55,10 @@ lent c =
 abbrev read : tie.After-correct-piece → tie.After-got
 read c = c .before .before .before .before .before
 
+-- the bytes that are made stand among those that were lent
+made : (c : tie.After-correct-piece) → c .correct-piece .result .bytes ≤ length (c .correct-piece .last .1 .1 .1 .0)
+made c = let readable = entry (filled (read c) .before .before) .pre .0 in c .correct-piece .ensures .0 (readable .0) (readable .1) .inside
+
 abbrev piece : tie.Else1 → tie.After-correct-piece
 piece c = c .before .before .before .before .before .before .before .before .before
 
@@ -107,10 +111,10 @@ correct-piece-requires c κs =
     )
 
 slice-reshare-prefix-write-all : tie.Need-slice-reshare-prefix-write-all
-slice-reshare-prefix-write-all c = search needs
+slice-reshare-prefix-write-all c = made (c .before .before .before .before .before .before)
 
 slice-aggregate-write-all : tie.Need-slice-aggregate-write-all
-slice-aggregate-write-all c = sym (length-take-le _ _ (c .before .before .before .before .before .before .before .correct-piece .ensures .0 .inside))
+slice-aggregate-write-all c = sym (length-take-le _ _ (made (c .before .before .before .before .before .before .before)))
 
 write-all-requires : tie.Need-write-all-requires
 write-all-requires c κs = search needs

@@ -1,5 +1,5 @@
--- The depth that is found decides: its bits and greatest code are read off it.
-use mathlib.Core.Path.{_≡_, sym, ap, ap₂, _∙_}
+-- The depth that is found decides: by its greatest code a code is one byte or two.
+use mathlib.Core.Path.{_≡_, sym, ap, _∙_}
 use borrow.Author.Needs.{needs}
 use lib.Dec.{ltb}
 use Rattle.rules.specs.declared.DepthFound.{DepthFound}
@@ -27,13 +27,10 @@ returns c = found (c .before .before) _ (c .enum-told .given .1)
 greatest-requires : tie.Need-greatest-requires
 greatest-requires c κs = search needs
 
-bits-requires : tie.Need-bits-requires
-bits-requires c κs = search needs
-
 returns-2 : tie.Need-returns-2
 returns-2 c =
-    let depth = c .before .before .before in
-    ap₂ (λ bits m. Known (record { bits = bits; greatest = m; wide = ltb 255 m })) (c .bits .ensures) (c .before .greatest .ensures)
+    let depth = c .before .before in
+    ap (λ m. Known (record { depth = depth .depth .given .0 .0; wide = ltb 255 m })) (c .greatest .ensures)
     ∙ found (depth .before .before) _ (depth .depth .given .1)
 
 pub scale-of-spec : {M : Type 1} → statement M
@@ -45,5 +42,4 @@ scale-of-spec =
     enum-told
     returns
     greatest-requires
-    bits-requires
     returns-2)
