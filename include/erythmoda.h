@@ -26,7 +26,7 @@ extern "C" {
 #define ERYTHMODA_VERSION_MAJOR 1
 #define ERYTHMODA_VERSION_MINOR 4
 #define ERYTHMODA_VERSION_PATCH 1
-#define ERYTHMODA_VERSION "1.4.1"
+#define ERYTHMODA_VERSION "1.4.2"
 
 /* What a table is, in eleven numbers:
  *

@@ -1,9 +1,9 @@
 // What the command says of itself.
 use desk::write;
 
-// As `erythmoda 1.4.1`; tests hold it to the version of the header.
+// As `erythmoda 1.4.2`; tests hold it to the version of the header.
 pub fn version(fd: i32) -> bool {
-    write(fd, b"erythmoda 1.4.1\n")
+    write(fd, b"erythmoda 1.4.2\n")
 }
 
 // What there is, with an example of each.

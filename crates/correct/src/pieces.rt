@@ -59,7 +59,8 @@ struct Piece {
     bytes: usize,
 }
 
-// A piece is what fixed memory holds of a picture. The larger it is, the fewer are the reads and writes, and for 1D the codes that are kept are worked once a piece.
+// A piece is what fixed memory holds of a picture. The larger it is, the fewer are the reads and writes; and of a 1D table the codes that are kept are worked
+// once a piece.
 const PIECE_PIXELS: usize = 1_048_576;
 
 // Whether lent space of these lengths holds a piece: as bytes, as raw and as corrected codes.
