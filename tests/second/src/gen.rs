@@ -8,6 +8,7 @@ pub mod draws;
 pub mod files;
 pub mod inverses;
 pub mod lookups;
+pub mod pictures;
 pub mod plain;
 pub mod shares;
 pub mod words;
@@ -87,7 +88,7 @@ pub fn look_case(seed: u64, index: u64) -> LookCase {
 }
 
 pub fn picture_case(seed: u64, index: u64) -> PictureCase {
-    lookups::picture(&mut Draws::of(seed, 3, index))
+    pictures::picture(&mut Draws::of(seed, 3, index))
 }
 
 pub fn write_case(seed: u64, index: u64) -> WriteCase {

@@ -1,10 +1,11 @@
 //! What an accepted look met, in 3D also which order of the three fractions; what files did by the
 //! points of their numbers, by one domain line without the other and by the domains of 3D; and what
-//! looks and pictures did by their two depths and by mixed domains; and what plain rows, writes, the
-//! halves of looks and inverses did. A stream has to come to each of these places, since they are
-//! where a mistake would show.
+//! looks and pictures did by their two depths and by mixed domains; and what plain rows, pictures by
+//! their length, writes, the halves of looks and inverses did. A stream has to come to each of these
+//! places, since they are where a mistake would show.
 
 pub mod inverses;
+pub mod pictures;
 pub mod plain;
 pub mod shares;
 pub mod writes;

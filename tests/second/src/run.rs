@@ -8,12 +8,13 @@ use crate::halves::{denominator, used, Codes, Rows};
 use crate::inverse::{colour, Aim, Inverse};
 use crate::look::{look, Cube, Look};
 use crate::met::inverses::{inverses_met, INVERSES_GROUPS};
+use crate::met::pictures::{pictures_met, PICTURES_GROUPS};
 use crate::met::plain::{plain_met, PLAIN_GROUPS};
 use crate::met::shares::{codes_met, rows_met, CODES_GROUPS, ROWS_GROUPS};
 use crate::met::writes::{writes_met, GROUPS};
 use crate::met::{bound_of_12_met, bound_of_24_met, domains_met};
 use crate::met::{depth_refusals_met, halves_met, met, order_met, pair_met, points_met};
-use crate::met::{inverses, plain, shares, writes};
+use crate::met::{inverses, pictures, plain, shares, writes};
 use crate::met::{is_mixed, mixed_met, shapes_met, widths_met};
 use crate::met::{BOUNDS, DEPTH_REFUSALS, DEPTH_REFUSALS_OF_LOOK, DIVIDED, DOMAINS, HALVES};
 use crate::met::{JUDGED, MIXED, NAMES, ORDERS, PAIRS, POINTS, SHAPES, WIDTHS};
@@ -98,6 +99,7 @@ pub struct Counts {
     looks_by_domains: ByDomains,
     pictures: ByDepths,
     pictures_by_domains: ByDomains,
+    pictures_by_length: [[u64; pictures::MOST_NAMES]; PICTURES_GROUPS.len()],
     writes: [[u64; writes::MOST_NAMES]; GROUPS.len()],
     first_halves: [[u64; shares::MOST_NAMES]; ROWS_GROUPS.len()],
     second_halves: [[u64; shares::MOST_NAMES]; CODES_GROUPS.len()],
@@ -176,8 +178,10 @@ impl Counts {
     }
 
     fn pictures_met(&self) -> Vec<Met<'_>> {
-        let by_depths = self.pictures.met("pictures", &DEPTH_REFUSALS);
-        by_depths.into_iter().chain(self.pictures_by_domains.met("pictures")).collect()
+        let mut met = self.pictures.met("pictures", &DEPTH_REFUSALS).to_vec();
+        met.extend(self.pictures_by_domains.met("pictures"));
+        met.extend(grouped(&PICTURES_GROUPS, &self.pictures_by_length));
+        met
     }
 
     fn note_file(&mut self, case: &FileCase, answer: &ReadAnswer) {
@@ -219,6 +223,9 @@ impl Counts {
             let output = &mut vec![0; case.output_len];
             picture(&case.description, &case.table, bits, &case.source, output)
         });
+        for (counts, met) in self.pictures_by_length.iter_mut().zip(pictures_met(case, number)) {
+            add_met(counts, &met);
+        }
     }
 
     fn note_write(&mut self, case: &WriteCase, answer: &WriteAnswer) {
@@ -771,9 +778,17 @@ fn tell_picture(case: &PictureCase, side: &dyn Side) -> String {
     let mut text = format!("picture, made by: {}\n", case.made.join("; "));
     text += &tell_lent(&case.description, &case.table);
     let _ = writeln!(text, "bits: {}", tell_bits(case.bits));
-    let _ = writeln!(text, "source: {}", shortened(&case.source));
+    let source = format!("{} codes, {}", case.source.len(), where_not_zero(&case.source));
+    let _ = writeln!(text, "source: {source}");
     let _ = writeln!(text, "output places: {}", case.output_len);
-    text + &two(Second.picture(case), side.picture(case), |answer: &PictureAnswer| {
+    let [own, other] = [Second.picture(case), side.picture(case)];
+    if let (Ok(own), Ok(other)) = (&own, &other) {
+        let mut pairs = own.output.iter().zip(&other.output).enumerate();
+        if let Some((at, (own, other))) = pairs.find(|(_, (own, other))| own != other) {
+            let _ = writeln!(text, "first unlike at place {at}: {own} and {other}");
+        }
+    }
+    text + &two(own, other, |answer: &PictureAnswer| {
         format!("number {} output {}", answer.number, shortened(&answer.output))
     })
 }
@@ -815,8 +830,10 @@ fn two<T>(own: Result<T, String>, other: Result<T, String>, show: impl Fn(&T) ->
 #[cfg(test)]
 mod tests {
     use super::*;
+    use crate::gen::pictures::{BEYOND_33_BITS, BLOCK_CODES};
     use crate::met::plain::{after_first_row, is_plain_row, After};
-    use crate::paper::{BOUND_UNITS, LONGEST_TITLE};
+    use crate::paper::{greatest_code, BOUND_UNITS, LONGEST_TITLE};
+    use crate::side::code_pattern;
     use crate::writing::is_plain;
 
     #[test]
@@ -866,6 +883,7 @@ mod tests {
         said("pictures refused", &DEPTH_REFUSALS);
         let halves = ROWS_GROUPS.iter().chain(&CODES_GROUPS);
         let groups = GROUPS.iter().chain(halves).chain(&INVERSES_GROUPS).chain(&PLAIN_GROUPS);
+        let groups = groups.chain(&PICTURES_GROUPS);
         for (title, names) in groups {
             said(title, names);
         }
@@ -1103,6 +1121,154 @@ mod tests {
             description[at] / BOUND_UNITS * BOUND_UNITS
         } else {
             description[at]
+        }
+    }
+
+    type ChangedSource = fn(&mut PictureCase);
+    type ChangedOutput = fn(&PictureCase, &mut PictureAnswer);
+
+    /// A picture's pixels, and how many raw codes there are at its depth.
+    fn pixels_and_codes(case: &PictureCase) -> (usize, usize) {
+        (case.source.len() / 3, case.bits.greatest().map_or(0, |m| usize::from(m.raw) + 1))
+    }
+
+    /// A picture without its raw code M, in whose place the code below it stands.
+    fn without_last_code(case: &mut PictureCase) {
+        let (_, codes) = pixels_and_codes(case);
+        let last = case.source.iter_mut().filter(|code| usize::from(**code) + 1 == codes);
+        last.for_each(|code| *code -= 1);
+    }
+
+    fn is_line(case: &PictureCase) -> bool {
+        case.description[place::KIND] == 1
+    }
+
+    #[test]
+    fn other_long_pictures_are_found() {
+        let as_another: [ChangedSource; 7] = [
+            // what is found beforehand for more pixels than raw codes leaves the last code out
+            |case| {
+                let (pixels, codes) = pixels_and_codes(case);
+                if is_line(case) && pixels > codes {
+                    without_last_code(case);
+                }
+            },
+            // so at 12 bits alone, or where there are no more pixels than that
+            |case| {
+                let (pixels, codes) = pixels_and_codes(case);
+                if is_line(case) && pixels > codes && codes == 4_096 {
+                    without_last_code(case);
+                }
+            },
+            |case| {
+                let (pixels, codes) = pixels_and_codes(case);
+                if is_line(case) && pixels == codes {
+                    without_last_code(case);
+                }
+            },
+            // 1,025 cells are 1,024, or 1,024 are 1,023
+            |case| {
+                if is_line(case) && case.description[place::N] == 1_026 {
+                    case.table.copy_within(3 * 1_024..3 * 1_025, 3 * 1_025);
+                }
+            },
+            |case| {
+                if is_line(case) && case.description[place::N] == 1_025 {
+                    case.table.copy_within(3 * 1_023..3 * 1_024, 3 * 1_024);
+                }
+            },
+            // samples have 33 bits, or are not below 0
+            |case| case.table.iter_mut().for_each(|sample| *sample %= BEYOND_33_BITS),
+            |case| {
+                let mut below = case.table.iter_mut().filter(|sample| **sample < 0);
+                if let (Some(sample), None) = (below.next(), below.next()) {
+                    *sample = 0;
+                }
+            },
+        ];
+        let with_another: [ChangedOutput; 7] = [
+            // the last pixel of a block, or of the last whole one, is left as it was
+            |case, answer| {
+                for end in (BLOCK_CODES..=case.source.len()).step_by(BLOCK_CODES) {
+                    leave(answer, end - 3..end);
+                }
+            },
+            |case, answer| {
+                let end = case.source.len() / BLOCK_CODES * BLOCK_CODES;
+                leave(answer, end.saturating_sub(3)..end);
+            },
+            // the pixels after the last whole block are left as they were
+            |case, answer| {
+                let end = case.source.len() / BLOCK_CODES * BLOCK_CODES;
+                let after = if end > 0 { end..case.source.len() } else { 0..0 };
+                leave(answer, after);
+            },
+            // each block is the first one again
+            |case, answer| {
+                for at in BLOCK_CODES..case.source.len() {
+                    if answer.number == 0 {
+                        answer.output[at] = answer.output[at % BLOCK_CODES];
+                    }
+                }
+            },
+            // a code above M is seen in the first block alone, or after that was written
+            |case, answer| {
+                let first = case.source.get(..BLOCK_CODES).unwrap_or(&case.source);
+                let seen = first.iter().any(|code| Some(*code) > greatest_code(case.bits.raw));
+                if answer.number == 23 && !seen {
+                    answer.number = 0;
+                }
+            },
+            |case, answer| {
+                if answer.number == 23 && case.source.len() > BLOCK_CODES {
+                    let source = case.source[..BLOCK_CODES].to_vec();
+                    let first = Second.picture(&PictureCase { source, ..case.clone() });
+                    let output = first.map_or(Vec::new(), |first| first.output);
+                    answer.output[..BLOCK_CODES].copy_from_slice(&output[..BLOCK_CODES]);
+                }
+            },
+            // a whole block is written, however many pixels are left
+            |case, answer| {
+                let end = case.source.len().div_ceil(BLOCK_CODES) * BLOCK_CODES;
+                let places = case.source.len()..end.min(answer.output.len());
+                if answer.number == 0 && case.source.len() > BLOCK_CODES {
+                    answer.output[places].fill(0);
+                }
+            },
+        ];
+        let sides = as_another.map(|change| Mistaken {
+            picture: Box::new(move |case| {
+                // one that is refused is refused as it is
+                let answer = Second.picture(case)?;
+                let mut other = case.clone();
+                change(&mut other);
+                if answer.number == 0 {
+                    Second.picture(&other)
+                } else {
+                    Ok(answer)
+                }
+            }),
+            ..Mistaken::default()
+        });
+        let others = with_another.map(|change| Mistaken {
+            picture: Box::new(move |case| {
+                let mut answer = Second.picture(case)?;
+                change(case, &mut answer);
+                Ok(answer)
+            }),
+            ..Mistaken::default()
+        });
+        for (at, side) in sides.iter().chain(&others).enumerate() {
+            let told = found(Wanted { pictures: 2_000, ..Wanted::default() }, side);
+            assert!(told.contains("picture, made by"), "mistake {at}");
+            assert!(told_length(&told, "source:") < 80, "mistake {at}: {told}");
+        }
+    }
+
+    /// Places of an accepted picture's output as they were before.
+    fn leave(answer: &mut PictureAnswer, places: std::ops::Range<usize>) {
+        if answer.number == 0 {
+            places.for_each(|at| answer.output[at] = code_pattern(at));
         }
     }
 

@@ -48,8 +48,8 @@ pub fn shortened<T: Display>(numbers: &[T]) -> String {
 }
 
 /// The numbers of a list that are not 0, each after its place and a colon.
-pub fn where_not_zero(numbers: &[i64]) -> String {
-    let placed = numbers.iter().enumerate().filter(|(_, number)| **number != 0);
+pub fn where_not_zero<T: Display + Default + PartialEq>(numbers: &[T]) -> String {
+    let placed = numbers.iter().enumerate().filter(|(_, number)| **number != T::default());
     let shown: Vec<String> = placed.map(|(at, number)| format!("{at}:{number}")).collect();
     if shown.is_empty() {
         "all 0".to_string()

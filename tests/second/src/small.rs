@@ -6,6 +6,9 @@ use crate::paper::{place, Bits};
 use crate::side::{Second, Side};
 use crate::writing::write;
 
+/// So often a table is tried with more zeros: of a large one not every place is.
+const TABLE_TRIES: usize = 10_000;
+
 /// Bytes without the lines, and then without the bytes, that the difference does not need.
 pub fn fewer_bytes(file: &[u8], tries: usize, differs: impl Fn(&[u8]) -> bool) -> Vec<u8> {
     let mut lines: Vec<Vec<u8>> = file.split(|byte| *byte == b'\n').map(<[u8]>::to_vec).collect();
@@ -35,12 +38,12 @@ pub fn smaller_look(case: &LookCase, differs: impl Fn(&LookCase) -> bool) -> Loo
     let with_bits = |bits: Bits| LookCase { bits, ..case.clone() };
     let case = with_bits(fewer_depths(case.bits, |bits| differs(&with_bits(bits))));
     let with_table = |table: Vec<i64>| LookCase { table, ..case.clone() };
-    with_table(with_zeros(&case.table, |table| differs(&with_table(table.to_vec()))))
+    with_table(with_zeros(&case.table, TABLE_TRIES, |table| differs(&with_table(table.to_vec()))))
 }
 
 /// A picture at one depth, if the difference allows, without the pixels that it does not need,
-/// and with zeros in its table. The output keeps as many places more or fewer than the source as
-/// it had.
+/// and with zeros for codes and in its table. The output keeps as many places more or fewer than the
+/// source as it had. Long pictures are tried fewer times.
 pub fn smaller_picture(case: &PictureCase, side: &dyn Side) -> PictureCase {
     let differs = |case: &PictureCase| side.picture(case) != Second.picture(case);
     let with_bits = |bits: Bits| PictureCase { bits, ..case.clone() };
@@ -51,9 +54,14 @@ pub fn smaller_picture(case: &PictureCase, side: &dyn Side) -> PictureCase {
         PictureCase { source, output_len, ..case.clone() }
     };
     let pixels: Vec<Vec<u16>> = case.source.chunks(3).map(<[u16]>::to_vec).collect();
-    let case = with_pixels(&fewer(pixels, 1_000, |pixels| differs(&with_pixels(pixels))));
-    let with_table = |table: Vec<i64>| PictureCase { table, ..case.clone() };
-    with_table(with_zeros(&case.table, |table| differs(&with_table(table.to_vec()))))
+    let tries = 200 + 100_000 / (pixels.len() + 1);
+    let case = with_pixels(&fewer(pixels, tries, |pixels| differs(&with_pixels(pixels))));
+    let tries = 200 + 1_000_000 / (case.source.len() + 1);
+    let with_source = |source: &[u16]| PictureCase { source: source.to_vec(), ..case.clone() };
+    let zeros = with_zeros(&case.source, tries, |source| differs(&with_source(source)));
+    let case = with_source(&zeros);
+    let with_table = |table: &[i64]| PictureCase { table: table.to_vec(), ..case.clone() };
+    with_table(&with_zeros(&case.table, tries, |table| differs(&with_table(table))))
 }
 
 /// Rows and weights at one depth, if the difference allows, with zeros in their table and in the
@@ -69,7 +77,7 @@ pub fn smaller_codes(case: &CodesCase, differs: impl Fn(&CodesCase) -> bool) -> 
         }
     }
     let with_table = |table: Vec<i64>| CodesCase { table, ..case.clone() };
-    with_table(with_zeros(&case.table, |table| differs(&with_table(table.to_vec()))))
+    with_table(with_zeros(&case.table, TABLE_TRIES, |table| differs(&with_table(table.to_vec()))))
 }
 
 /// An inverse at one depth, if the difference allows, with a tolerance of 0 or of one code, and with
@@ -85,7 +93,7 @@ pub fn smaller_inverse(case: &InverseCase, differs: impl Fn(&InverseCase) -> boo
         }
     }
     let with_table = |table: Vec<i64>| InverseCase { table, ..case.clone() };
-    with_table(with_zeros(&case.table, |table| differs(&with_table(table.to_vec()))))
+    with_table(with_zeros(&case.table, TABLE_TRIES, |table| differs(&with_table(table.to_vec()))))
 }
 
 /// A write of a 1D table of two rows, if the difference allows, with the title's bytes and the
@@ -102,7 +110,7 @@ pub fn smaller_write(case: &WriteCase, differs: impl Fn(&WriteCase) -> bool) -> 
     let case = &with_title(&title);
     let with_table =
         |table: &[i64]| with_room(case, WriteCase { table: table.to_vec(), ..case.clone() });
-    with_table(&with_zeros(&case.table, |table| differs(&with_table(table))))
+    with_table(&with_zeros(&case.table, TABLE_TRIES, |table| differs(&with_table(table))))
 }
 
 /// A changed case with as much room more or less than its text as there was.
@@ -142,21 +150,29 @@ fn fewer<T: Clone>(mut list: Vec<T>, tries: usize, differs: impl Fn(&[T]) -> boo
     list
 }
 
-/// Sets runs of a table to 0, long ones first, as long as the difference stays.
-fn with_zeros(table: &[i64], differs: impl Fn(&[i64]) -> bool) -> Vec<i64> {
-    let mut table = table.to_vec();
-    let mut run = table.len();
-    while run > 0 {
-        for start in (0..table.len()).step_by(run) {
-            let end = (start + run).min(table.len());
-            let mut zeros = table.clone();
-            zeros[start..end].fill(0);
-            if zeros != table && differs(&zeros) {
-                table = zeros;
+/// Sets runs of a table or of other numbers to 0, long ones first, as long as the difference stays
+/// and tries are left.
+fn with_zeros<T: Copy + Default + PartialEq>(
+    numbers: &[T],
+    mut tries: usize,
+    differs: impl Fn(&[T]) -> bool,
+) -> Vec<T> {
+    let mut numbers = numbers.to_vec();
+    let mut run = numbers.len();
+    while run > 0 && tries > 0 {
+        for start in (0..numbers.len()).step_by(run) {
+            let places = start..(start + run).min(numbers.len());
+            if tries == 0 || numbers[places.clone()].iter().all(|one| *one == T::default()) {
+                continue;
+            }
+            tries -= 1;
+            let mut zeros = numbers.clone();
+            zeros[places].fill(T::default());
+            if differs(&zeros) {
+                numbers = zeros;
             }
         }
-        // of a large table the single places are not tried
-        run = if table.len() > 5_000 && run < 64 { 0 } else { run / 2 };
+        run /= 2;
     }
-    table
+    numbers
 }

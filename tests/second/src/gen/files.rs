@@ -100,7 +100,7 @@ fn keyword_lines(draws: &mut Draws, kind: Kind, n: i64) -> Vec<Line> {
 /// Lower and upper bounds of the three colours, in thousandths.
 pub type Bounds = ([i64; 3], [i64; 3]);
 
-fn bounds_of(domains: [(i64, i64); 3]) -> Bounds {
+pub fn bounds_of(domains: [(i64, i64); 3]) -> Bounds {
     (domains.map(|domain| domain.0), domains.map(|domain| domain.1))
 }
 

@@ -1,10 +1,10 @@
-//! Looks and pictures: descriptions and tables that reading could and could not have
-//! given, pixels on the borders of cells and with equal fractions, values on and beside the ties
+//! Looks, and what pictures are made of too: descriptions and tables that reading could and could not
+//! have given, pixels on the borders of cells and with equal fractions, values on and beside the ties
 //! of two codes, and every pair of depths.
 
 use super::draws::Draws;
 use super::files::{one_bound_not_whole, some_bounds, some_sample, two_colours_not_whole, Bounds};
-use super::{LookCase, PictureCase};
+use super::LookCase;
 use crate::halves::used;
 use crate::look::look as looked;
 use crate::paper::{greatest_code, number, place, Bits, Description, Greatest, Kind};
@@ -56,45 +56,6 @@ pub fn look(draws: &mut Draws) -> LookCase {
     LookCase { description: lent.description, table: lent.table, bits, pixel, made }
 }
 
-pub fn picture(draws: &mut Draws) -> PictureCase {
-    let (mut lent, bits, made) = lent_and_bits(draws);
-    let pixels = draws.pick(&[0, 1, 1, 2, 3, 5, 8, 13, 40]);
-    let mut source: Vec<u16> =
-        (0..pixels).flat_map(|_| some_pixel(draws, &lent.description, some_m(bits))).collect();
-    if let Some(first) = source.first_chunk() {
-        aim(draws, &mut lent, bits, *first);
-    }
-    if draws.one_in(8) {
-        wrong_length(draws, &mut source);
-    }
-    if draws.one_in(too_great(bits, 8)) && !source.is_empty() {
-        let anywhere = draws.below(source.len());
-        let at = draws.pick(&[0, source.len() - 1, anywhere]);
-        source[at] = above(draws, some_m(bits));
-    }
-    let output_len = some_output_len(draws, source.len());
-    PictureCase { description: lent.description, table: lent.table, bits, source, output_len, made }
-}
-
-/// One code or two more or fewer.
-fn wrong_length(draws: &mut Draws, source: &mut Vec<u16>) {
-    let extra = draws.below(2) + 1;
-    if draws.one_in(2) {
-        source.extend((0..extra).map(|_| draws.number() as u16 & 0xFF));
-    } else {
-        source.truncate(source.len().saturating_sub(extra));
-    }
-}
-
-fn some_output_len(draws: &mut Draws, length: usize) -> usize {
-    match draws.below(8) {
-        0 => length.saturating_sub(1),
-        1 => draws.below(length + 1),
-        2 | 3 => length + draws.below(7),
-        _ => length,
-    }
-}
-
 pub fn lent_and_bits(draws: &mut Draws) -> (Lent, Bits, Vec<&'static str>) {
     let mut lent = kept(draws);
     let made = broken(draws, &mut lent);
@@ -114,7 +75,7 @@ pub fn broken(draws: &mut Draws, lent: &mut Lent) -> Vec<&'static str> {
 }
 
 /// Two depths, often the same.
-fn some_bits(draws: &mut Draws) -> Bits {
+pub fn some_bits(draws: &mut Draws) -> Bits {
     let raw = some_depth(draws);
     let corrected = if draws.one_in(4) { raw } else { some_depth(draws) };
     Bits { raw, corrected }
@@ -136,7 +97,7 @@ pub fn some_m(bits: Bits) -> u16 {
 }
 
 /// Of how many cases one has a code above M: of few where an unknown depth has to go first.
-fn too_great(bits: Bits, many: usize) -> usize {
+pub fn too_great(bits: Bits, many: usize) -> usize {
     if bits.greatest().is_some() {
         many
     } else {
@@ -154,7 +115,7 @@ pub fn above(draws: &mut Draws, m: u16) -> u16 {
 }
 
 /// Now and then the samples that a look weighs are set as `aim_at` sets them.
-fn aim(draws: &mut Draws, lent: &mut Lent, bits: Bits, pixel: [u16; 3]) {
+pub fn aim(draws: &mut Draws, lent: &mut Lent, bits: Bits, pixel: [u16; 3]) {
     let seen = looked(&lent.description, &lent.table, bits, pixel);
     if seen.number == number::ACCEPTED && draws.one_in(4) {
         aim_at(draws, lent, bits, &seen.rows, &seen.weights);
