@@ -1,10 +1,14 @@
-/* ffmpeg as a peer: its filter lut3d, tetrahedral, or lut1d, linear, on one thread. A frame goes in and a frame comes out. */
+/* ffmpeg as a peer: its filter lut3d, tetrahedral, or lut1d, linear, on one thread. A frame goes in and a frame comes out.
+ * It is built twice, since ffmpeg has other code for other layouts: as it stands the colours of a pixel lie side by side in the
+ * frames, and with PLANES each colour has a plane of its own. */
 #include <libavfilter/avfilter.h>
 #include <libavfilter/buffersink.h>
 #include <libavfilter/buffersrc.h>
 #include <libavutil/frame.h>
 #include <libavutil/log.h>
+#include <libavutil/mem.h>
 #include <libavutil/opt.h>
+#include <libavutil/pixdesc.h>
 #include <stdio.h>
 #include <string.h>
 
@@ -12,6 +16,8 @@
 
 static AVFilterContext *source, *sink;
 static AVFrame *raw_frame, *corrected_frame;
+static unsigned char *corrected_line;
+static size_t code_size;
 
 const char *peer_version(void) { return av_version_info(); }
 
@@ -28,19 +34,39 @@ static AVFilterContext *table_filter(AVFilterGraph *graph, const char *cube, enu
     return filter;
 }
 
+static enum AVPixelFormat format_of(const struct picture *raw) {
+#ifdef PLANES
+    return raw->bits == 8 ? AV_PIX_FMT_GBRP : AV_PIX_FMT_GBRP16;
+#else
+    return raw->bits == 8 ? AV_PIX_FMT_RGB24 : AV_PIX_FMT_RGB48;
+#endif
+}
+
+/* Where a colour of pixel x in line y lies in a frame, whatever its layout: 0 is red, 1 green and 2 blue. */
+static unsigned char *place(const AVFrame *frame, int colour, int x, int y) {
+    const AVComponentDescriptor *layout = &av_pix_fmt_desc_get((enum AVPixelFormat)frame->format)->comp[colour];
+    ptrdiff_t line = (ptrdiff_t)y * frame->linesize[layout->plane];
+    return frame->data[layout->plane] + line + (ptrdiff_t)x * layout->step + layout->offset;
+}
+
 static AVFrame *frame_of(const struct picture *raw, enum AVPixelFormat format) {
     AVFrame *frame = av_frame_alloc();
     demand(frame != NULL, "there is no memory");
     frame->width = raw->width, frame->height = raw->height, frame->format = format;
     demand(av_frame_get_buffer(frame, 0) >= 0, "there is no memory");
+    const unsigned char *code = raw->codes;
     for (int y = 0; y < raw->height; y++) {
-        memcpy(frame->data[0] + (ptrdiff_t)y * frame->linesize[0], raw->codes + (size_t)y * raw->line_size, raw->line_size);
+        for (int x = 0; x < raw->width; x++) {
+            for (int colour = 0; colour < 3; colour++, code += code_size) {
+                memcpy(place(frame, colour, x, y), code, code_size);
+            }
+        }
     }
     return frame;
 }
 
 void peer_prepare(const char *cube, enum kind kind, const struct picture *raw) {
-    enum AVPixelFormat format = raw->bits == 8 ? AV_PIX_FMT_RGB24 : AV_PIX_FMT_RGB48;
+    enum AVPixelFormat format = format_of(raw);
     AVFilterGraph *graph = avfilter_graph_alloc();
     char shape[100];
     av_log_set_level(AV_LOG_ERROR);
@@ -56,9 +82,11 @@ void peer_prepare(const char *cube, enum kind kind, const struct picture *raw) {
            "ffmpeg does not join its filters");
     /* where the codes had to be converted, ffmpeg would have put in a fourth filter */
     demand(graph->nb_filters == 3 && av_buffersink_get_format(sink) == (int)format, "ffmpeg converts the codes");
+    code_size = (size_t)raw->bits / 8;
     raw_frame = frame_of(raw, format);
     corrected_frame = av_frame_alloc();
-    demand(corrected_frame != NULL, "there is no memory");
+    corrected_line = av_malloc(raw->line_size);
+    demand(corrected_frame != NULL && corrected_line != NULL, "there is no memory");
 }
 
 void peer_correct(void) {
@@ -67,4 +95,12 @@ void peer_correct(void) {
     demand(av_buffersink_get_frame(sink, corrected_frame) >= 0, "ffmpeg gives no frame");
 }
 
-const unsigned char *peer_line(int y) { return corrected_frame->data[0] + (ptrdiff_t)y * corrected_frame->linesize[0]; }
+const unsigned char *peer_line(int y) {
+    unsigned char *code = corrected_line;
+    for (int x = 0; x < corrected_frame->width; x++) {
+        for (int colour = 0; colour < 3; colour++, code += code_size) {
+            memcpy(code, place(corrected_frame, colour, x, y), code_size);
+        }
+    }
+    return corrected_line;
+}

@@ -22,7 +22,7 @@ void peer_prepare(const char *cube, enum kind kind, const struct picture *raw);
 /* Corrects the raw picture once, which is what is measured. */
 void peer_correct(void);
 
-/* Where line y of the picture lies that was corrected last. */
+/* Where line y of the picture lies that was corrected last, until another line is asked for. */
 const unsigned char *peer_line(int y);
 
 /* Says what is wrong and ends the program, unless the condition holds. */

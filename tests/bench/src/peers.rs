@@ -1,5 +1,5 @@
-//! ffmpeg and OpenColorIO: each is measured by a program of the folder peers, which `run` builds
-//! where it is installed.
+//! ffmpeg, with the colours of a pixel side by side and in planes, and OpenColorIO: each is
+//! measured by a program of the folder peers, which `run` builds where it is installed.
 
 use crate::kind_shown;
 use baseline::{Description, Kind};
@@ -45,8 +45,12 @@ struct Program {
 }
 
 /// Those that are installed and those that are not.
-pub fn all() -> [Peer; 2] {
-    [Peer::found("ffmpeg", "FFMPEG_PROGRAM"), Peer::found("OpenColorIO", "OPENCOLORIO_PROGRAM")]
+pub fn all() -> [Peer; 3] {
+    [
+        Peer::found("ffmpeg", "FFMPEG_PROGRAM"),
+        Peer::found("ffmpeg planes", "FFMPEG_PLANES_PROGRAM"),
+        Peer::found("OpenColorIO", "OPENCOLORIO_PROGRAM"),
+    ]
 }
 
 impl Peer {
