@@ -7,7 +7,8 @@
  *     of an empty vector may be null);
  *   - what is lent for writing does not overlap with anything else that is lent to the same call;
  *   - no other thread writes, during the call, what it reads or writes, or reads what it writes. Calls that share only what
- *     they read may run at once.
+ *     they read may run at once;
+ *   - 64 kB of stack are left for it.
  *
  * Each call answers a number, 0 for accepted; erythmoda_words below says what the others mean. */
 #ifndef ERYTHMODA_H
@@ -25,7 +26,7 @@ extern "C" {
  * call is new, or a rule changes, so that some file or pixel is answered otherwise. PATCH grows when no answer changes. */
 #define ERYTHMODA_VERSION_MAJOR 1
 #define ERYTHMODA_VERSION_MINOR 4
-#define ERYTHMODA_VERSION_PATCH 1
+#define ERYTHMODA_VERSION_PATCH 2
 #define ERYTHMODA_VERSION "1.4.2"
 
 /* What a table is, in eleven numbers:

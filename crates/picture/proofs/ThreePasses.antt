@@ -31,16 +31,7 @@ use Rattle.colour.specs.declared.plan.Plan.{Plan}
 use Rattle.strips.specs.Strips.{LineAt, StrippedFor}
 use Rattle.strips.specs.declared.Strip.{Strip}
 use Rattle.picture.specs.Filling.{Fillable}
-use Rattle.picture.specs.Passes.{lineBy, stripBy, Kept, Inside, Passable, Passed}
-
--- ---- kept codes
-
-module _ {f : ℕ → ℕ} {count : ℕ} {kept : List ℕ} (s : Kept f count kept) (src : List ℕ) (below : (k : ℕ) → k < length src → getD src k 0 < count) where
-  pub kept-there : (k : ℕ) → k < length src → getD src k 0 < length kept
-  kept-there k h = omega (arith, below k h, s .long)
-
-  pub kept-passed : {first : ℕ} {dst dst′ : List ℕ} → Passed (λ c. getD kept c 0) first src dst dst′ → Passed f first src dst dst′
-  kept-passed p = record { long = p .long; made = λ k h e. p .made k h e ∙ s .are (getD src k 0) (below k h); other = p .other; later = p .later }
+use Rattle.picture.specs.Passes.{lineBy, stripBy, Inside, Passable, Passed}
 
 -- ---- a strip of the line
 

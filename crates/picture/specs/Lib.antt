@@ -2,3 +2,4 @@
 pub mod Filling
 pub mod Blocks
 pub mod Passes
+pub mod Keeping

@@ -21,11 +21,6 @@ lineBy {line} {table} l = lineCode (l .planned .d) table (l .planned .depths) (l
 abbrev pub stripBy : {strip : Strip} {table : List ℤ} → Stripped strip table → ℕ → ℕ
 stripBy {strip} {table} s = lineCode (s .lined .planned .d) table (s .lined .planned .depths) (strip .colour)
 
--- what f makes of each code below count
-pub record Kept (f : ℕ → ℕ) (count : ℕ) (kept : List ℕ) : Type 0 where
-  pub long : count ≤ length kept
-  pub are : (c : ℕ) → c < count → getD kept c 0 ≡ f c
-
 -- ---- of what
 
 -- no code is above m

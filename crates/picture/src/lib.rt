@@ -35,6 +35,7 @@ ghost use Rattle.lanes.specs.Cubes.{Cuboid, CubedIf};
 ghost use Rattle.picture.specs.Filling.{Fillable};
 
 mod cubes;
+mod kept;
 mod lines;
 mod pixels;
 

@@ -1,4 +1,6 @@
-// 1D, colour by colour, since each is a matter of its own codes: a pass for each colour over every third place.
+// 1D: by kept codes, or colour by colour, since each is a matter of its own codes: a pass for each colour over every third place.
+use crate::kept::correct_kept;
+use crate::kept::worth_keeping;
 use colour::Line;
 use colour::Plan;
 use colour::colour_place;
@@ -14,10 +16,10 @@ use strips::strip_of;
 ghost use mathlib.Core.Path.{_≡_};
 ghost use mathlib.Core.Bool.{true};
 ghost use mathlib.Core.List.{List, _++_};
-ghost use Prim.Native.Nat.{ℕ, _≤_, _<_};
+ghost use Prim.Native.Nat.{_≤_};
 ghost use lib.Dec.{leb};
 ghost use lib.IntN.{ℤ};
-ghost use lib.ListN.{length, getD, drop};
+ghost use lib.ListN.{length, drop};
 ghost use Rattle.rules.specs.Reading.Lines.{every};
 ghost use Rattle.rules.specs.Units.{rawM, colourPlace};
 ghost use Rattle.rules.specs.Looking.{lineCode, correct};
@@ -27,54 +29,7 @@ ghost use Rattle.colour.specs.Plans.{Planned};
 ghost use Rattle.colour.specs.Lines.{Lined};
 ghost use Rattle.strips.specs.Strips.{LineAt, Stripped, StrippedIf};
 ghost use Rattle.picture.specs.Filling.{Fillable};
-ghost use Rattle.picture.specs.Passes.{lineBy, stripBy, Kept, Inside, Passable, StripOver, Passed};
-
-// As many raw codes as 12 bits have are kept at most.
-const KEPT: usize = 4096;
-
-// ---- kept codes
-
-// The corrected codes of the first raw codes.
-fn keep_codes(line: Line, table: &[i64], kept: &mut [u16], count: usize)
-    requires { ⌜ Lined line (now table) ⌝ }
-    requires { ⌜ count ≤ length (now kept) ⌝ }
-    requires { ⌜ count ≤ 65536 ⌝ }
-    ensures { λ _. ⌜ ((l : Lined line (now (table .entry))) → Kept (lineBy l) count (now (kept .exit))) ⌝ }
-{
-    let mut c = 0;
-    while c < count {
-        kept[c] = line_code(line, table, c as u16);
-        c += 1;
-    }
-}
-
-// A pass in which each code is looked up.
-fn look_up(kept: &[u16], src: &[u16], dst: &mut [u16], first: usize)
-    requires { ⌜ ((k : ℕ) → k < length (now src) → getD (now src) k 0 < length (now kept)) ⌝ }
-    requires { ⌜ Inside 65535 (now src) ⌝ }
-    requires { ⌜ Passable first (now src) (length (now dst)) ⌝ }
-    ensures { λ _. ⌜ Passed (λ c. getD (now (kept .entry)) c 0) first (now (src .entry)) (now (dst .entry)) (now (dst .exit)) ⌝ }
-{
-    let mut i = first;
-    while i < src.len() {
-        dst[i] = kept[src[i] as usize];
-        i += 3;
-    }
-}
-
-// The corrected codes of all raw codes, then the pass.
-fn correct_kept(line: Line, count: usize, table: &[i64], src: &[u16], dst: &mut [u16], first: usize)
-    requires { ⌜ Lined line (now table) ⌝ }
-    requires { ⌜ count ≤ 4096 ⌝ }
-    requires { ⌜ ((k : ℕ) → k < length (now src) → getD (now src) k 0 < count) ⌝ }
-    requires { ⌜ Passable first (now src) (length (now dst)) ⌝ }
-    ensures { λ _. ⌜ ((l : Lined line (now (table .entry))) → Passed (lineBy l) first (now (src .entry)) (now (dst .entry)) (now (dst .exit))) ⌝ }
-{
-    // Ones, since for zeros the compiler would call a function of the C library, and this library needs none.
-    let mut kept: [u16; 4096] = [1; 4096];
-    keep_codes(line, table, &mut kept, count);
-    look_up(&kept, src, dst, first);
-}
+ghost use Rattle.picture.specs.Passes.{lineBy, stripBy, Inside, Passable, StripOver, Passed};
 
 // ---- a strip
 
@@ -126,16 +81,6 @@ fn pass_line(line: Line, table: &[i64], src: &[u16], dst: &mut [u16], first: usi
 
 // ---- each colour by its shortest way
 
-// Whether so many codes are worth keeping: no more than there is room for, and fewer than the pixels.
-fn worth_keeping(count: usize, pixels: usize) -> bool
-    ensures { λ r. ⌜ (r ≡ true → count ≤ 4096) ⌝ }
-{
-    if count > KEPT {
-        return false;
-    }
-    count < pixels
-}
-
 // Laying out the pieces takes about as long as so many pixels do code by code, however few cells there are.
 const FEW_PIXELS: usize = 128;
 
@@ -153,7 +98,7 @@ fn strip_for(line: Line, raw: u16, most: u16, pixels: usize) -> StripFound
     strip_of(line, raw, most)
 }
 
-// By kept codes, or else by the strip, or else code by code.
+// By the strip, or else code by code.
 fn correct_line(
     line: Line,
     raw: u16,
@@ -168,13 +113,7 @@ fn correct_line(
     requires { ⌜ Passable first (now src) (length (now dst)) ⌝ }
     ensures { λ _. ⌜ ((l : LineAt line (now (table .entry)) raw most) → Passed (lineBy (l .lined)) first (now (src .entry)) (now (dst .entry)) (now (dst .exit))) ⌝ }
 {
-    let count = raw as usize + 1;
-    let pixels = src.len() / 3;
-    if worth_keeping(count, pixels) {
-        correct_kept(line, count, table, src, dst, first);
-        return;
-    }
-    match strip_for(line, raw, most, pixels) {
+    match strip_for(line, raw, most, src.len() / 3) {
         StripFound::Laid(strip) => correct_strip(strip, table, src, dst, first),
         StripFound::Beyond => pass_line(line, table, src, dst, first),
     }
@@ -200,8 +139,8 @@ fn correct_colour(line: Line, depths: Depths, table: &[i64], src: &[u16], dst: &
     );
 }
 
-// Corrects a picture that has passed every check, of a plan of kind 1D.
-pub fn correct_lines(plan: Plan, depths: Depths, table: &[i64], src: &[u16], dst: &mut [u16])
+// All three.
+fn correct_colours(plan: Plan, depths: Depths, table: &[i64], src: &[u16], dst: &mut [u16])
     requires { ⌜ ((p : Planned plan (now table)) × ((p .depths ≡ depths) × (every (λ c. leb c (rawM depths)) (now src) ≡ true))) ⌝ }
     requires { ⌜ plan .kind ≡ OneD ⌝ }
     requires { ⌜ Fillable (now src) (length (now dst)) ⌝ }
@@ -210,4 +149,20 @@ pub fn correct_lines(plan: Plan, depths: Depths, table: &[i64], src: &[u16], dst
     correct_colour(line_of(plan, Colour::Red), depths, table, src, &mut *dst);
     correct_colour(line_of(plan, Colour::Green), depths, table, src, &mut *dst);
     correct_colour(line_of(plan, Colour::Blue), depths, table, src, &mut *dst);
+}
+
+// Corrects a picture that has passed every check, of a plan of kind 1D.
+pub fn correct_lines(plan: Plan, depths: Depths, table: &[i64], src: &[u16], dst: &mut [u16])
+    requires { ⌜ ((p : Planned plan (now table)) × ((p .depths ≡ depths) × (every (λ c. leb c (rawM depths)) (now src) ≡ true))) ⌝ }
+    requires { ⌜ plan .kind ≡ OneD ⌝ }
+    requires { ⌜ Fillable (now src) (length (now dst)) ⌝ }
+    ensures { λ _. ⌜ ((p : Planned plan (now (table .entry))) → p .depths ≡ depths → now (dst .exit) ≡ eachPixel (correct (p .d) (now (table .entry)) depths) (now (src .entry)) ++ drop (length (now (src .entry))) (now (dst .entry))) ⌝ }
+{
+    let raw = depths.raw;
+    let count = raw.greatest() as usize + 1;
+    if worth_keeping(count, src.len() / 3) {
+        correct_kept(plan, count, table, src, dst);
+        return;
+    }
+    correct_colours(plan, depths, table, src, dst);
 }

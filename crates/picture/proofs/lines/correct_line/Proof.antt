@@ -1,7 +1,6 @@
--- Whichever way a colour goes, its codes are look's: kept, by a strip of the line, or one by one.
+-- Whichever way a colour goes, its codes are look's: by a strip of the line, or one by one.
 use borrow.Author.Needs.{needs}
 use mathlib.Core.Path.{subst}
-use native.Mathlib.Omega.{arith}
 use denote.Ref.{now}
 use Rattle.strips.specs.Strips.{LineAt, StrippedFor, StrippedIf}
 use Rattle.picture.proofs.ThreePasses.{strip-inside, strip-passed}
@@ -9,7 +8,7 @@ use Rattle.picture.proofs.lines.correct_line.Statement.{statement}
 use Rattle.picture.proofs.lines.correct_line.Tie as tie
 
 abbrev entry : tie.After-strip-for → tie.Start
-entry c = c .before .before .before .before .before
+entry c = c .before .before .before
 
 abbrev AtEntry : tie.Start → Type 0
 AtEntry s = let a = s .args in LineAt (a .line) (now (a .table)) (a .raw) (a .most)
@@ -22,26 +21,8 @@ strip-so c l =
     let a = entry f .args in
     subst (StrippedIf (l .lined .planned .d) (l .lined .planned .depths) (a .line .colour) (now (a .table))) (c .strip .given .1) (f .strip-for .ensures (now (a .table)) l)
 
-add-count : tie.Need-add-count
-add-count c = search needs
-
-worth-keeping-requires : tie.Need-worth-keeping-requires
-worth-keeping-requires c κs = search needs
-
-correct-kept-requires : tie.Need-correct-kept-requires
-correct-kept-requires c κs =
-    let worth = c .before .before in
-    let s = worth .before .before .before in
-    (s .pre .0 .lined, (worth .worth-keeping .ensures (c .before .if1 .taken), ((λ k h. omega (arith, s .pre .1 .0 .inside k h)), s .pre .1 .1)))
-
-same-length : tie.Need-same-length
-same-length c = search needs
-
-returns : tie.Need-returns
-returns c = λ l. c .before .before .correct-kept .ensures (l .lined)
-
 strip-for-requires : tie.Need-strip-for-requires
-strip-for-requires c κs = let s = c .before .before .before .before in (now (s .args .table), s .pre .0)
+strip-for-requires c κs = let s = c .before .before in (now (s .args .table), s .pre .0)
 
 enum-known-strip : tie.Need-enum-known-strip
 enum-known-strip c = search needs
@@ -59,37 +40,32 @@ enum-told c = search needs
 pass-line-requires : tie.Need-pass-line-requires
 pass-line-requires c κs = let s = entry (c .before .before .before) in (s .pre .0 .lined, s .pre .1 .1)
 
-same-length-2 : tie.Need-same-length-2
-same-length-2 c = search needs
+same-length : tie.Need-same-length
+same-length c = search needs
 
-returns-2 : tie.Need-returns-2
-returns-2 c =
+returns : tie.Need-returns
+returns c =
     let passed = c .before .before in
     let found = passed .before .before .before in
     let s = entry (found .before .before) in
     λ l. let q = strip-so found l in strip-passed l q (passed .correct-strip .ensures (q .stripped) (strip-inside l q (s .pre .1 .0)))
 
-same-length-3 : tie.Need-same-length-3
-same-length-3 c = search needs
+same-length-2 : tie.Need-same-length-2
+same-length-2 c = search needs
 
-returns-3 : tie.Need-returns-3
-returns-3 c = λ l. c .before .before .pass-line .ensures (l .lined)
+returns-2 : tie.Need-returns-2
+returns-2 c = λ l. c .before .before .pass-line .ensures (l .lined)
 
 pub correct-line-spec : {M : Type 1} → statement M
 correct-line-spec =
     tie.close
     (tie.spec
-    add-count
-    worth-keeping-requires
-    correct-kept-requires
-    same-length
-    returns
     strip-for-requires
     enum-known-strip
     correct-strip-requires
     enum-told
     pass-line-requires
+    same-length
+    returns
     same-length-2
-    returns-2
-    same-length-3
-    returns-3)
+    returns-2)

@@ -1,81 +1,72 @@
--- Red, green and blue, each by its own pass.
+-- Whichever way a picture goes, its codes are look's: kept, or colour by colour. With one more code kept than the raw M, every code of the picture is.
+use mathlib.Core.Path.{ap, _∙_}
+use mathlib.Core.List.{_++_}
 use borrow.Author.Needs.{needs}
 use native.Mathlib.Omega.{arith}
 use denote.Ref.{now}
-use Rattle.picture.proofs.ThreePasses.{one-d-so, lined-so, colour-passed, three-passed}
+use lib.ListN.{length, drop}
+use Rattle.rules.specs.Units.{rawM}
+use Rattle.rules.specs.Looking.{correct}
+use Rattle.rules.specs.Picturing.{eachPixel}
+use Rattle.picture.proofs.ThreePasses.{inside-so}
 use Rattle.picture.proofs.lines.correct_lines.Statement.{statement}
 use Rattle.picture.proofs.lines.correct_lines.Tie as tie
 
-abbrev entry : tie.After-correct-colour → tie.Start
-entry c = c .before .before .before .before .before
+abbrev entry : tie.After-greatest → tie.Start
+entry c = c .before .before .before .before
 
--- ---- the answers
+greatest-requires : tie.Need-greatest-requires
+greatest-requires c κs = search needs
 
-line-of-requires : tie.Need-line-of-requires
-line-of-requires c κs = search needs
+cast-count : tie.Need-cast-count
+cast-count c = search needs
 
-correct-colour-requires : tie.Need-correct-colour-requires
-correct-colour-requires c κs =
-    let line = c .before in
-    let s = line .before .before .before in
-    ((lined-so (s .pre .0 .0) (s .pre .1 .0) (line .line-of .ensures), s .pre .0 .1), s .pre .1 .1 .room)
+add-count : tie.Need-add-count
+add-count c = search needs
 
-line-of-requires-2 : tie.Need-line-of-requires-2
-line-of-requires-2 c κs = search needs
+worth-keeping-requires : tie.Need-worth-keeping-requires
+worth-keeping-requires c κs = search needs
 
-correct-colour-requires-2 : tie.Need-correct-colour-requires-2
-correct-colour-requires-2 c κs =
-    let line = c .before in
-    let red = line .before .before .before in
-    let s = entry red in
-    let (p, (e, _)) = s .pre .0 in
-    let first = red .correct-colour .ensures (lined-so p (s .pre .1 .0) (red .before .before .line-of .ensures)) e in
-    ((lined-so p (s .pre .1 .0) (line .line-of2 .ensures), s .pre .0 .1), omega (arith, s .pre .1 .1 .room, first .long))
-
-line-of-requires-3 : tie.Need-line-of-requires-3
-line-of-requires-3 c κs = search needs
-
-correct-colour-requires-3 : tie.Need-correct-colour-requires-3
-correct-colour-requires-3 c κs =
-    let line = c .before in
-    let green = line .before .before .before in
-    let red = green .before .before .before .before .before in
-    let s = entry red in
-    let (p, (e, _)) = s .pre .0 in
-    let one-d = s .pre .1 .0 in
-    let first = red .correct-colour .ensures (lined-so p one-d (red .before .before .line-of .ensures)) e in
-    let second = green .correct-colour2 .ensures (lined-so p one-d (green .before .before .line-of2 .ensures)) e in
-    ((lined-so p one-d (line .line-of3 .ensures), s .pre .0 .1), omega (arith, s .pre .1 .1 .room, first .long, second .long))
+correct-kept-requires : tie.Need-correct-kept-requires
+correct-kept-requires c κs =
+    let worth = c .before .before in
+    let raw = worth .before in
+    let s = entry raw in
+    let a = s .args in
+    let inside = inside-so (rawM (a .depths)) (now (a .src)) (s .pre .0 .1 .1) (raw .greatest .ensures) in
+    (s .pre .0 .0, (s .pre .1 .0, (worth .worth-keeping .ensures (c .before .if1 .taken), ((λ k h. omega (arith, inside .inside k h)), s .pre .1 .1))))
 
 same-length : tie.Need-same-length
 same-length c = search needs
 
 returns : tie.Need-returns
 returns c =
-    let blue = c .before .before in
-    let green = blue .before .before .before .before .before in
-    let red = green .before .before .before .before .before in
-    let s = entry red in
-    let a = s .args in
-    let one-d = s .pre .1 .0 in
-    let of-red = red .before .before .line-of .ensures in
-    let of-green = green .before .before .line-of2 .ensures in
-    let of-blue = blue .before .before .line-of3 .ensures in
+    let made = c .before .before in
+    let a = entry (made .before .before .before .before) .args in
     λ p e.
-    three-passed (p .d) (now (a .table)) (a .depths) (one-d-so p one-d) (now (a .src)) (now (a .dst)) (s .pre .1 .1)
-    (colour-passed p one-d of-red (a .depths) (red .correct-colour .ensures (lined-so p one-d of-red) e))
-    (colour-passed p one-d of-green (a .depths) (green .correct-colour2 .ensures (lined-so p one-d of-green) e))
-    (colour-passed p one-d of-blue (a .depths) (blue .correct-colour3 .ensures (lined-so p one-d of-blue) e))
+    made .correct-kept .ensures p
+    ∙ ap (λ x. eachPixel (correct (p .d) (now (a .table)) x) (now (a .src)) ++ drop (length (now (a .src))) (now (a .dst))) e
+
+correct-colours-requires : tie.Need-correct-colours-requires
+correct-colours-requires c κs = search needs
+
+same-length-2 : tie.Need-same-length-2
+same-length-2 c = search needs
+
+returns-2 : tie.Need-returns-2
+returns-2 c = λ p e. c .before .before .correct-colours .ensures p e
 
 pub correct-lines-spec : {M : Type 1} → statement M
 correct-lines-spec =
     tie.close
     (tie.spec
-    line-of-requires
-    correct-colour-requires
-    line-of-requires-2
-    correct-colour-requires-2
-    line-of-requires-3
-    correct-colour-requires-3
+    greatest-requires
+    cast-count
+    add-count
+    worth-keeping-requires
+    correct-kept-requires
     same-length
-    returns)
+    returns
+    correct-colours-requires
+    same-length-2
+    returns-2)

@@ -1,8 +1,8 @@
 -- Too many are not worth it, and what is not too many is at most 4096.
 use borrow.Author.Needs.{needs}
 use mathlib.Core.Bool.{false≢true}
-use Rattle.picture.proofs.lines.worth_keeping.Statement.{statement}
-use Rattle.picture.proofs.lines.worth_keeping.Tie as tie
+use Rattle.picture.proofs.kept.worth_keeping.Statement.{statement}
+use Rattle.picture.proofs.kept.worth_keeping.Tie as tie
 
 returns : tie.Need-returns
 returns c = λ e. absurd (false≢true e)

@@ -6,8 +6,8 @@ use lib.ListN.{length}
 use Rattle.colour.specs.Lines.{Lined}
 use Rattle.lanes.proofs.Stored.{Stored, none-stored, one-stored}
 use Rattle.picture.specs.Passes.{lineBy}
-use Rattle.picture.proofs.lines.keep_codes.Statement.{statement}
-use Rattle.picture.proofs.lines.keep_codes.Tie as tie
+use Rattle.picture.proofs.kept.keep_codes.Statement.{statement}
+use Rattle.picture.proofs.kept.keep_codes.Tie as tie
 
 abbrev Inv-loop : tie.InvT-loop
 Inv-loop line table kept₀ count c₀ kept c = (c ≤ count) × ((l : Lined line table) → Stored 0 (lineBy l) (length kept₀) c kept)
