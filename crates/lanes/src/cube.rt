@@ -20,11 +20,13 @@ use whole::Reciprocal;
 use whole::WideReciprocal;
 ghost use mathlib.Core.Path.{_≡_};
 ghost use mathlib.Core.List.{List};
-ghost use Prim.Native.Nat.{_≤_, _<_};
-ghost use lib.IntN.{ℤ};
+ghost use Prim.Native.Nat.{_*_, _≤_, _<_};
+ghost use lib.IntN.{ℤ, natAbs};
 ghost use Rattle.rules.specs.Units.{rawM};
 ghost use Rattle.rules.specs.Looking.{correct};
+ghost use Rattle.colour.specs.Limits.{eachLimit, lowLimit};
 ghost use Rattle.colour.specs.Places.{AxisFits, CellsFit, three};
+ghost use Rattle.lanes.specs.Lanes.{RunsIf};
 ghost use Rattle.lanes.specs.Paths.{Keyed, Climbs};
 ghost use Rattle.lanes.specs.Cubes.{LaneIf, Cuboid, LanesIf, Halved, NearOrFar, CubedIf, Nearby, Placed};
 
@@ -59,6 +61,22 @@ pub enum CubeFound {
 
 // ---- the lanes
 
+// The lane of an axis in parts, for codes up to m.
+pub fn lane_along(parts: Axis, m: u16, cells: usize, stride: u32) -> LaneFound
+    requires { ⌜ 0 < m ⌝ }
+    requires { ⌜ cells ≤ 65535 ⌝ }
+    requires { ⌜ 0 < parts .den ⌝ }
+    requires { ⌜ parts .each ≤ eachLimit ⌝ }
+    requires { ⌜ natAbs (parts .low .0) ≤ lowLimit ⌝ }
+    ensures { λ r. ⌜ RunsIf m cells (parts .den) (parts .each * cells) (natAbs (parts .low .0) * cells) stride r ⌝ }
+{
+    let low = parts.low;
+    let many = cells as u64;
+    let a = parts.each * many;
+    let b = low.size() * many;
+    lane_of(m as u64, many, parts.den, a, b, stride)
+}
+
 // A colour's lane, from its axis in parts of g each.
 fn lane_in(axis: Axis, g: u64, m: u16, cells: usize) -> LaneFound
     requires { ⌜ AxisFits axis ⌝ }
@@ -72,12 +90,8 @@ fn lane_in(axis: Axis, g: u64, m: u16, cells: usize) -> LaneFound
     let AxisFound::In(parts) = parted(axis, g) else {
         return LaneFound::Beyond;
     };
-    let low = parts.low;
-    let many = cells as u64;
-    let a = parts.each * many;
-    let b = low.size() * many;
     let places = 3 * axis.stride;
-    lane_of(m as u64, many, parts.den, a, b, places as u32)
+    lane_along(parts, m, cells, places as u32)
 }
 
 enum LanesFound {

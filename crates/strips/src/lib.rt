@@ -8,7 +8,7 @@ use lanes::Lane;
 use lanes::LaneFound;
 use lanes::WHOLE;
 use lanes::common_in;
-use lanes::lane_of;
+use lanes::lane_along;
 use lanes::parted;
 use rules::Colour;
 use whole::Reciprocal;
@@ -71,19 +71,10 @@ pub fn strip_of(line: Line, raw: u16, most: u16) -> StripFound
     let AxisFound::In(parts) = parted(axis, common_in(axis)) else {
         return StripFound::Beyond;
     };
-    let many = cells as u64;
-    if parts.den * many > Strip::MOST_PARTS {
+    if parts.den * cells as u64 > Strip::MOST_PARTS {
         return StripFound::Beyond;
     }
-    let low = parts.low;
-    let LaneFound::Runs(lane) = lane_of(
-        raw as u64,
-        many,
-        parts.den,
-        parts.each * many,
-        low.size() * many,
-        3,
-    ) else {
+    let LaneFound::Runs(lane) = lane_along(parts, raw, cells, 3) else {
         return StripFound::Beyond;
     };
     let half = parts.unit / 2;

@@ -12,7 +12,7 @@ use lib.IntN.{ℤ, natAbs}
 use Rattle.whole.specs.Reciprocals.{reciprocalOf, excess}
 use Rattle.rules.specs.Units.{correctedM}
 use Rattle.colour.specs.Adding.{Codable}
-use Rattle.colour.specs.Limits.{denLimit, eachLimit, lowLimit}
+use Rattle.colour.specs.Limits.{denLimit}
 use Rattle.colour.specs.Lines.{Lined}
 use Rattle.colour.specs.Plans.{axisIn}
 use Rattle.colour.specs.declared.lines.Line.{Line}
@@ -41,19 +41,10 @@ module _ {line : Line} {table : List ℤ} (l : Lined line table) {g : ℕ} {part
   in-terms : line .times ≡ 1 → parts .full ≡ m * parts .unit
   in-terms once = sym (NatL.one-mul (parts .full)) ∙ ap (λ x. x * parts .full) (sym once) ∙ coded .in-terms
 
-  -- ---- its numbers times the cells
-
-  times-cells : {x limit : ℕ} → x ≤ limit → x * line .cells ≤ limit * 65535
-  times-cells h = NatL.mul-le-mul h (line-fits l .1 .most)
+  -- ---- D times the cells
 
   den-most : parts .den * line .cells ≤ denLimit * 65535
-  den-most = times-cells (den-narrow (l .planned) (line .colour) some of-colour)
-
-  each-most : parts .each * line .cells ≤ eachLimit * 65535
-  each-most = times-cells (NatL.le-trans (each-parts-most some parted) (line-fits l .0 .each))
-
-  low-most : natAbs (parts .low .0) * line .cells ≤ lowLimit * 65535
-  low-most = times-cells (NatL.le-trans (low-parts-most some parted) (line-fits l .0 .low))
+  den-most = NatL.mul-le-mul (den-narrow (l .planned) (line .colour) some of-colour) (line-fits l .1 .most)
 
   -- ---- D·10,000,000 and half the unit
 
@@ -77,23 +68,18 @@ some-so c = asked c .common-in .ensures
 parted-so : (c : tie.After-parts) → Parted (asked c .common-in .result) (entry (asked c) .args .line .axis) (partsOf c)
 parted-so c = subst (PartedIf _ _) (c .parts .given .1) (c .before .before .parted .ensures)
 
-abbrev sized : tie.After-lane → tie.After-size
+abbrev sized : tie.After-lane → tie.Else3
 sized c = c .before .before .before
 
-abbrev past : tie.After-size → tie.After-parts
-past c = c .before .before .before .before .before .before
+abbrev past : tie.Else3 → tie.After-parts
+past c = c .before .before .before
 
 -- the lane of the codes up to the M of raw ones
 runs-so : (c : tie.After-lane)
     → let parts = partsOf (past (sized c)) in
     let a = entry (asked (past (sized c))) .args in
     RunsAlong (a .raw) (a .line .cells) (parts .den) (parts .each * a .line .cells) (natAbs (parts .low .0) * a .line .cells) (c .lane .given .0 .0)
-runs-so c =
-    let parts = partsOf (past (sized c)) in
-    let a = entry (asked (past (sized c))) .args in
-    let n = a .line .cells in
-    subst (λ x. RunsAlong (a .raw) n (parts .den) (parts .each * n) (x * n) (c .lane .given .0 .0)) (sized c .size .ensures)
-    (subst (RunsIf _ _ _ _ _ _) (c .lane .given .1) (c .before .before .lane-of .ensures) .0)
+runs-so c = subst (RunsIf _ _ _ _ _ _) (c .lane .given .1) (c .before .before .lane-along .ensures) .0
 
 abbrev found : tie.After-of → tie.After-lane
 found c = c .before .before .before
@@ -145,26 +131,22 @@ mul-if3 c =
 returns-4 : tie.Need-returns-4
 returns-4 c = search needs
 
-mul-lane-of : tie.Need-mul-lane-of
-mul-lane-of c =
-    let p = c .before .before .before .before .before in
-    record { fits = omega (arith, each-most (entry (asked p) .pre .1 .lined) (some-so p) (parted-so p)) }
-
-size-requires : tie.Need-size-requires
-size-requires c κs = search needs
-
-mul-lane-of-2 : tie.Need-mul-lane-of-2
-mul-lane-of-2 c =
-    let p = past c in
-    rw (c .size .ensures) (record { fits = omega (arith, low-most (entry (asked p) .pre .1 .lined) (some-so p) (parted-so p)) })
-
-lane-of-requires : tie.Need-lane-of-requires
-lane-of-requires c κs =
+lane-along-requires : tie.Need-lane-along-requires
+lane-along-requires c κs =
     let p = past c in
     let s = entry (asked p) in
     let l = s .pre .1 .lined in
     let deep = subst (λ x. 0 < x) (sym (s .pre .1 .raw-is)) (l .planned .deep) in
-    (deep, (omega (arith, s .fits .raw), (line-fits l .1 .most, den-parts-some (some-so p) (parted-so p) (line-fits l .0 .wide))))
+    let fits = line-fits l .0 in (
+      deep,
+      (
+        line-fits l .1 .most,
+        (
+          den-parts-some (some-so p) (parted-so p) (fits .wide),
+          (NatL.le-trans (each-parts-most (some-so p) (parted-so p)) (fits .each), NatL.le-trans (low-parts-most (some-so p) (parted-so p)) (fits .low)),
+        ),
+      ),
+    )
 
 enum-known-lane : tie.Need-enum-known-lane
 enum-known-lane c = search needs
@@ -210,7 +192,7 @@ returns-7 c =
             parted = parted-so p;
             runs = subst (λ x. RunsAlong x _ _ _ _ _) (l .raw-is) (runs-so known);
             few = few .if2 .left;
-            small = sized known .before .before .before .if3 .left;
+            small = sized known .if3 .left;
             in-terms = in-terms (l .lined) (some-so p) (parted-so p) (few .before .if1 .left) ∙ ap (λ x. x * partsOf p .unit) (sym (l .most-is));
             half-is = refl;
             top-is = refl;
@@ -236,10 +218,7 @@ strip-of-spec =
     returns-3
     mul-if3
     returns-4
-    mul-lane-of
-    size-requires
-    mul-lane-of-2
-    lane-of-requires
+    lane-along-requires
     enum-known-lane
     enum-told-2
     returns-5
