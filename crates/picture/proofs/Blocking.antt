@@ -1,11 +1,10 @@
 -- A block whose codes have their keys and places: what each of its pixels has, by the lanes of red, green and blue.
 use Prim.Native.Nat.{ℕ, _+_, _-_, _%_, _≤_, _<_, min}
-use mathlib.Core.Path.{_≡_, refl, sym, ap₂, subst, _∙_}
+use mathlib.Core.Path.{_≡_, refl, sym, ap, ap₂, subst, _∙_}
 use mathlib.Core.Bool.{Bool, true, false, cond}
 use mathlib.Core.List.{List, _++_}
 use native.Mathlib.Nat as NatL
 use native.Mathlib.Omega.{arith}
-use borrow.Author.Tests.{leb-true}
 use lib.Dec.{eqb, leb}
 use lib.IntN.{ℤ}
 use lib.ListN.{length, take, drop, getD, length-take, length-drop}
@@ -21,7 +20,6 @@ use Rattle.rules.specs.declared.Colour.{Colour}
 use Rattle.rules.specs.declared.Colour.the-variants.{Red, Green, Blue}
 use Rattle.rules.specs.declared.Depths.{Depths}
 use Rattle.rules.specs.declared.Description.{Description}
-use Rattle.rules.proofs.Picturing.Checks.{every-at}
 use Rattle.colour.proofs.Plans.{cells-fit}
 use Rattle.lanes.specs.Lanes.{keyBy, offsetBy}
 use Rattle.lanes.specs.Cubes.{laneIn, Cubed, CubedFor, Placed}
@@ -33,7 +31,7 @@ use Rattle.lanes.proofs.Placing.{stride-below, keyed}
 use Rattle.picture.specs.Filling.{pixelFrom, Fillable}
 use Rattle.picture.specs.Blocks.{correctBy, Within, Filled, startFrom, spotFrom, Blocked, FilledTo}
 use Rattle.picture.specs.declared.cubes.Spot.{Spot}
-use Rattle.picture.proofs.Filled.{room-here, one-filled}
+use Rattle.picture.proofs.Filled.{inside-so, room-here, one-filled}
 
 -- ---- the lanes at three places in a row
 
@@ -214,8 +212,7 @@ module _ (src : List ℕ) {at end : ℕ} (h : at < length src) (e : end ≡ min 
 -- 23 has been passed
 pub within-so : {d : Description} {depths : Depths} {cube : Cube} {table : List ℤ} (q : CubedFor d depths cube table) (src : List ℕ)
     → every (λ c. leb c (rawM depths)) src ≡ true → Within (q .cubed) src
-within-so {depths = depths} q src all =
-    record { inside = λ k h. rw (q .depths-are) (leb-true (getD src k 0) (rawM depths) (every-at (λ c. leb c (rawM depths)) src all k h)) }
+within-so {depths = depths} q src all = inside-so (rawM depths) src all (ap rawM (q .depths-are))
 
 -- corrected by the cube, it is corrected by the description and the depths that the cube is of
 pub made-for : {d : Description} {depths : Depths} {cube : Cube} {table : List ℤ} (q : CubedFor d depths cube table) (src dst : List ℕ) {dst′ : List ℕ}

@@ -1,18 +1,22 @@
 -- The output while it is filled, by any function from pixel to codes: what it makes of the pixels passed stands in front of what was there. A pixel
 -- more is three codes more.
 use Prim.Native.Nat.{ℕ, suc, _+_, _%_, _≤_, _<_}
-use mathlib.Core.Path.{_≡_, refl, sym, ap, _∙_}
+use mathlib.Core.Path.{_≡_, refl, sym, ap, subst, _∙_}
+use mathlib.Core.Bool.{true}
 use mathlib.Core.List.{List, [], _∷_, _++_}
 use native.Mathlib.Omega.{arith}
+use borrow.Author.Tests.{leb-true}
+use lib.Dec.{leb}
 use lib.ListN.{length, take, drop, getD}
 use lib.Seq.{drop-cons, take-add, take-all, length-take-le}
 use Rattle.rules.specs.Answers.{codesOf}
+use Rattle.rules.specs.Reading.Lines.{every}
 use Rattle.rules.specs.Picturing.{pixelOf, eachPixel}
 use Rattle.rules.specs.Memory.{spliced}
 use Rattle.rules.specs.declared.Codes.{Codes}
 use Rattle.rules.proofs.Memory.{splice-none, splice-front, splice-length, splice-both}
-use Rattle.rules.proofs.Picturing.Checks.{each-length}
-use Rattle.picture.specs.Filling.{pixelFrom, Fillable}
+use Rattle.rules.proofs.Picturing.Checks.{every-at, each-length}
+use Rattle.picture.specs.Filling.{pixelFrom, Fillable, Inside}
 use Rattle.picture.specs.Blocks.{Filled}
 
 -- ---- pixels, and more pixels
@@ -33,6 +37,10 @@ three-from l i h =
 -- a pixel that begins in the picture ends in it
 pub whole-pixel : {src : List ℕ} {places : ℕ} → Fillable src places → (i : ℕ) → i % 3 ≡ 0 → i < length src → i + 2 < length src
 whole-pixel s i z h = omega (arith, s .whole)
+
+-- no code is above the raw M
+pub inside-so : (m : ℕ) (src : List ℕ) → every (λ c. leb c m) src ≡ true → {raw : ℕ} → raw ≡ m → Inside raw src
+inside-so m src all e = record { inside = λ k h. subst (λ x. getD src k 0 ≤ x) (sym e) (leb-true (getD src k 0) m (every-at (λ c. leb c m) src all k h)) }
 
 -- ---- pixel by pixel
 

@@ -8,7 +8,7 @@ use lib.IntN.{ℤ}
 use lib.ListN.{length, getD}
 use Rattle.rules.specs.Units.{codeIn}
 use Rattle.rules.specs.Looking.{lineCode, correct}
-use Rattle.rules.specs.Picturing.{pixelOf, eachPixel}
+use Rattle.rules.specs.Picturing.{eachPixel}
 use Rattle.rules.specs.Demands.{pixelAt}
 use Rattle.rules.specs.declared.Codes.{Codes}
 use Rattle.rules.specs.declared.Colour.{Colour}
@@ -22,6 +22,8 @@ use Rattle.colour.specs.Plans.{Planned}
 use Rattle.colour.specs.Lines.{lineOf}
 use Rattle.colour.specs.declared.lines.Line.{Line}
 use Rattle.colour.specs.declared.plan.Plan.{Plan}
+use Rattle.colour.proofs.Totals.{each-colour}
+use Rattle.colour.proofs.Weighing.{same-codes}
 use Rattle.picture.specs.Filling.{pixelFrom}
 use Rattle.picture.specs.Keeping.{Kept, keptPixel, Listed}
 use Rattle.picture.specs.Passes.{lineBy}
@@ -46,18 +48,15 @@ pub kept-so : {plan : Plan} {table : List ℤ} {c : Colour} (p : Planned plan ta
     → Kept (lineBy (lined-so p one-d is)) count kept → Kept (lineCode (p .d) table (p .depths) c) count kept
 kept-so {table = table} p one-d is {count} {kept} s = subst (λ x. Kept (lineCode (p .d) table (p .depths) x) count kept) (ap (λ x. x .colour) is) s
 
-three-alike : {r g b : ℕ} {codes : Codes} → r ≡ codes .red → g ≡ codes .green → b ≡ codes .blue → pixelOf r g b ≡ codes
-three-alike {r} {g} {b} {codes} p q s = ap (λ x. pixelOf x g b) p ∙ ap (λ x. pixelOf (codes .red) x b) q ∙ ap (pixelOf (codes .red) (codes .green)) s
-
 module _ (d : Description) (table : List ℤ) (depths : Depths) (one-d : d .kind ≡ OneD) {count : ℕ} {reds greens blues : List ℕ} (r : Kept (lineCode d table depths Red) count reds)
     (g : Kept (lineCode d table depths Green) count greens) (b : Kept (lineCode d table depths Blue) count blues) (src : List ℕ)
     (below : (k : ℕ) → k < length src → getD src k 0 < count) where
   pixel-kept : (k : ℕ) → 3 * k + 2 < length src → keptPixel reds greens blues (pixelAt src k) ≡ correct d table depths (pixelAt src k)
   pixel-kept k h =
-      three-alike
-      (r .are _ (below (3 * k) (omega (arith, h))) ∙ looked Red)
+      same-codes _ _
+      (each-colour _ (r .are _ (below (3 * k) (omega (arith, h))) ∙ looked Red)
       (g .are _ (below (3 * k + 1) (omega (arith, h))) ∙ looked Green)
-      (b .are _ (below (3 * k + 2) h) ∙ looked Blue)
+      (b .are _ (below (3 * k + 2) h) ∙ looked Blue))
     where
       looked : (c : Colour) → lineCode d table depths c (codeIn (pixelAt src k) c) ≡ codeIn (correct d table depths (pixelAt src k)) c
       looked c = sym (line-looked d table one-d depths (pixelAt src k) c)

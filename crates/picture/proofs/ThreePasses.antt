@@ -2,18 +2,14 @@
 -- is one colour's, and the other two passes leave it as it is.
 use Prim.Native.Nat.{ℕ, zero, suc, _+_, _-_, _*_, _/_, _%_, _≤_, _<_}
 use mathlib.Core.Path.{_≡_, refl, sym, ap, subst, _∙_}
-use mathlib.Core.Bool.{true}
 use mathlib.Core.List.{List, _++_}
 use native.Mathlib.Decide.{decLt}
 use native.Mathlib.Omega.{arith}
-use borrow.Author.Tests.{leb-true}
-use lib.Dec.{leb}
 use lib.IntN.{ℤ}
 use lib.ListN.{length, getD, drop, length-append, length-drop, List·getD-append}
 use lib.Seq.{getD-append-add, getD-drop, ext-getD}
 use Rattle.rules.specs.Units.{rawM, correctedM, colourPlace, codeIn}
 use Rattle.rules.specs.Looking.{lineCode, correct}
-use Rattle.rules.specs.Reading.Lines.{every}
 use Rattle.rules.specs.Picturing.{eachPixel}
 use Rattle.rules.specs.Demands.{pixelAt}
 use Rattle.rules.specs.declared.Colour.{Colour}
@@ -23,15 +19,15 @@ use Rattle.rules.specs.declared.Description.{Description}
 use Rattle.rules.specs.declared.Kind.the-variants.{OneD}
 use Rattle.rules.proofs.Colours.{place-below, code-at-place}
 use Rattle.rules.proofs.Looking.Demand3.{line-looked}
-use Rattle.rules.proofs.Picturing.Checks.{every-at, each-length, each-at}
+use Rattle.rules.proofs.Picturing.Checks.{each-length, each-at}
 use Rattle.colour.specs.Plans.{Planned}
 use Rattle.colour.specs.Lines.{lineOf, Lined}
 use Rattle.colour.specs.declared.lines.Line.{Line}
 use Rattle.colour.specs.declared.plan.Plan.{Plan}
 use Rattle.strips.specs.Strips.{LineAt, StrippedFor}
 use Rattle.strips.specs.declared.Strip.{Strip}
-use Rattle.picture.specs.Filling.{Fillable}
-use Rattle.picture.specs.Passes.{lineBy, stripBy, Inside, Passable, Passed}
+use Rattle.picture.specs.Filling.{Fillable, Inside}
+use Rattle.picture.specs.Passes.{lineBy, stripBy, Passable, Passed}
 
 -- ---- a strip of the line
 
@@ -48,10 +44,6 @@ module _ {line : Line} {table : List ℤ} {raw most : ℕ} (l : LineAt line tabl
       subst (λ x. Passed (lineCode d table (l .lined .planned .depths) x) first src dst dst′) (q .colour-is) by-depths
 
 -- ---- a colour of a plan
-
--- no code is above the raw M
-pub inside-so : (m : ℕ) (src : List ℕ) → every (λ c. leb c m) src ≡ true → {raw : ℕ} → raw ≡ m → Inside raw src
-inside-so m src all e = record { inside = λ k h. subst (λ x. getD src k 0 ≤ x) (sym e) (leb-true (getD src k 0) m (every-at (λ c. leb c m) src all k h)) }
 
 pub passable : {src : List ℕ} {places : ℕ} (c : Colour) → length src ≤ places → {first : ℕ} → first ≡ colourPlace c → Passable first src places
 passable c room e = record { of-three = subst (λ x. x < 3) (sym e) (place-below c); room = room }

@@ -13,16 +13,16 @@ use Rattle.lanes.specs.Lanes.{keyBy, offsetBy}
 use Rattle.lanes.specs.Cubes.{Cubed}
 use Rattle.lanes.specs.Spots.{laneAt}
 use Rattle.lanes.specs.declared.cube.Cube.{Cube}
-use Rattle.picture.specs.Filling.{Fillable}
+use Rattle.picture.specs.Filling.{Fillable, Inside}
 use Rattle.picture.specs.declared.cubes.Spot.{Spot}
 
 -- look's codes of a pixel, by the description and the depths that a cube was made of
 abbrev pub correctBy : {cube : Cube} {table : List ℤ} → Cubed cube table → Codes → Codes
 correctBy {table = table} q = correct (q .planned .d) table (q .planned .depths)
 
--- no code is above the raw M
-pub record Within {cube : Cube} {table : List ℤ} (q : Cubed cube table) (src : List ℕ) : Type 0 where
-  pub inside : (k : ℕ) → k < length src → getD src k 0 ≤ rawM (q .planned .depths)
+-- no code is above the raw M of the depths that a cube was made of
+abbrev pub Within : {cube : Cube} {table : List ℤ} → Cubed cube table → List ℕ → Type 0
+Within q src = Inside (rawM (q .planned .depths)) src
 
 -- the output dst′ when the first i codes of the picture are corrected into dst
 pub record Filled (f : Codes → Codes) (src dst : List ℕ) (i : ℕ) (dst′ : List ℕ) : Type 0 where

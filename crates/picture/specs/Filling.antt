@@ -1,5 +1,5 @@
 -- An output that is filled pixel by pixel: a pixel read at a place, and what has been tried before.
-use Prim.Native.Nat.{ℕ, _+_, _%_, _≤_}
+use Prim.Native.Nat.{ℕ, _+_, _%_, _≤_, _<_}
 use mathlib.Core.Path.{_≡_}
 use mathlib.Core.List.{List}
 use lib.ListN.{length, getD}
@@ -14,3 +14,7 @@ pixelFrom codes at = pixelOf (getD codes at 0) (getD codes (at + 1) 0) (getD cod
 pub record Fillable (src : List ℕ) (places : ℕ) : Type 0 where
   pub whole : length src % 3 ≡ 0
   pub room : length src ≤ places
+
+-- and 23: no code is above m
+pub record Inside (m : ℕ) (src : List ℕ) : Type 0 where
+  pub inside : (k : ℕ) → k < length src → getD src k 0 ≤ m

@@ -10,6 +10,7 @@ use Rattle.colour.specs.Lines.{Lined}
 use Rattle.colour.specs.declared.lines.Line.{Line}
 use Rattle.strips.specs.Strips.{Stripped, LaidOut}
 use Rattle.strips.specs.declared.Strip.{Strip}
+use Rattle.picture.specs.Filling.{Inside}
 
 -- ---- what a pass makes of each code
 
@@ -22,10 +23,6 @@ abbrev pub stripBy : {strip : Strip} {table : List ℤ} → Stripped strip table
 stripBy {strip} {table} s = lineCode (s .lined .planned .d) table (s .lined .planned .depths) (strip .colour)
 
 -- ---- of what
-
--- no code is above m
-pub record Inside (m : ℕ) (src : List ℕ) : Type 0 where
-  pub inside : (k : ℕ) → k < length src → getD src k 0 ≤ m
 
 -- the colour's place in a pixel, and room for all codes
 pub record Passable (first : ℕ) (src : List ℕ) (places : ℕ) : Type 0 where

@@ -28,8 +28,8 @@ ghost use Rattle.rules.specs.declared.Kind.the-variants.{OneD};
 ghost use Rattle.colour.specs.Plans.{Planned};
 ghost use Rattle.colour.specs.Lines.{Lined};
 ghost use Rattle.strips.specs.Strips.{LineAt, Stripped, StrippedIf};
-ghost use Rattle.picture.specs.Filling.{Fillable};
-ghost use Rattle.picture.specs.Passes.{lineBy, stripBy, Inside, Passable, StripOver, Passed};
+ghost use Rattle.picture.specs.Filling.{Fillable, Inside};
+ghost use Rattle.picture.specs.Passes.{lineBy, stripBy, Passable, StripOver, Passed};
 
 // ---- a strip
 

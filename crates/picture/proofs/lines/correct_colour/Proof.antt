@@ -2,7 +2,8 @@
 use borrow.Author.Needs.{needs}
 use denote.Ref.{now}
 use Rattle.rules.specs.Units.{rawM}
-use Rattle.picture.proofs.ThreePasses.{inside-so, passable, line-at, line-passed}
+use Rattle.picture.proofs.Filled.{inside-so}
+use Rattle.picture.proofs.ThreePasses.{passable, line-at, line-passed}
 use Rattle.picture.proofs.lines.correct_colour.Statement.{statement}
 use Rattle.picture.proofs.lines.correct_colour.Tie as tie
 

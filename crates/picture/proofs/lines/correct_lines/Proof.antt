@@ -8,7 +8,7 @@ use lib.ListN.{length, drop}
 use Rattle.rules.specs.Units.{rawM}
 use Rattle.rules.specs.Looking.{correct}
 use Rattle.rules.specs.Picturing.{eachPixel}
-use Rattle.picture.proofs.ThreePasses.{inside-so}
+use Rattle.picture.proofs.Filled.{inside-so}
 use Rattle.picture.proofs.lines.correct_lines.Statement.{statement}
 use Rattle.picture.proofs.lines.correct_lines.Tie as tie
 
