@@ -1,0 +1,4 @@
+-- A line, sought by its number; the first wrong word; the parts that are pointed at lie within their line.
+mod Ahead
+mod Failing
+pub mod Inside

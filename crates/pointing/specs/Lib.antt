@@ -1,0 +1,2 @@
+-- What a refusal points at.
+pub mod Pointing
