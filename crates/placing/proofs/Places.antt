@@ -31,7 +31,10 @@ gcd-self m deep = gcd-step m m deep ∙ ap (gcd m) (NatL.mod-self m) ∙ gcd-end
 module _ (raw : Depth) (deep : 0 < raw .greatest) where
   same-ratio : ratioOf (sameDepth raw) ≡ record { top = 1; bottom = 1 }
   unfolding ratioOf
-  same-ratio = let one : raw .greatest / gcd (raw .greatest) (raw .greatest) ≡ 1 = rw (gcd-self (raw .greatest) deep) (NatL.div-self deep) in ap₂ (λ p q. record { top = p; bottom = q }) one one
+  same-ratio =
+      let m = raw .greatest in
+      let one : m / gcd m m ≡ 1 = rw (gcd-self m deep) (NatL.div-self deep) in
+      ap₂ (λ p q. record { top = p; bottom = q }) one one
 
   module _ (most : raw .greatest ≤ 65535) where
     pub same-in-terms : InTerms (ratioOf (sameDepth raw)) (sameDepth raw)
@@ -55,8 +58,9 @@ module _ (raw : Depth) (deep : 0 < raw .greatest) where
       place-on : (c : Colour) (code : ℕ) → placeOf (axisIn (planOf d (sameDepth raw)) c) (d .n - 1) code ≡ placeAt d (raw .greatest) c code
       place-on c code =
           let good = sound d r in
+          let q = ratioOf (sameDepth raw) .bottom in
           ap (λ x. placeOf x (d .n - 1) code) (axis-of d (sameDepth raw) c)
-          ∙ place-is (domain d c) (span d c) (in-parts d good c) (wide-enough (good .domains c)) (raw .greatest) (ratioOf (sameDepth raw) .bottom) (d .n) (stride (d .n) c) code
+          ∙ place-is (domain d c) (span d c) (in-parts d good c) (wide-enough (good .domains c)) (raw .greatest) q (d .n) (stride (d .n) c) code
           (span-some d good c) deep (good .least)
 
       module _ {plan : Plan} {line : Line} (c : Colour) (made : plan ≡ planOf d (sameDepth raw)) (drawn : line ≡ lineOf plan c) where

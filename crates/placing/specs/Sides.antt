@@ -15,6 +15,6 @@ module _ (m : ℕ) (dom : Domain) (c : ℕ) where
   abbrev pub unmoved : ℤ
   unmoved = pos (boundOne * c) -ℤ (pos m *ℤ dom .lower .0)
 
-  -- below 0 it is moved up to 0, above D it is moved down to D
+  -- below 0 it is moved up to 0, above D it is moved down to D, and else it is left as it is (`side-says`)
   unfoldable pub sideOf : Side
   sideOf = cond (ltZ unmoved (pos 0)) Below (cond (ltZ (pos (den m dom)) unmoved) Above Within)

@@ -19,9 +19,8 @@ pub fn grid_of(n: usize, row: usize) -> Grid
     ensures { λ r. ⌜ StandsAt n row r ⌝ }
 {
     let line = row / n;
-    Grid {
-        red: row % n,
-        green: line % n,
-        blue: line / n,
-    }
+    let red = row % n;
+    let green = line % n;
+    let blue = line / n;
+    Grid { red, green, blue }
 }

@@ -10,6 +10,7 @@ ghost use Rattle.rules.specs.Units.{boundLimit};
 ghost use Rattle.rules.specs.Looking.Interpolation.{den};
 ghost use Rattle.placing.specs.Sides.{unmoved, sideOf};
 
+// Below and above are beyond a bound; a code that lies on one was not moved.
 pub enum Side {
     Below,
     Within,

@@ -26,7 +26,8 @@ returns c =
     let drawn = c .before in
     let made = drawn .before in
     let s = made .before in
-    line-place (s .args .raw) (s .pre .1) (most s) (s .args .d) (s .pre .0) (s .args .c) (made .plan-of .ensures) (drawn .line-of .ensures) (s .args .code) (c .place-of .ensures)
+    line-place (s .args .raw) (s .pre .1) (most s) (s .args .d) (s .pre .0) (s .args .c) (made .plan-of .ensures) (drawn .line-of .ensures)
+    (s .args .code) (c .place-of .ensures)
 
 pub place-at-spec : {M : Type 1} → statement M
 place-at-spec = tie.close (tie.spec plan-of-requires line-of-requires place-of-requires returns)

@@ -20,7 +20,10 @@ in-3 : (c : tie.After-with-share3) → let a = c .before .before .before .args i
 in-3 c = one-more (in-2 (c .before)) (c .with-share3 .ensures)
 
 with-share-requires : tie.Need-with-share-requires
-with-share-requires c κs = let fit = c .pre in (room (nothing {table = now (c .args .table)} {c = c .args .c}) (omega (arith, fit .weights)), fit .rows .1 .1 .1 .0)
+with-share-requires c κs =
+    let fit = c .pre in
+    let none = nothing {table = now (c .args .table)} {c = c .args .c} in
+    (room none (omega (arith, fit .weights)), fit .rows .1 .1 .1 .0)
 
 with-share-requires-2 : tie.Need-with-share-requires-2
 with-share-requires-2 c κs = let fit = c .before .pre in (room (in-1 c) (omega (arith, fit .weights)), fit .rows .1 .1 .0)
