@@ -1,4 +1,5 @@
 -- A line, sought by its number; the first wrong word; the parts that are pointed at lie within their line.
 mod Ahead
+mod Counting
 mod Failing
 pub mod Inside

@@ -1,12 +1,16 @@
 // What a refusal points at in its file: the bytes that somebody has to change, or the place where some are missing.
 mod aims;
 mod lines;
+mod rows;
 mod spots;
 mod words;
 
 use aims::spot_in;
 pub use lines::is_data;
 use lines::line_past;
+pub use rows::SizeFound;
+pub use rows::rows_in;
+pub use rows::size_in;
 pub use spots::Spot;
 ghost use mathlib.Core.Path.{_≡_};
 ghost use Prim.Native.Nat.{_+_, _≤_};
