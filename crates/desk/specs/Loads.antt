@@ -11,6 +11,8 @@ use Rattle.desk.specs.declared.loading.Fetched.{Fetched}
 use Rattle.desk.specs.declared.loading.Fetched.the-variants.{Bytes, TooLong, Failed}
 use Rattle.desk.specs.declared.loading.Filled.{Filled}
 use Rattle.desk.specs.declared.loading.Filled.the-variants as F
+use Rattle.desk.specs.declared.names.Name.{Name}
+use Rattle.desk.specs.declared.names.Name.the-variants as N
 use Rattle.desk.specs.declared.loading.Loaded.{Loaded}
 use Rattle.desk.specs.declared.loading.Loaded.the-variants.{Table, Refused, Unread}
 
@@ -18,6 +20,11 @@ use Rattle.desk.specs.declared.loading.Loaded.the-variants.{Table, Refus
 abbrev pub Fills : List ℕ → Filled → Type 0
 Fills space (F.Bytes n) = n ≤ length space
 Fills space F.Failed = Unit {0}
+
+-- so is a name's of the space that it stands in
+abbrev pub NameWithin : List ℕ → Name → Type 0
+NameWithin space (N.Bytes n) = n ≤ length space
+NameWithin space N.Unusable = Unit {0}
 
 abbrev pub Fetches : List ℕ → Fetched → Type 0
 Fetches file (Bytes n) = n ≤ length file

@@ -1,8 +1,10 @@
 // A table loaded from a file by its name: opened, read whole, judged. Each failure prints one line on standard error.
 use crate::failures::say_failure;
+use crate::names::Name;
+use crate::names::name_at;
 use crate::printing::write;
 use crate::printing::write_count;
-use crate::refusals::write_meaning;
+use crate::refusals::write_refused;
 use libc::STDERR_FILENO;
 use reading::read;
 use rules::Description;
@@ -27,8 +29,8 @@ pub enum Filled {
     Failed,
 }
 
-// What came of reading a descriptor to its end.
-enum Fetched {
+// What came of reading a file, or a descriptor, to its end.
+pub enum Fetched {
     Bytes(usize),
     TooLong,
     Failed,
@@ -96,17 +98,27 @@ fn fetch_or_say(program: &[u8], path: &[u8], fd: i32, file: &mut [u8]) -> Fetche
     fetched
 }
 
-// As `explain: a.cube: refused 5 on line 3: keyword repeated`.
-fn say_refused(program: &[u8], path: &[u8], reason: Refusal, line: usize) {
+// The bytes of the file with this name, and where there are none to judge it is said. The descriptor is closed on every way out.
+pub fn fetch_file(program: &[u8], path: &[u8], file: &mut [u8]) -> Fetched
+    ensures { λ r. ⌜ Fetches (now (file .exit)) r ⌝ }
+{
+    let fd = os::open_read(path);
+    if fd < 0 {
+        say_failure(program, b": cannot open ", path);
+        return Fetched::Failed;
+    }
+    let fetched = fetch_or_say(program, path, fd, file);
+    libc::close(fd);
+    fetched
+}
+
+// As `explain: a.cube: refused 5 on line 3: keyword repeated: "TITLE" is there a second time`.
+fn say_refused(program: &[u8], path: &[u8], file: &[u8], reason: Refusal, line: usize) {
     write(STDERR_FILENO, program);
     write(STDERR_FILENO, b": ");
     write(STDERR_FILENO, path);
-    write(STDERR_FILENO, b": refused ");
-    write_count(STDERR_FILENO, reason.number() as u64);
-    write(STDERR_FILENO, b" on line ");
-    write_count(STDERR_FILENO, line as u64);
     write(STDERR_FILENO, b": ");
-    write_meaning(STDERR_FILENO, reason);
+    write_refused(STDERR_FILENO, file, reason, line);
     write(STDERR_FILENO, b"\n");
 }
 
@@ -120,7 +132,7 @@ fn load_bytes(program: &[u8], path: &[u8], file: &[u8], table: &mut [i64]) -> Lo
             bytes: file.len(),
         },
         Read::Refused { reason, line } => {
-            say_refused(program, path, reason, line);
+            say_refused(program, path, file, reason, line);
             Loaded::Refused
         }
     }
@@ -144,17 +156,10 @@ fn load_fetched(
     }
 }
 
-// The descriptor is closed on every way out.
 fn load(program: &[u8], path: &[u8], file: &mut [u8], table: &mut [i64]) -> Loaded
     ensures { λ r. ⌜ Loads (now (file .exit)) (now (table .entry)) r (now (table .exit)) ⌝ }
 {
-    let fd = os::open_read(path);
-    if fd < 0 {
-        say_failure(program, b": cannot open ", path);
-        return Loaded::Unread;
-    }
-    let fetched = fetch_or_say(program, path, fd, &mut *file);
-    libc::close(fd);
+    let fetched = fetch_file(program, path, &mut *file);
     load_fetched(program, path, fetched, file, table)
 }
 
@@ -163,10 +168,8 @@ pub fn load_argument(program: &[u8], place: usize, file: &mut [u8], table: &mut 
     ensures { λ r. ⌜ Loads (now (file .exit)) (now (table .entry)) r (now (table .exit)) ⌝ }
 {
     let mut path = io::buffer();
-    let n = os::arg(place, &mut path);
-    if os::errno() != 0 {
-        say_failure(program, b": ", b"the table's name");
+    let Name::Bytes(n) = name_at(program, b"the table", place, &mut path) else {
         return Loaded::Unread;
-    }
+    };
     load(program, &path[..n], file, table)
 }

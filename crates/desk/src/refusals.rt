@@ -1,4 +1,5 @@
 // A refusal in words: its number, and what the papers say that the number means.
+use crate::cures::write_cure;
 use crate::printing::write;
 use crate::printing::write_count;
 use libc::STDERR_FILENO;
@@ -35,6 +36,17 @@ pub fn write_meaning(fd: i32, reason: Refusal) -> bool {
         Refusal::NoneWithinTolerance => write_none_within_tolerance(fd),
         Refusal::InputTooLong => write(fd, b"report input over 65,536 bytes"),
     }
+}
+
+// As `refused 16 on line 9: sample beyond -1000 to 1000: "1001" ...`, with what to do about it.
+pub fn write_refused(fd: i32, file: &[u8], reason: Refusal, line: usize) -> bool {
+    write(fd, b"refused ")
+        && write_count(fd, reason.number() as u64)
+        && write(fd, b" on line ")
+        && write_count(fd, line as u64)
+        && write(fd, b": ")
+        && write_meaning(fd, reason)
+        && write_cure(fd, file, reason, line)
 }
 
 // One line on standard error, as `erythmoda explain: refused 20: depth unknown`.

@@ -18,7 +18,7 @@ ghost use lib.ListN.{length};
 ghost use Rattle.pointing.specs.Pointing.{lineSpot, pointed};
 
 // A line of the file, counted from 1.
-fn line_spot(file: &[u8], line: usize) -> Spot
+pub fn line_spot(file: &[u8], line: usize) -> Spot
     ensures is { λ r. ⌜ r ≡ lineSpot (now (file .entry)) line ⌝ }
     ensures within { λ r. ⌜ r .place + r .length ≤ length (now (file .entry)) ⌝ }
 {
@@ -30,7 +30,8 @@ fn line_spot(file: &[u8], line: usize) -> Spot
 
 // What the refusal with a number and a line points at.
 pub fn point_at(file: &[u8], number: u32, line: usize) -> Spot
-    ensures { λ r. ⌜ r ≡ pointed (now (file .entry)) number line ⌝ }
+    ensures is { λ r. ⌜ r ≡ pointed (now (file .entry)) number line ⌝ }
+    ensures within { λ r. ⌜ r .place + r .length ≤ length (now (file .entry)) ⌝ }
 {
     let on = line_spot(file, line);
     let start = on.place;

@@ -29,14 +29,20 @@ part-spot-in-end c = search needs
 spot-in-requires : tie.Need-spot-in-requires
 spot-in-requires c κs = search needs
 
-add-t9 : tie.Need-add-t9
-add-t9 c =
-    let s = c .before .before .before .before .before .before in
-    let on = c .before .before .before .before .line-spot in
+-- the spot ends within the line, and so within the file
+ended : (c : tie.After-spot-in)
+    → let on = c .before .before .before .line-spot .result in on .place + (c .spot-in .result .place + c .spot-in .result .length) ≤ length (now (c .before .before .before .before .before .args .file))
+ended c =
+    let s = c .before .before .before .before .before in
+    let on = c .before .before .before .line-spot in
     let file = now (s .args .file) in
-    let l = take (on .result .place + on .result .length - on .result .place) (drop (on .result .place) file) in
-    let spot : c .before .spot-in .result .place ≤ length l = rw (c .before .spot-in .ensures) (omega (arith, spot-inside (s .args .number) l .inside)) in
-    record { fits = omega (arith, spot, length-take (on .result .place + on .result .length - on .result .place) (drop (on .result .place) file), on .ensures .1, s .good) }
+    let many = on .result .place + on .result .length - on .result .place in
+    let l = take many (drop (on .result .place) file) in
+    let spot : c .spot-in .result .place + c .spot-in .result .length ≤ length l = rw (c .spot-in .ensures) (spot-inside (s .args .number) l .inside) in
+    omega (arith, spot, length-take many (drop (on .result .place) file), on .ensures .1)
+
+add-t9 : tie.Need-add-t9
+add-t9 c = record { fits = omega (arith, ended (c .before), c .before .before .before .before .before .before .good) }
 
 returns : tie.Need-returns
 unfolding pointed
@@ -47,8 +53,11 @@ returns c =
     let long : on .result .place + on .result .length - on .result .place ≡ on .result .length = omega arith in
     let spot : c .before .spot-in .result ≡ spotIn (s .args .number) (part file (on .result)) =
     c .before .spot-in .ensures ∙ ap (λ (n : ℕ). spotIn (s .args .number) (take n (drop (on .result .place) file))) long in
+    let at : Spot = record { place = on .result .place + c .before .spot-in .result .place; length = c .before .spot-in .result .length } in
+    let is : at ≡ pointed file (s .args .number) (s .args .line) =
     ap (λ (x : Spot). record { place = on .result .place + x .place; length = x .length }) spot
-    ∙ ap (λ (y : Spot). record { place = y .place + spotIn (s .args .number) (part file y) .place; length = spotIn (s .args .number) (part file y) .length }) (on .ensures .0)
+    ∙ ap (λ (y : Spot). record { place = y .place + spotIn (s .args .number) (part file y) .place; length = spotIn (s .args .number) (part file y) .length }) (on .ensures .0) in
+    (is, omega (arith, ended (c .before)))
 
 pub point-at-spec : {M : Type 1} → statement M
 point-at-spec =

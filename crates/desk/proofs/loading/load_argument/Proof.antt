@@ -1,5 +1,10 @@
 -- A name that is too long has fetched nothing.
-use mathlib.Core.Path.{refl}
+use Prim.Native.Nat.{_≤_}
+use mathlib.Core.Path.{refl, sym, subst}
+use lib.ListN.{length}
+use lib.Seq.{length-take-le}
+use Rattle.desk.specs.Loads.{NameWithin}
+use Rattle.desk.specs.declared.names.Name.{Name}
 use Rattle.desk.specs.declared.loading.Fetched.the-variants.{Failed}
 use borrow.Author.Needs.{needs}
 use Rattle.desk.proofs.loading.load_argument.Statement.{statement}
@@ -8,32 +13,35 @@ use Rattle.desk.proofs.loading.load_argument.Tie as tie
 buffer-requires : tie.Need-buffer-requires
 buffer-requires c κs = search needs
 
-slice-aggregate-arg : tie.Need-slice-aggregate-arg
-slice-aggregate-arg c = search needs
+slice-aggregate-name-at : tie.Need-slice-aggregate-name-at
+slice-aggregate-name-at c = search needs
 
-arg-requires : tie.Need-arg-requires
-arg-requires c κs = search needs
+slice-aggregate-name-at-2 : tie.Need-slice-aggregate-name-at-2
+slice-aggregate-name-at-2 c = search needs
 
-errno-requires : tie.Need-errno-requires
-errno-requires c κs = search needs
+name-at-requires : tie.Need-name-at-requires
+name-at-requires c κs = search needs
 
-slice-aggregate-say-failure : tie.Need-slice-aggregate-say-failure
-slice-aggregate-say-failure c = search needs
+enum-known-n : tie.Need-enum-known-n
+enum-known-n c = search needs
 
-slice-aggregate-say-failure-2 : tie.Need-slice-aggregate-say-failure-2
-slice-aggregate-say-failure-2 c = search needs
-
-say-failure-requires : tie.Need-say-failure-requires
-say-failure-requires c κs = search needs
+enum-told : tie.Need-enum-told
+enum-told c = search needs
 
 returns : tie.Need-returns
 returns c = record { fetched = Failed; fetches = tt; loads = (refl, refl) }
 
+-- the name stands within its space
+named : (c : tie.After-known-told) → c .before .n .given .0 .0 ≤ length (c .before .before .before .before .name-at .last .1 .1 .1 .0)
+named c =
+    let a = c .before .before .before .before in
+    subst (λ (x : Name). NameWithin (a .name-at .last .1 .1 .1 .0) x) (c .before .n .given .1) (a .name-at .ensures)
+
 array-share-prefix-path : tie.Need-array-share-prefix-path
-array-share-prefix-path c = search needs
+array-share-prefix-path c = named c
 
 slice-aggregate-load : tie.Need-slice-aggregate-load
-slice-aggregate-load c = search needs
+slice-aggregate-load c = sym (length-take-le _ _ (named (c .before)))
 
 load-requires : tie.Need-load-requires
 load-requires c κs = search needs
@@ -52,12 +60,11 @@ load-argument-spec =
     tie.close
     (tie.spec
     buffer-requires
-    slice-aggregate-arg
-    arg-requires
-    errno-requires
-    slice-aggregate-say-failure
-    slice-aggregate-say-failure-2
-    say-failure-requires
+    slice-aggregate-name-at
+    slice-aggregate-name-at-2
+    name-at-requires
+    enum-known-n
+    enum-told
     returns
     array-share-prefix-path
     slice-aggregate-load
