@@ -1,6 +1,6 @@
 -- How far a code is from the exact value: by how far it is ahead of the whole, and the rest, which counts up below the exact value and down above it.
 use Prim.Native.Nat.{ℕ, zero, suc, _+_, _-_, _*_, _<_}
-use mathlib.Core.Path.{_≡_, ap}
+use mathlib.Core.Path.{_≡_, sym, ap, _∙_}
 use native.Mathlib.Omega.{arith}
 use lib.IntN.{ℤ, pos, negsuc, negℤ, natAbs, _+ℤ_, _-ℤ_, _*ℤ_}
 use Rattle.whole.specs.Integers.{up, dn}
@@ -9,7 +9,7 @@ use Rattle.exact.specs.Values.{units, Apart}
 use Rattle.exact.specs.declared.codes.InCodes.{InCodes}
 use Rattle.exact.specs.declared.distance.Distance.{Distance}
 use Rattle.exact.proofs.Fractions.{turned}
-use Rattle.exact.proofs.CodeValues.{parts}
+use Rattle.exact.proofs.CodeValues.{units-halves, quotient-one}
 
 -- what lies between, by how far the code is ahead of the whole
 abbrev Between : ℤ → ℤ → ℕ → ℕ → Type 0
@@ -25,7 +25,7 @@ module _ (code : ℕ) (v : InCodes) (below : v .rest < v .unit) (ahead : ℤ) (i
       let back = turned w in
       let step : up ahead + up w ≡ dn ahead + (dn w + code) = omega (arith, ap up is, ap dn is, H.sum (w *ℤ negsuc 0) (pos code), back .ups, back .dns) in
       let minus = H.neg (units v) in
-      omega (arith, H.sum (pos (code * v .unit)) (negℤ (units v)), minus .ups, minus .dns, parts v, ap (λ n. n * v .unit) step)
+      omega (arith, H.sum (pos (code * v .unit)) (negℤ (units v)), minus .ups, minus .dns, units-halves v, ap (λ n. n * v .unit) step)
 
   abbrev distance : ℕ → ℕ → Distance
   distance whole rest = record { whole = whole; rest = rest }
@@ -53,3 +53,13 @@ module _ (code : ℕ) (v : InCodes) (below : v .rest < v .unit) (ahead : ℤ) (i
           let one-less : suc k - 1 ≡ k = omega arith in
           rw one-less (omega (arith, h, below, H.split far))
       by (negsuc k) some h = absurd (omega arith)
+
+-- ---- the distance is one only
+
+pub distance-one : {code : ℕ} {v : InCodes} {r t : Distance} → Apart code v r → Apart code v t → r ≡ t
+distance-one {code} {v} {r} {t} p q =
+    let (wholes, rests) = quotient-one (r .whole) (t .whole) (v .unit) (r .rest) (t .rest) (p .below) (q .below) (p .same ∙ sym (q .same)) in
+    same-distance wholes rests
+  where
+    same-distance : r .whole ≡ t .whole → r .rest ≡ t .rest → r ≡ t
+    same-distance w l i = record { whole = w i; rest = l i }

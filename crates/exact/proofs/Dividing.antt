@@ -1,6 +1,6 @@
 -- Long division, digit by digit: after each, the digits are those of the quotient, and what is left is its rest.
 use Prim.Native.Nat.{ℕ, _+_, _*_, _/_, _%_, _^_, _≤_, _<_}
-use mathlib.Core.Path.{_≡_, sym, ap, ap₂, subst, _∙_}
+use mathlib.Core.Path.{_≡_, refl, sym, ap, ap₂, subst, _∙_}
 use mathlib.Core.Bool.{true, false, false≢true}
 use mathlib.Core.Logic.{_⊎_, inl, inr}
 use native.Mathlib.Nat as NatL
@@ -119,3 +119,18 @@ module _ {rest unit most : ℕ} where
     where
       same-places : r .digits ≡ t .digits → r .count ≡ t .count → r .more ≡ t .more → r ≡ t
       same-places d c m i = record { digits = d i; count = c i; more = m i }
+
+-- ---- worked examples: 1 / 8 is 0.125, and 1 / 3 with two digits 0.33 and more
+
+eighth : LongDivision 1 8 15 (record { digits = 125; count = 3; more = false })
+eighth =
+    let less : 1 < 8 = omega arith in
+    let one : Dividing 1 8 15 2 1 1 = next less (begun less) (omega arith) (omega arith) in
+    let two : Dividing 1 8 15 4 12 2 = next less one (omega arith) (omega arith) in
+    evenly less (next less two (omega arith) (omega arith)) refl
+
+third : LongDivision 1 3 2 (record { digits = 33; count = 2; more = true })
+third =
+    let less : 1 < 3 = omega arith in
+    let one : Dividing 1 3 2 1 3 1 = next less (begun less) (omega arith) (omega arith) in
+    cut less (next less one (omega arith) (omega arith)) (omega arith) refl

@@ -23,7 +23,7 @@ by-pos z w = record { ups = omega (arith, H.product z (pos w)); dns = omega (ari
 pub turned : (z : ℤ) → H.Halves (z *ℤ negsuc 0) (dn z) (up z)
 turned z = record { ups = omega (arith, H.product z (negsuc 0)); dns = omega (arith, H.product z (negsuc 0)) }
 
-pub same-halves : {a b : ℤ} {u d v w : ℕ} → H.Halves a u d → H.Halves b v w → u ≡ v → d ≡ w → a ≡ b
+same-halves : {a b : ℤ} {u d v w : ℕ} → H.Halves a u d → H.Halves b v w → u ≡ v → d ≡ w → a ≡ b
 same-halves {a} {b} p q above below = H.eq-by a b (omega (arith, p .ups, p .dns, q .ups, q .dns))
 
 quot-halves : (z : ℤ) (g : ℕ) → H.Halves (quotZ z (pos g)) (up z / g) (dn z / g)
@@ -41,12 +41,12 @@ crossed x y h b c e some p q =
 
 -- two integers over b and c that are both s / e
 module _ (x y s : ℤ) (b c e : ℕ) (some : 0 < e) (p : x *ℤ pos e ≡ s *ℤ pos b) (q : y *ℤ pos e ≡ s *ℤ pos c) where
-  pub crossed-up : up x * c ≡ up y * b
+  crossed-up : up x * c ≡ up y * b
   crossed-up =
       crossed (up x) (up y) (up s) b c e some
       (sym (by-pos x e .ups) ∙ ap up p ∙ by-pos s b .ups) (sym (by-pos y e .ups) ∙ ap up q ∙ by-pos s c .ups)
 
-  pub crossed-dn : dn x * c ≡ dn y * b
+  crossed-dn : dn x * c ≡ dn y * b
   crossed-dn =
       crossed (dn x) (dn y) (dn s) b c e some
       (sym (by-pos x e .dns) ∙ ap dn p ∙ by-pos s b .dns) (sym (by-pos y e .dns) ∙ ap dn q ∙ by-pos s c .dns)
@@ -60,7 +60,7 @@ exchanged x y g p q = omega (arith, ap (λ n. n * (y / g)) p, ap (λ n. n * (x /
 -- both parts divided by their common divisor
 pub divided : (s : ℤ) (e g : ℕ) (top : Whole) → 0 < e → g ≡ gcd (natAbs s) e → top .0 ≡ quotZ s (pos g) → LowestTerms s e (record { top = top; bottom = e / g })
 divided s e g top some is t =
-    subst (λ g. top .0 ≡ quotZ s (pos g) → LowestTerms s e (record { top = top; bottom = e / g })) (sym is) (λ t. at-gcd t) t
+    subst (λ g. top .0 ≡ quotZ s (pos g) → LowestTerms s e (record { top = top; bottom = e / g })) (sym is) at-gcd t
   where
     at-gcd : top .0 ≡ quotZ s (pos (gcd (natAbs s) e)) → LowestTerms s e (record { top = top; bottom = e / gcd (natAbs s) e })
     at-gcd t =
@@ -84,8 +84,7 @@ lowest-one {s} {e} {r} {t} some p q =
     let y = t .top .0 in
     let above = crossed-up x y s (r .bottom) (t .bottom) e some (p .same) (q .same) in
     let below = crossed-dn x y s (r .bottom) (t .bottom) e some (p .same) (q .same) in
-    let sizes : natAbs x * t .bottom ≡ natAbs y * r .bottom =
-    omega (arith, above, below, ap (λ n. n * t .bottom) (H.split x .size), ap (λ n. n * r .bottom) (H.split y .size)) in
+    let sizes : natAbs x * t .bottom ≡ natAbs y * r .bottom = omega (arith, above, below, ap (λ n. n * t .bottom) (H.split x .size), ap (λ n. n * r .bottom) (H.split y .size)) in
     let bottoms = same-bottom (natAbs x) (natAbs y) (r .bottom) (t .bottom) (p .lowest) (q .lowest) sizes in
     let ups : up x ≡ up y = NatL.eq-of-mul-eq-mul-right (r .bottom) (p .some) _ _ (ap (λ b. up x * b) bottoms ∙ above) in
     let dns : dn x ≡ dn y = NatL.eq-of-mul-eq-mul-right (r .bottom) (p .some) _ _ (ap (λ b. dn x * b) bottoms ∙ below) in

@@ -7,10 +7,10 @@ use native.Mathlib.Decide.{decLt}
 use native.Mathlib.Omega.{arith}
 use borrow.Author.Tests.{eqb-true, eqb-false, ltb-true, ltb-false, eq-eqb, ne-eqb, le-ltb}
 use lib.Dec.{eqb, ltb}
-use lib.IntN.{ℤ, pos, negsuc, _+ℤ_, _*ℤ_}
+use lib.IntN.{ℤ, pos, negsuc, negℤ, natAbs, _+ℤ_, _-ℤ_, _*ℤ_}
 use lib.Signed.{ltZ, ltZ-yes, ltZ-no}
 use Rattle.whole.specs.Integers.{up, dn}
-use Rattle.whole.specs.Nearest.{code}
+use Rattle.whole.specs.Nearest.{dist, code}
 use Rattle.whole.proofs.Halves as H
 use Rattle.whole.proofs.Held.{passed, failed}
 use Rattle.whole.proofs.NearestLaws.{code-top, code-low, code-high}
@@ -52,7 +52,7 @@ module _ (z : ℤ) (w r u e m t : ℕ) (some : 0 < e) (rest : r < u) (is : up z 
   most : m * t * u ≤ m * e * u
   most = NatL.mul-le-mul-right u (NatL.mul-le-mul-left m inside)
 
-  pub down : 2 * r < u → code z e m ≡ w
+  down : 2 * r < u → code z e m ≡ w
   down h =
       let less : 2 * r * e < u * e = NatL.mul-lt-mul-of-pos-right h some in
       let top : w * (u * e) ≤ m * (u * e) = omega (arith, same, most) in
@@ -63,7 +63,7 @@ module _ (z : ℤ) (w r u e m t : ℕ) (some : 0 < e) (rest : r < u) (is : up z 
       (subst (λ n. 2 * (w * e) ≤ 2 * n + e) (sym is) (NatL.le-of-mul-le-mul-right low (omega (arith, rest))))
       (λ _. subst (λ n. 2 * n + e < 2 * (w * e) + 2 * e) (sym is) (NatL.lt-of-mul-lt-mul-right u high))
 
-  pub upward : u ≤ 2 * r → code z e m ≡ w + 1
+  upward : u ≤ 2 * r → code z e m ≡ w + 1
   upward h =
       let more : u * e ≤ 2 * r * e = NatL.mul-le-mul-right e h in
       let less : r * e < u * e = NatL.mul-lt-mul-of-pos-right rest some in
@@ -128,6 +128,32 @@ module _ {s : ℤ} {e m : ℕ} {v : InCodes} (some : 0 < e) (p : CodeValue s e m
           → pos given ≡ settledCode m v (cond t ClippedAtZero (cond (ltZ (pos e) s) ClippedAtMost (cond (eqb (v .rest) 0) Exactly (cond (eqb (2 * v .rest) (v .unit)) TieUpward Nearest))))
       by-below true q = ap pos (below-0 s e m some (omega (arith, H.lt {a = s} {b = pos 0} (ltZ-yes (passed (ltZ s (pos 0)) q)), H.split s)))
       by-below false q = by-above (omega (arith, H.le {a = pos 0} {b = s} (ltZ-no (failed (ltZ s (pos 0)) q)), H.split s)) _ refl
+
+-- ---- a tie is one: the two codes are equally near
+
+module _ {s : ℤ} {e m : ℕ} {v : InCodes} (p : CodeValue s e m v) (half : 2 * v .rest ≡ v .unit) (w : ℕ) (is : v .whole .0 ≡ pos w) where
+  abbrev off : ℕ → ℤ
+  off n = (pos m *ℤ s) -ℤ pos (n * e)
+
+  off-halves : (n : ℕ) → up (off n) + (m * dn s + n * e) ≡ dn (off n) + m * up s
+  off-halves n = omega (arith, H.sum (pos m *ℤ s) (negℤ (pos (n * e))), H.neg (pos (n * e)), H.times m s)
+
+  same-sum : (w * v .unit + v .rest) * e + m * dn s * v .unit ≡ m * up s * v .unit
+  same-sum = omega (arith, equal s e m v (p .same), ap (λ z. up z * v .unit * e) is, ap (λ z. dn z * v .unit * e) is)
+
+  below-value : (d : ℤ) → up d * v .unit ≡ dn d * v .unit + v .rest * e → natAbs d * v .unit ≡ v .rest * e
+  below-value (pos k) h = omega arith
+  below-value (negsuc k) h = omega arith
+
+  above-value : (d : ℤ) → dn d * v .unit ≡ up d * v .unit + v .rest * e → natAbs d * v .unit ≡ v .rest * e
+  above-value (pos k) h = omega arith
+  above-value (negsuc k) h = omega arith
+
+  pub equally-near : dist (pos m *ℤ s) (w * e) ≡ dist (pos m *ℤ s) ((w + 1) * e)
+  equally-near =
+      let lower = below-value (off w) (omega (arith, same-sum, ap (λ n. n * v .unit) (off-halves w))) in
+      let upper = above-value (off (w + 1)) (omega (arith, same-sum, ap (λ n. n * e) half, ap (λ n. n * v .unit) (off-halves (w + 1)))) in
+      NatL.eq-of-mul-eq-mul-right (v .unit) (omega (arith, p .below)) _ _ (lower ∙ sym upper)
 
 -- ---- the definition, test by test
 

@@ -23,11 +23,6 @@ pub record LowestTerms (s : ℤ) (e : ℕ) (r : Ratio) : Type 0 where
 
 -- ---- as a code
 
--- s = quotient·e + rest, rounded down, also where s is below 0
-pub record RoundedDown (s : ℤ) (e : ℕ) (r : Floor) : Type 0 where
-  pub below : r .rest < e
-  pub same : s ≡ r .quotient .0 *ℤ pos e +ℤ pos (r .rest)
-
 -- whole·unit + rest: how many units it is
 abbrev pub units : InCodes → ℤ
 units v = v .whole .0 *ℤ pos (v .unit) +ℤ pos (v .rest)
@@ -60,3 +55,10 @@ settledCode m v ClippedAtMost = pos m
 pub record Apart (code : ℕ) (v : InCodes) (r : Distance) : Type 0 where
   pub below : r .rest < v .unit
   pub same : r .whole * v .unit + r .rest ≡ natAbs (pos (code * v .unit) -ℤ units v)
+
+-- ---- for the code alone: division rounded down
+
+-- s = quotient·e + rest, rounded down, also where s is below 0
+pub record RoundedDown (s : ℤ) (e : ℕ) (r : Floor) : Type 0 where
+  pub below : r .rest < e
+  pub same : s ≡ r .quotient .0 *ℤ pos e +ℤ pos (r .rest)

@@ -8,7 +8,7 @@ use lib.IntN.{natAbs, _+ℤ_, _*ℤ_}
 use Rattle.whole.proofs.Halves as H
 use Rattle.exact.proofs.CommonDivisors.{reduced}
 use Rattle.exact.proofs.Flooring.{quotient-most}
-use Rattle.exact.proofs.CodeValues.{value}
+use Rattle.exact.proofs.CodeValues.{value-computed}
 use Rattle.exact.proofs.codes.in_codes.Statement.{statement}
 use Rattle.exact.proofs.codes.in_codes.Tie as tie
 
@@ -101,7 +101,7 @@ returns c =
     let k = parted made in
     let s = k .before in
     let whole = c .plus .ensures ∙ ap₂ _+ℤ_ (multiplied .times .ensures ∙ ap (λ z. z *ℤ k .rounded-down .result .quotient .0) (multiplied .before .of2 .ensures)) (made .of .ensures) in
-    value (s .args .s .0) (s .args .e) (s .args .p) (s .args .unit) (s .args .m) (s .pre .1 .1 .1 .1 .0) (k .rounded-down .result) (k .rounded-down .ensures)
+    value-computed (s .args .s .0) (s .args .e) (s .args .p) (s .args .unit) (s .args .m) (s .pre .1 .1 .1 .1 .0) (k .rounded-down .result) (k .rounded-down .ensures)
     (there s .1) (c .plus .result) whole (found .common-divisor .result) (found .common-divisor .ensures)
 
 pub in-codes-spec : {M : Type 1} → statement M
