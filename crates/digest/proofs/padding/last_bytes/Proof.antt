@@ -1,0 +1,62 @@
+-- The invariant: the bytes so far are those of the end of the padded message. The measure is how many are left.
+use borrow.Author.Needs.{needs}
+use native.Mathlib.Omega.{arith}
+use Prim.Native.Nat.{_-_}
+use mathlib.Core.List.{_++_}
+use lib.ListN.{length}
+use Rattle.digest.specs.Sha256.{ending}
+use mathlib.Core.Path.{refl}
+use denote.Ref.{now}
+use Rattle.digest.proofs.Paddings.{ending-length}
+use Rattle.digest.proofs.Hashes.{Filling, filling-turn}
+use Rattle.digest.proofs.padding.last_bytes.Statement.{statement}
+use Rattle.digest.proofs.padding.last_bytes.Tie as tie
+
+abbrev Inv-loop : tie.InvT-loop
+Inv-loop rest bits end last₀ i₀ last i = Filling 128 (rest ++ ending (length rest) bits) last i
+
+abbrev μ-loop : tie.MeasureT-loop
+μ-loop rest bits end last₀ i₀ last i = 128 - i
+
+count-last-blocks-requires : tie.Need-count-last-blocks-requires Inv-loop μ-loop
+count-last-blocks-requires c κs = search needs
+
+mul-end : tie.Need-mul-end Inv-loop μ-loop
+mul-end c = let s = c .before .before in record { fits = omega (arith, s .pre, c .count-last-blocks .ensures, ending-length (length (now (s .args .rest))) (s .args .bits)) }
+
+loop-holds : tie.Need-loop-holds Inv-loop μ-loop
+loop-holds c = record { some = omega arith; size = refl; alike = record { at = λ i h. absurd (omega arith) } }
+
+last-byte-requires : tie.Need-last-byte-requires Inv-loop μ-loop
+last-byte-requires c κs = let b = c .before .before in (b .before .before .pre, omega (arith, b .count-last-blocks .ensures))
+
+array-write-last : tie.Need-array-write-last Inv-loop μ-loop
+array-write-last c = search needs
+
+add-i : tie.Need-add-i Inv-loop μ-loop
+add-i c = search needs
+
+loop-less : tie.Need-loop-less Inv-loop μ-loop
+loop-less c = search needs
+
+loop-again : tie.Need-loop-again Inv-loop μ-loop
+loop-again c = filling-turn (c .before .loop-test .taken) (c .before .before .loop .inv) (c .last-byte .ensures)
+
+returns : tie.Need-returns Inv-loop μ-loop
+returns c = let f = c .before .loop .inv in record { at = λ i h. f .alike .at i (omega (arith, c .loop-test .left)) }
+
+pub last-bytes-spec : {M : Type 1} → statement M
+last-bytes-spec =
+    tie.close
+    (tie.spec
+    Inv-loop
+    μ-loop
+    count-last-blocks-requires
+    mul-end
+    loop-holds
+    last-byte-requires
+    array-write-last
+    add-i
+    loop-less
+    loop-again
+    returns)

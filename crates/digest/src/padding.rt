@@ -1,0 +1,54 @@
+// The end of a padded message (FIPS 180-4, 5.1.1): the bytes after the last whole block, a 1, zeros, and the length in bits.
+ghost use Prim.Native.Nat.{_+_, _*_, _<_};
+ghost use mathlib.Core.Path.{_≡_};
+ghost use mathlib.Core.List.{_++_};
+ghost use lib.ListN.{length, getD};
+ghost use Rattle.digest.specs.Sha256.{ending};
+ghost use Rattle.digest.specs.Parts.{Alike};
+
+// One, or two where the length has no room in the first.
+pub fn count_last_blocks(used: usize, bits: u64) -> usize
+    requires { ⌜ used < 64 ⌝ }
+    ensures { λ r. ⌜ r * 64 ≡ used + length (ending used bits) ⌝ }
+{
+    if used < 56 {
+        return 1;
+    }
+    2
+}
+
+// One byte of it, which ends with the length.
+fn last_byte(rest: &[u8], bits: u64, end: usize, i: usize) -> u8
+    requires { ⌜ length (now rest) < 64 ⌝ }
+    requires { ⌜ end ≡ length (now rest) + length (ending (length (now rest)) bits) ⌝ }
+    ensures { λ r. ⌜ r ≡ getD (now (rest .entry) ++ ending (length (now (rest .entry))) bits) i 0 ⌝ }
+{
+    if i < rest.len() {
+        return rest[i];
+    }
+    if i == rest.len() {
+        return 128;
+    }
+    if i < end - 8 {
+        return 0;
+    }
+    if i < end {
+        let place = (end - 1 - i) as u64;
+        return ((bits >> (8 * place)) % 256) as u8;
+    }
+    0
+}
+
+pub fn last_bytes(rest: &[u8], bits: u64) -> [u8; 128]
+    requires { ⌜ length (now rest) < 64 ⌝ }
+    ensures { λ r. ⌜ Alike 128 r (now (rest .entry) ++ ending (length (now (rest .entry))) bits) ⌝ }
+{
+    let end = 64 * count_last_blocks(rest.len(), bits);
+    let mut last = [0u8; 128];
+    let mut i = 0;
+    while i < 128 {
+        last[i] = last_byte(rest, bits, end, i);
+        i += 1;
+    }
+    last
+}
