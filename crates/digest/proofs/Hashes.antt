@@ -11,7 +11,7 @@ use lib.Seq.{take-all, getD-drop, drop-append-le, getD-set-same, getD-set-other}
 use Rattle.digest.specs.declared.Digest.{Digest}
 use Rattle.digest.specs.Sha256.{constants, ending, padded, wordAt, wordsAt, blockOf, firstHash, schedule, worked, workedIn, added, compressed, hashed, sha256}
 use Rattle.digest.specs.Parts.{Alike}
-use Rattle.digest.proofs.Paddings.{ending-length}
+use Rattle.digest.proofs.Paddings.{blocks-fit}
 
 -- ---- a turn in a block, and a block
 
@@ -114,9 +114,6 @@ module _ (m : List ℕ) where
 
   -- so many last blocks
   module _ (k : ℕ) (fills : k * 64 ≡ length m % 64 + length (ending (length m % 64) bits)) where
-    pub last-fits : k * 64 ≤ 128
-    last-fits = omega (arith, fills, ending-length (length m % 64) bits)
-
     blocks : whole + k ≡ length (padded m) / 64
     unfolding padded
     blocks = omega (arith, fills, length-append m (ending (length m % 64) bits))
@@ -125,7 +122,7 @@ module _ (m : List ℕ) where
     unfolding sha256
     sha256-parts last alike =
         let same : Alike 128 last (rest ++ ending (length rest) bits) = rw rest-taken at alike in
-        hashed-alike last (rest ++ ending (length rest) bits) k (hashed whole m firstHash) (record { at = λ i below. same .at i (omega (arith, last-fits)) })
+        hashed-alike last (rest ++ ending (length rest) bits) k (hashed whole m firstHash) (record { at = λ i below. same .at i (omega (arith, blocks-fit (length m % 64) bits k (omega arith) fills)) })
         ∙ ap₂ (hashed k) (sym end-of-padded) (sym (hashed-alike (padded m) m whole firstHash start-alike))
         ∙ sym (hashed-after (padded m) whole k firstHash)
         ∙ ap (λ n. hashed n (padded m) firstHash) blocks

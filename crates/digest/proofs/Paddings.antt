@@ -26,6 +26,10 @@ one-block used bits h = omega (arith, ending-length used bits)
 pub two-blocks : (used bits : ℕ) → 56 ≤ used → used < 64 → 2 * 64 ≡ used + length (ending used bits)
 two-blocks used bits h below = omega (arith, ending-length used bits)
 
+-- two have room for it
+pub blocks-fit : (used bits k : ℕ) → used < 64 → k * 64 ≡ used + length (ending used bits) → k * 64 ≤ 128
+blocks-fit used bits k below fills = omega (arith, ending-length used bits)
+
 -- ---- its bytes
 
 module _ (rest : List ℕ) (bits : ℕ) where

@@ -49,9 +49,5 @@ pub fn digest_of(message: &[u8]) -> Digest
     let after_whole = hash_blocks(first_hash(), message, whole);
     let bits = (message.len() as u64) << 3;
     let last = last_bytes(&message[rest..], bits);
-    hash_blocks(
-        after_whole,
-        &last,
-        count_last_blocks(message.len() % 64, bits),
-    )
+    hash_blocks(after_whole, &last, count_last_blocks(message.len() % 64))
 }

@@ -1,5 +1,5 @@
 // The end of a padded message (FIPS 180-4, 5.1.1): the bytes after the last whole block, a 1, zeros, and the length in bits.
-ghost use Prim.Native.Nat.{_+_, _*_, _<_};
+ghost use Prim.Native.Nat.{ℕ, _+_, _*_, _<_};
 ghost use mathlib.Core.Path.{_≡_};
 ghost use mathlib.Core.List.{_++_};
 ghost use lib.ListN.{length, getD};
@@ -7,9 +7,9 @@ ghost use Rattle.digest.specs.Sha256.{ending};
 ghost use Rattle.digest.specs.Parts.{Alike};
 
 // One, or two where the length has no room in the first.
-pub fn count_last_blocks(used: usize, bits: u64) -> usize
+pub fn count_last_blocks(used: usize) -> usize
     requires { ⌜ used < 64 ⌝ }
-    ensures { λ r. ⌜ r * 64 ≡ used + length (ending used bits) ⌝ }
+    ensures { λ r. ⌜ ((bits : ℕ) → r * 64 ≡ used + length (ending used bits)) ⌝ }
 {
     if used < 56 {
         return 1;
@@ -43,7 +43,7 @@ pub fn last_bytes(rest: &[u8], bits: u64) -> [u8; 128]
     requires { ⌜ length (now rest) < 64 ⌝ }
     ensures { λ r. ⌜ Alike 128 r (now (rest .entry) ++ ending (length (now (rest .entry))) bits) ⌝ }
 {
-    let end = 64 * count_last_blocks(rest.len(), bits);
+    let end = 64 * count_last_blocks(rest.len());
     let mut last = [0u8; 128];
     let mut i = 0;
     while i < 128 {

@@ -1,11 +1,13 @@
 -- The whole blocks, then the last one or two.
 use native.Mathlib.Omega.{arith}
 use borrow.Author.Needs.{needs}
+use Prim.Native.Nat.{_%_}
 use mathlib.Core.Path.{_≡_, ap, _∙_}
 use denote.Ref.{now}
 use lib.ListN.{length}
 use Rattle.digest.specs.Sha256.{hashed}
-use Rattle.digest.proofs.Hashes.{whole, rest-short, last-fits, sha256-parts}
+use Rattle.digest.proofs.Hashes.{whole, bits, rest-short, sha256-parts}
+use Rattle.digest.proofs.Paddings.{blocks-fit}
 use Rattle.digest.proofs.digest_of.Statement.{statement}
 use Rattle.digest.proofs.digest_of.Tie as tie
 
@@ -41,7 +43,7 @@ hash-blocks-requires-2 c κs =
     let l = c .before .before in
     let m = now (l .before .before .before .before .before .args .message) in
     let size : length (l .last-bytes .result) ≡ 128 = search needs in
-    omega (arith, last-fits m (c .count-last-blocks .result) (c .count-last-blocks .ensures), size)
+    omega (arith, blocks-fit (length m % 64) 0 (c .count-last-blocks .result) (omega arith) (c .count-last-blocks .ensures 0), size)
 
 returns : tie.Need-returns
 returns c =
@@ -53,7 +55,7 @@ returns c =
     let k = b .count-last-blocks .result in
     c .hash-blocks2 .ensures
     ∙ ap (hashed k last) (w .hash-blocks .ensures ∙ ap (hashed (whole m) m) (w .before .first-hash .ensures))
-    ∙ sha256-parts m k (b .count-last-blocks .ensures) last (l .last-bytes .ensures)
+    ∙ sha256-parts m k (b .count-last-blocks .ensures (bits m)) last (l .last-bytes .ensures)
 
 pub digest-of-spec : {M : Type 1} → statement M
 digest-of-spec =

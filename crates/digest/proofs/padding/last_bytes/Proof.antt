@@ -7,7 +7,7 @@ use lib.ListN.{length}
 use Rattle.digest.specs.Sha256.{ending}
 use mathlib.Core.Path.{refl}
 use denote.Ref.{now}
-use Rattle.digest.proofs.Paddings.{ending-length}
+use Rattle.digest.proofs.Paddings.{blocks-fit}
 use Rattle.digest.proofs.Hashes.{Filling, filling-turn}
 use Rattle.digest.proofs.padding.last_bytes.Statement.{statement}
 use Rattle.digest.proofs.padding.last_bytes.Tie as tie
@@ -22,13 +22,13 @@ count-last-blocks-requires : tie.Need-count-last-blocks-requires Inv-loop μ-loo
 count-last-blocks-requires c κs = search needs
 
 mul-end : tie.Need-mul-end Inv-loop μ-loop
-mul-end c = let s = c .before .before in record { fits = omega (arith, s .pre, c .count-last-blocks .ensures, ending-length (length (now (s .args .rest))) (s .args .bits)) }
+mul-end c = let s = c .before .before in record { fits = omega (arith, s .pre, blocks-fit (length (now (s .args .rest))) (s .args .bits) (c .count-last-blocks .result) (s .pre) (c .count-last-blocks .ensures (s .args .bits))) }
 
 loop-holds : tie.Need-loop-holds Inv-loop μ-loop
 loop-holds c = record { some = omega arith; size = refl; alike = record { at = λ i h. absurd (omega arith) } }
 
 last-byte-requires : tie.Need-last-byte-requires Inv-loop μ-loop
-last-byte-requires c κs = let b = c .before .before in (b .before .before .pre, omega (arith, b .count-last-blocks .ensures))
+last-byte-requires c κs = let b = c .before .before in (b .before .before .pre, omega (arith, b .count-last-blocks .ensures (b .before .before .args .bits)))
 
 array-write-last : tie.Need-array-write-last Inv-loop μ-loop
 array-write-last c = search needs
