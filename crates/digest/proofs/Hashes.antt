@@ -1,27 +1,27 @@
 -- A hash, turn by turn and block by block; and that of a message whose end stands elsewhere.
-use Prim.Native.Nat.{ℕ, zero, suc, _+_, _-_, _*_, _/_, _%_, _^_, _≤_, _<_}
-use mathlib.Core.Path.{_≡_, refl, sym, ap, ap₂, _∙_}
+use Prim.Native.Nat.{ℕ, zero, suc, _+_, _-_, _*_, _/_, _%_, _^_, _<_}
+use mathlib.Core.Path.{_≡_, refl, sym, ap, ap₂, subst, _∙_}
 use mathlib.Core.List.{List, [], _∷_, _++_}
 use native.Mathlib.Nat.{add-assoc, add-zero, add-suc}
 use native.Mathlib.Numerals.{add-one}
 use native.Mathlib.Omega.{arith}
-use borrow.Author.Count.{below-more}
-use lib.ListN.{length, take, drop, getD, set, length-append, length-drop, length-set, List·getD-append}
-use lib.Seq.{take-all, getD-drop, drop-append-le, getD-set-same, getD-set-other}
+use lib.ListN.{length, take, drop, getD, length-append, length-drop, List·getD-append}
+use lib.Seq.{take-all, getD-drop, drop-append-le}
 use Rattle.digest.specs.declared.Digest.{Digest}
 use Rattle.digest.specs.Sha256.{constants, ending, padded, wordAt, wordsAt, blockOf, firstHash, schedule, worked, workedIn, added, compressed, hashed, sha256}
-use Rattle.digest.specs.Parts.{Alike}
+use Rattle.digest.specs.Parts.{ended, Alike}
 use Rattle.digest.proofs.Paddings.{blocks-fit}
 
 -- ---- a turn in a block, and a block
 
-pub work-turn : (w : List ℕ) (s : Digest) (t : ℕ) {prev r : Digest} {k : ℕ} → prev ≡ workedIn t w s → k ≡ getD constants t 0 → r ≡ worked prev k (getD w t 0) → r ≡ workedIn (t + 1) w s
+pub work-turn : (w : List ℕ) (s : Digest) (t : ℕ) {prev r : Digest} {k : ℕ}
+    → prev ≡ workedIn t w s → k ≡ getD constants t 0 → r ≡ worked prev k (getD w t 0) → r ≡ workedIn (t + 1) w s
 unfolding workedIn
 work-turn w s t {prev} {r} {k} before constant turn =
     turn ∙ ap₂ (λ x y. worked x y (getD w t 0)) before constant ∙ ap (λ n. workedIn n w s) (sym (add-one t))
 
-pub hash-turn : (m : List ℕ) (h : Digest) (i : ℕ) {w : List ℕ} {prev x r : Digest} → prev ≡ hashed i m h → w ≡ schedule (wordsAt 16 m (i * 64)) → x ≡ workedIn 64 w prev → r ≡ added x prev
-    → r ≡ hashed (i + 1) m h
+pub hash-turn : (m : List ℕ) (h : Digest) (i : ℕ) {w : List ℕ} {prev x r : Digest}
+    → prev ≡ hashed i m h → w ≡ schedule (wordsAt 16 m (i * 64)) → x ≡ workedIn 64 w prev → r ≡ added x prev → r ≡ hashed (i + 1) m h
 unfolding hashed compressed
 hash-turn m h i {w} {prev} {x} {r} before scheduled worked sum =
     sum ∙ ap (λ y. added y prev) (worked ∙ ap (λ l. workedIn 64 l prev) scheduled)
@@ -29,22 +29,6 @@ hash-turn m h i {w} {prev} {x} {r} before scheduled worked sum =
     ∙ ap (λ n. hashed n m h) (sym (add-one i))
 
 -- ---- bytes that are alike have one hash
-
-pub record Filling (n : ℕ) (target last : List ℕ) (i : ℕ) : Type 0 where
-  pub some : i ≤ n
-  pub size : length last ≡ n
-  pub alike : Alike i last target
-
-pub filling-turn : {n : ℕ} {target last : List ℕ} {i x : ℕ} → i < n → Filling n target last i → x ≡ getD target i 0 → Filling n target (set last i x) (i + 1)
-filling-turn {n} {target} {last} {i} {x} h f e = record {
-  some = omega arith;
-  size = length-set last i x ∙ f .size;
-  alike = record {
-    at = below-more (λ j. getD (set last i x) j 0 ≡ getD target j 0) i
-        (λ j below. getD-set-other last i j x 0 (λ same. omega arith) ∙ f .alike .at j below)
-        (getD-set-same last i x 0 (omega (arith, f .size)) ∙ e);
-  };
-}
 
 words-same : (a b : List ℕ) (p q count : ℕ) → ((x : ℕ) → x < 4 * count → getD a (p + x) 0 ≡ getD b (q + x) 0) → wordsAt count a p ≡ wordsAt count b q
 unfolding wordsAt wordAt
@@ -102,7 +86,7 @@ module _ (m : List ℕ) where
   pub rest-short : length taken < 64
   rest-short = omega (arith, ap length rest-taken, used)
 
-  end-of-padded : drop (whole * 64) (padded m) ≡ rest ++ ending (length rest) bits
+  end-of-padded : drop (whole * 64) (padded m) ≡ ended rest bits
   unfolding padded
   end-of-padded =
       drop-append-le (whole * 64) m (ending (length m % 64) bits) (omega arith)
@@ -118,11 +102,12 @@ module _ (m : List ℕ) where
     unfolding padded
     blocks = omega (arith, fills, length-append m (ending (length m % 64) bits))
 
-    pub sha256-parts : (last : List ℕ) → Alike 128 last (taken ++ ending (length taken) bits) → hashed k last (hashed whole m firstHash) ≡ sha256 m
+    pub sha256-parts : (last : List ℕ) → Alike 128 last (ended taken bits) → hashed k last (hashed whole m firstHash) ≡ sha256 m
     unfolding sha256
     sha256-parts last alike =
-        let same : Alike 128 last (rest ++ ending (length rest) bits) = rw rest-taken at alike in
-        hashed-alike last (rest ++ ending (length rest) bits) k (hashed whole m firstHash) (record { at = λ i below. same .at i (omega (arith, blocks-fit (length m % 64) bits k (omega arith) fills)) })
+        let fits = blocks-fit (length m % 64) bits k (omega arith) fills in
+        let same : Alike (k * 64) last (ended rest bits) = record { at = λ i below. subst (λ r. getD last i 0 ≡ getD (ended r bits) i 0) rest-taken (alike .at i (omega arith)) } in
+        hashed-alike last (ended rest bits) k (hashed whole m firstHash) same
         ∙ ap₂ (hashed k) (sym end-of-padded) (sym (hashed-alike (padded m) m whole firstHash start-alike))
         ∙ sym (hashed-after (padded m) whole k firstHash)
         ∙ ap (λ n. hashed n (padded m) firstHash) blocks

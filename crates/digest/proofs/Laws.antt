@@ -1,15 +1,16 @@
 -- What makes the definition believable, and no code needs: padding is what the paper asks for, and words stay words.
 use Prim.Native.Nat.{ℕ, zero, suc, _+_, _-_, _*_, _/_, _%_, _^_, _<_}
-use mathlib.Core.Path.{_≡_, sym, ap, subst}
+use mathlib.Core.Path.{_≡_, sym, ap, _∙_}
 use mathlib.Core.List.{List}
 use native.Mathlib.Nat.{mod-lt}
 use native.Mathlib.Omega.{arith}
 use lib.Arith.{digits-lt}
 use lib.ListN.{length, take, length-append}
-use lib.Pow.{pow-pos, pow-add, shr-lt}
+use lib.Pow.{pow-pos, pow-add}
 use lib.Seq.{take-append-seam}
 use Rattle.digest.specs.declared.Digest.{Digest}
 use Rattle.digest.specs.Sha256.{rotated, ending, padded, firstHash, added, compressed, hashed, sha256}
+use Rattle.digest.proofs.Rotations.{moved-down}
 use Rattle.digest.proofs.Paddings.{ending-length}
 
 -- ---- padding
@@ -40,14 +41,9 @@ whole-length m h = omega arith
 pub rotated-word : (n x : ℕ) → n < 32 → x < 2 ^ 32 → rotated n x < 2 ^ 32
 unfolding rotated
 rotated-word n x h word =
-    let all : n + (32 - n) ≡ 32 = omega arith in
-    let all′ : 32 ≡ 32 - n + n = omega arith in
-    subst (λ k. rotated n x < k) (ap (λ k. 2 ^ k) all)
-    (subst (λ k. rotated n x < k) (pow-add′ n (32 - n))
-    (digits-lt (mod-lt x (pow-pos n)) (shr-lt (32 - n) n (subst (λ k. x < 2 ^ k) all′ word))))
-  where
-    pow-add′ : (i j : ℕ) → 2 ^ i * 2 ^ j ≡ 2 ^ (i + j)
-    pow-add′ i j = sym (pow-add 2 i j)
+    let bits : n + (32 - n) ≡ 32 = omega arith in
+    let all : 2 ^ n * 2 ^ (32 - n) ≡ 2 ^ 32 = sym (pow-add 2 n (32 - n)) ∙ ap (λ k. 2 ^ k) bits in
+    omega (arith, all, digits-lt (mod-lt x (pow-pos n)) (moved-down n x h word))
 
 -- each of the eight
 pub record Words (x : Digest) : Type 0 where
@@ -61,7 +57,7 @@ pub record Words (x : Digest) : Type 0 where
   pub h : x .h < 2 ^ 32
 
 hashed-words : (n : ℕ) (m : List ℕ) → Words (hashed n m firstHash)
-unfolding hashed compressed added firstHash
+unfolding hashed compressed added
 hashed-words zero m = omega arith
 hashed-words (suc n) m = omega arith
 

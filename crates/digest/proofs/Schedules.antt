@@ -19,7 +19,8 @@ pub record Reading (m : List ℕ) (at : ℕ) (w : List ℕ) (t : ℕ) : Type 0 w
   pub size : length w ≡ 64
   pub words : take t w ≡ wordsAt t m at
 
-pub reading-turn : {m : List ℕ} {at : ℕ} {w : List ℕ} {t x : ℕ} → t < 16 → Reading m at w t → x ≡ wordAt m (at + 4 * t) → Reading m at (set w t x) (t + 1)
+pub reading-turn : {m : List ℕ} {at : ℕ} {w : List ℕ} {t x : ℕ}
+    → t < 16 → Reading m at w t → x ≡ wordAt m (at + 4 * t) → Reading m at (set w t x) (t + 1)
 unfolding wordsAt
 reading-turn {m} {at} {w} {t} {x} h r e = record {
   some = omega arith;

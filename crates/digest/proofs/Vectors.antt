@@ -2,12 +2,12 @@
 use Prim.Native.Nat.{ℕ}
 use mathlib.Core.Path.{_≡_, refl}
 use Rattle.rules.specs.Reading.Lines.{bytes}
-use Rattle.digest.specs.Sha256.{rotated, Ch, Maj, Σ₀, Σ₁, σ₀, σ₁, constants, digits, ending, padded, wordAt, wordsAt, firstHash, scheduled, withNext, extended, T₁, T₂, worked, workedIn, added, compressed, hashed, sha256}
+use Rattle.digest.specs.Sha256.{rotated, Σ₀, Σ₁, σ₀, σ₁, constants, digits, ending, padded, wordAt, wordsAt, scheduled, withNext, extended, T₁, T₂, worked, workedIn, added, compressed, hashed, sha256}
 use Rattle.digest.specs.Hexadecimal.{hexByte, hexWord, hexWords, hexadecimal}
 
 -- opens all definitions
 unfoldable opened : ℕ
-unfolding bytes rotated Ch Maj Σ₀ Σ₁ σ₀ σ₁ constants digits ending padded wordAt wordsAt firstHash scheduled withNext extended T₁ T₂ worked workedIn added compressed hashed sha256 hexByte hexWord hexWords
+unfolding bytes rotated Σ₀ Σ₁ σ₀ σ₁ constants digits ending padded wordAt wordsAt scheduled withNext extended T₁ T₂ worked workedIn added compressed hashed sha256 hexByte hexWord hexWords
 opened = 0
 
 pub empty : hexadecimal (sha256 (bytes "")) ≡ bytes "e3b0c44298fc1c149afbf4c8996fb92427ae41e4649b934ca495991b7852b855"

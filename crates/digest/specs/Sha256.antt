@@ -5,31 +5,31 @@ use lib.Bits.{bitAnd, bitXor}
 use lib.ListN.{length, getD, replicate}
 use Rattle.digest.specs.declared.Digest.{Digest}
 
--- ---- operations on words
+-- ---- 3.2: operations on words; those bit by bit are the logic's bitAnd and bitXor
 
--- 3.2 (1): x + y modulo 2 ^ 32
+-- (2): x + y modulo 2 ^ 32
 infixl 60 _⊞_
 abbrev pub _⊞_ : ℕ → ℕ → ℕ
 x ⊞ y = (x + y) % 2 ^ 32
 
--- 2.2.2: the complement of x
+-- (1): the complement of x
 abbrev pub complement : ℕ → ℕ
 complement x = 2 ^ 32 - 1 - x
 
--- 3.2 (3): SHR, x shifted right by n bits
+-- (3): SHR, x shifted right by n bits
 abbrev pub shifted : ℕ → ℕ → ℕ
 shifted n x = x / 2 ^ n
 
--- 3.2 (4): ROTR, x rotated right by n bits, from 1 to 31
+-- (4): ROTR, x rotated right by n bits
 unfoldable pub rotated : ℕ → ℕ → ℕ
-rotated n x = (x % 2 ^ n) * 2 ^ (32 - n) + x / 2 ^ n
+rotated n x = x / 2 ^ n + (x % 2 ^ n) * 2 ^ (32 - n)
 
 -- ---- 4.1.2: functions
 
-unfoldable pub Ch : ℕ → ℕ → ℕ → ℕ
+abbrev pub Ch : ℕ → ℕ → ℕ → ℕ
 Ch x y z = bitXor (bitAnd x y) (bitAnd (complement x) z)
 
-unfoldable pub Maj : ℕ → ℕ → ℕ → ℕ
+abbrev pub Maj : ℕ → ℕ → ℕ → ℕ
 Maj x y z = bitXor (bitXor (bitAnd x y) (bitAnd x z)) (bitAnd y z)
 
 unfoldable pub Σ₀ : ℕ → ℕ
@@ -69,12 +69,12 @@ digits bits (suc count) n = n / 2 ^ (bits * count) % 2 ^ bits ∷ digits bits co
 abbrev pub zeros : ℕ → List ℕ
 zeros count = replicate count 0
 
--- after so many bytes in the last block: a 1 and seven 0 (the byte 128), the fewest bytes of zeros that leave 8 bytes of a block, and in these the
--- message's length in bits
+-- what follows a message that uses so many bytes of its last block: a 1 and seven 0, which are the byte 128, the fewest zeros that leave 8 bytes of a
+-- block (the byte 128, they and what is used are 56 bytes modulo 64), and in these the message's length in bits
 unfoldable pub ending : ℕ → ℕ → List ℕ
-ending used length = 128 ∷ (zeros ((119 - used) % 64) ++ digits 8 8 length)
+ending used bits = 128 ∷ (zeros ((119 - used) % 64) ++ digits 8 8 bits)
 
--- FIPS has no checksum of 2 ^ 64 bits or more. Here the length is taken modulo 2 ^ 64, so that every list of bytes has one
+-- the paper has no checksum of 2 ^ 64 bits or more: here the length counts modulo 2 ^ 64, so that every list of bytes has one
 unfoldable pub padded : List ℕ → List ℕ
 padded m = m ++ ending (length m % 64) (length m * 8 % 2 ^ 64)
 
@@ -99,7 +99,7 @@ blockOf m i = wordsAt 16 m (i * 64)
 
 -- ---- 5.3.3: the first hash
 
-unfoldable pub firstHash : Digest
+abbrev pub firstHash : Digest
 firstHash = record {
   a = 0x6a09e667;
   b = 0xbb67ae85;

@@ -12,6 +12,7 @@ ghost use Prim.Native.Nat.{_*_, _≤_};
 ghost use lib.ListN.{length};
 ghost use Rattle.digest.specs.Sha256.{T₁, T₂, worked, workedIn, added, hashed};
 
+// The paper's T1.
 fn first_sum(s: Digest, k: u32, w: u32) -> u32
     ensures { λ r. ⌜ r ≡ T₁ s k w ⌝ }
 {
@@ -21,12 +22,14 @@ fn first_sum(s: Digest, k: u32, w: u32) -> u32
     wrapping_add_u32(sum_of_four, w)
 }
 
+// The paper's T2.
 fn second_sum(s: Digest) -> u32
     ensures { λ r. ⌜ r ≡ T₂ s ⌝ }
 {
     wrapping_add_u32(big_sigma_0(s.a), majority(s.a, s.b, s.c))
 }
 
+// One turn, with a constant and a word of the schedule.
 fn work(s: Digest, k: u32, w: u32) -> Digest
     ensures { λ r. ⌜ r ≡ worked s k w ⌝ }
 {
@@ -44,6 +47,7 @@ fn work(s: Digest, k: u32, w: u32) -> Digest
     }
 }
 
+// All 64 turns.
 fn work_in(s: Digest, w: &[u32; 64]) -> Digest
     ensures { λ r. ⌜ r ≡ workedIn 64 (now (w .entry)) s ⌝ }
 {
@@ -56,7 +60,8 @@ fn work_in(s: Digest, w: &[u32; 64]) -> Digest
     worked
 }
 
-fn add(x: Digest, y: Digest) -> Digest
+// Word by word.
+fn add_words(x: Digest, y: Digest) -> Digest
     ensures { λ r. ⌜ r ≡ added x y ⌝ }
 {
     Digest {
@@ -79,7 +84,7 @@ pub fn hash_blocks(first: Digest, bytes: &[u8], count: usize) -> Digest
     let mut i = 0;
     while i < count {
         let w = schedule_of(bytes, i * 64);
-        hash = add(work_in(hash, &w), hash);
+        hash = add_words(work_in(hash, &w), hash);
         i += 1;
     }
     hash

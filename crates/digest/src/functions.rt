@@ -7,7 +7,7 @@ fn rotate(x: u32, n: u32) -> u32
     requires { ⌜ (0 < n) × (n < 32) ⌝ }
     ensures { λ r. ⌜ r ≡ rotated n x ⌝ }
 {
-    (x << (32 - n)) | (x >> n)
+    (x >> n) | (x << (32 - n))
 }
 
 pub fn choose(x: u32, y: u32, z: u32) -> u32

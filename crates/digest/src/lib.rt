@@ -47,6 +47,7 @@ pub fn digest_of(message: &[u8]) -> Digest
     let whole = message.len() / 64;
     let rest = whole * 64;
     let after_whole = hash_blocks(first_hash(), message, whole);
+    // modulo 2^64, as the definition has it
     let bits = (message.len() as u64) << 3;
     let last = last_bytes(&message[rest..], bits);
     hash_blocks(after_whole, &last, count_last_blocks(message.len() % 64))

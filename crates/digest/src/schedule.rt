@@ -35,6 +35,7 @@ fn read_block(bytes: &[u8], at: usize) -> [u32; 64]
     w
 }
 
+// From the words 2, 7, 15 and 16 places before it.
 fn next_word(w2: u32, w7: u32, w15: u32, w16: u32) -> u32
     ensures { λ r. ⌜ r ≡ scheduled w2 w7 w15 w16 ⌝ }
 {

@@ -1,13 +1,13 @@
 -- The whole blocks, then the last one or two.
-use native.Mathlib.Omega.{arith}
-use borrow.Author.Needs.{needs}
 use Prim.Native.Nat.{_%_}
 use mathlib.Core.Path.{_≡_, ap, _∙_}
+use native.Mathlib.Omega.{arith}
+use borrow.Author.Needs.{needs}
 use denote.Ref.{now}
 use lib.ListN.{length}
 use Rattle.digest.specs.Sha256.{hashed}
-use Rattle.digest.proofs.Hashes.{whole, bits, rest-short, sha256-parts}
 use Rattle.digest.proofs.Paddings.{blocks-fit}
+use Rattle.digest.proofs.Hashes.{whole, bits, rest-short, sha256-parts}
 use Rattle.digest.proofs.digest_of.Statement.{statement}
 use Rattle.digest.proofs.digest_of.Tie as tie
 

@@ -1,8 +1,8 @@
 -- The invariant: so many blocks are worked in. The measure is how many are left.
-use borrow.Author.Needs.{needs}
-use native.Mathlib.Omega.{arith}
 use Prim.Native.Nat.{_-_, _≤_}
 use mathlib.Core.Path.{_≡_, refl, ap, _∙_}
+use native.Mathlib.Omega.{arith}
+use borrow.Author.Needs.{needs}
 use denote.Ref.{now}
 use Rattle.digest.specs.Sha256.{hashed}
 use Rattle.digest.proofs.Hashes.{hash-turn}
@@ -28,8 +28,8 @@ schedule-of-requires c κs = search needs
 work-in-requires : tie.Need-work-in-requires Inv-loop μ-loop
 work-in-requires c κs = search needs
 
-add-requires : tie.Need-add-requires Inv-loop μ-loop
-add-requires c κs = search needs
+add-words-requires : tie.Need-add-words-requires Inv-loop μ-loop
+add-words-requires c κs = search needs
 
 add-i : tie.Need-add-i Inv-loop μ-loop
 add-i c = search needs
@@ -41,7 +41,7 @@ loop-again : tie.Need-loop-again Inv-loop μ-loop
 loop-again c =
     let l = c .before .before .before .before .before in (
       omega (arith, c .before .before .before .before .loop-test .taken),
-      hash-turn _ _ _ (l .loop .inv .1) (c .before .before .before .schedule-of .ensures) (c .before .work-in .ensures) (c .add .ensures),
+      hash-turn _ _ _ (l .loop .inv .1) (c .before .before .before .schedule-of .ensures) (c .before .work-in .ensures) (c .add-words .ensures),
     )
 
 returns : tie.Need-returns Inv-loop μ-loop
@@ -60,7 +60,7 @@ hash-blocks-spec =
     mul-schedule-of
     schedule-of-requires
     work-in-requires
-    add-requires
+    add-words-requires
     add-i
     loop-less
     loop-again

@@ -1,8 +1,8 @@
 -- The invariant: so many turns are done. The measure is how many are left.
-use borrow.Author.Needs.{needs}
-use native.Mathlib.Omega.{arith}
 use Prim.Native.Nat.{_-_, _≤_}
 use mathlib.Core.Path.{_≡_, refl, ap, _∙_}
+use native.Mathlib.Omega.{arith}
+use borrow.Author.Needs.{needs}
 use denote.Ref.{now}
 use Rattle.digest.specs.Sha256.{workedIn}
 use Rattle.digest.proofs.Hashes.{work-turn}
@@ -38,10 +38,17 @@ loop-less : tie.Need-loop-less Inv-loop μ-loop
 loop-less c = search needs
 
 loop-again : tie.Need-loop-again Inv-loop μ-loop
-loop-again c = let l = c .before .before .before .before in (omega (arith, l .loop .inv .0, c .before .before .before .loop-test .taken), work-turn _ _ _ (l .loop .inv .1) (c .before .before .constant-at .ensures) (c .work .ensures))
+loop-again c =
+    let l = c .before .before .before .before in (
+      omega (arith, c .before .before .before .loop-test .taken),
+      work-turn _ _ _ (l .loop .inv .1) (c .before .before .constant-at .ensures) (c .work .ensures),
+    )
 
 returns : tie.Need-returns Inv-loop μ-loop
-returns c = let l = c .before in l .loop .inv .1 ∙ ap (λ n. workedIn n (now (l .before .args .w)) (l .before .args .s)) (omega (arith, l .loop .inv .0, c .loop-test .left))
+returns c =
+    let l = c .before in
+    let s = l .before in
+    l .loop .inv .1 ∙ ap (λ n. workedIn n (now (s .args .w)) (s .args .s)) (omega (arith, l .loop .inv .0, c .loop-test .left))
 
 pub work-in-spec : {M : Type 1} → statement M
 work-in-spec =

@@ -1,10 +1,9 @@
 -- Each byte by its place.
+use mathlib.Core.Path.{sym}
 use native.Mathlib.Omega.{arith}
 use borrow.Author.Needs.{needs}
-use mathlib.Core.Path.{sym}
-use lib.ListN.{length}
 use denote.Ref.{now}
-use Rattle.digest.proofs.Paddings.{ending-length, byte-of-rest, byte-of-one, byte-of-zeros, byte-of-length, byte-past}
+use Rattle.digest.proofs.Paddings.{ended-length, byte-of-rest, byte-of-one, byte-of-zeros, byte-of-length, byte-past}
 use Rattle.digest.proofs.padding.last_byte.Statement.{statement}
 use Rattle.digest.proofs.padding.last_byte.Tie as tie
 
@@ -18,7 +17,7 @@ returns-2 : tie.Need-returns-2
 returns-2 c = let s = c .before .before in sym (byte-of-one (now (s .args .rest)) (s .args .bits) (s .args .i) (c .if2 .taken))
 
 sub-if3 : tie.Need-sub-if3
-sub-if3 c = let s = c .before .before in omega (arith, s .pre .1, ending-length (length (now (s .args .rest))) (s .args .bits))
+sub-if3 c = let s = c .before .before in omega (arith, s .pre .1, ended-length (now (s .args .rest)) (s .args .bits))
 
 returns-3 : tie.Need-returns-3
 returns-3 c = let s = c .before .before .before in sym (byte-of-zeros (now (s .args .rest)) (s .args .bits) (s .args .end) (s .args .i) (s .pre .0) (s .pre .1) (omega (arith, c .before .before .if1 .left, c .before .if2 .left)) (c .if3 .taken))

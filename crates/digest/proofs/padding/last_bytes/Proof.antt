@@ -1,19 +1,18 @@
 -- The invariant: the bytes so far are those of the end of the padded message. The measure is how many are left.
-use borrow.Author.Needs.{needs}
-use native.Mathlib.Omega.{arith}
 use Prim.Native.Nat.{_-_}
-use mathlib.Core.List.{_++_}
-use lib.ListN.{length}
-use Rattle.digest.specs.Sha256.{ending}
 use mathlib.Core.Path.{refl}
+use native.Mathlib.Omega.{arith}
+use borrow.Author.Needs.{needs}
 use denote.Ref.{now}
-use Rattle.digest.proofs.Paddings.{blocks-fit}
-use Rattle.digest.proofs.Hashes.{Filling, filling-turn}
+use lib.ListN.{length, length-append}
+use Rattle.digest.specs.Sha256.{ending}
+use Rattle.digest.specs.Parts.{ended}
+use Rattle.digest.proofs.Paddings.{blocks-fit, Filling, filling-turn}
 use Rattle.digest.proofs.padding.last_bytes.Statement.{statement}
 use Rattle.digest.proofs.padding.last_bytes.Tie as tie
 
 abbrev Inv-loop : tie.InvT-loop
-Inv-loop rest bits end last₀ i₀ last i = Filling 128 (rest ++ ending (length rest) bits) last i
+Inv-loop rest bits end last₀ i₀ last i = Filling 128 (ended rest bits) last i
 
 abbrev μ-loop : tie.MeasureT-loop
 μ-loop rest bits end last₀ i₀ last i = 128 - i
@@ -22,13 +21,19 @@ count-last-blocks-requires : tie.Need-count-last-blocks-requires Inv-loop μ-loo
 count-last-blocks-requires c κs = search needs
 
 mul-end : tie.Need-mul-end Inv-loop μ-loop
-mul-end c = let s = c .before .before in record { fits = omega (arith, s .pre, blocks-fit (length (now (s .args .rest))) (s .args .bits) (c .count-last-blocks .result) (s .pre) (c .count-last-blocks .ensures (s .args .bits))) }
+mul-end c =
+    let s = c .before .before in
+    let b = c .count-last-blocks in
+    record { fits = omega (arith, blocks-fit (length (now (s .args .rest))) (s .args .bits) (b .result) (s .pre) (b .ensures (s .args .bits))) }
 
 loop-holds : tie.Need-loop-holds Inv-loop μ-loop
 loop-holds c = record { some = omega arith; size = refl; alike = record { at = λ i h. absurd (omega arith) } }
 
 last-byte-requires : tie.Need-last-byte-requires Inv-loop μ-loop
-last-byte-requires c κs = let b = c .before .before in (b .before .before .pre, omega (arith, b .count-last-blocks .ensures (b .before .before .args .bits)))
+last-byte-requires c κs =
+    let b = c .before .before in
+    let s = b .before .before in
+    (s .pre, omega (arith, b .count-last-blocks .ensures (s .args .bits), length-append (now (s .args .rest)) (ending (length (now (s .args .rest))) (s .args .bits))))
 
 array-write-last : tie.Need-array-write-last Inv-loop μ-loop
 array-write-last c = search needs

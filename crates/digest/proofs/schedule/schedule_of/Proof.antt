@@ -1,7 +1,7 @@
 -- The invariant: the words so far are the schedule's. The measure is how many are left.
-use borrow.Author.Needs.{needs}
-use native.Mathlib.Omega.{arith}
 use Prim.Native.Nat.{_-_}
+use native.Mathlib.Omega.{arith}
+use borrow.Author.Needs.{needs}
 use Rattle.digest.specs.Sha256.{wordsAt, extended}
 use Rattle.digest.proofs.Schedules.{Extending, extending-turn, extending-end}
 use Rattle.digest.proofs.schedule.schedule_of.Statement.{statement}

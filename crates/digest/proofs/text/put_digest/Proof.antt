@@ -1,8 +1,8 @@
 -- The invariant: the words so far stand there. The measure is how many are left.
-use borrow.Author.Needs.{needs}
-use native.Mathlib.Omega.{arith}
 use Prim.Native.Nat.{_-_, _≤_}
 use mathlib.Core.Path.{_≡_, subst}
+use native.Mathlib.Omega.{arith}
+use borrow.Author.Needs.{needs}
 use denote.Ref.{now}
 use lib.ListN.{take}
 use Rattle.lettering.specs.Putting.{Puts}

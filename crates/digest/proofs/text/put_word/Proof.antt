@@ -1,7 +1,7 @@
 -- The invariant: the digits so far stand there. The measure is how many are left.
-use borrow.Author.Needs.{needs}
-use native.Mathlib.Omega.{arith}
 use Prim.Native.Nat.{_-_}
+use native.Mathlib.Omega.{arith}
+use borrow.Author.Needs.{needs}
 use Rattle.lettering.proofs.Texts.{PutInPart, none-put, part-length}
 use Rattle.digest.specs.Hexadecimal.{hexWord}
 use Rattle.digest.proofs.Texts.{word-length, word-turn, word-end}

@@ -1,8 +1,8 @@
 -- Each word's sum is the definition's.
 use borrow.Author.Needs.{needs}
 use Rattle.digest.specs.Sha256.{added}
-use Rattle.digest.proofs.blocks.add.Statement.{statement}
-use Rattle.digest.proofs.blocks.add.Tie as tie
+use Rattle.digest.proofs.blocks.add_words.Statement.{statement}
+use Rattle.digest.proofs.blocks.add_words.Tie as tie
 
 wrapping-add-u32-requires : tie.Need-wrapping-add-u32-requires
 wrapping-add-u32-requires c κs = search needs
@@ -32,8 +32,8 @@ returns : tie.Need-returns
 unfolding added
 returns c = cc
 
-pub add-spec : {M : Type 1} → statement M
-add-spec =
+pub add-words-spec : {M : Type 1} → statement M
+add-words-spec =
     tie.close
     (tie.spec
     wrapping-add-u32-requires
