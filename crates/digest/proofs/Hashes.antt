@@ -106,7 +106,8 @@ module _ (m : List ℕ) where
     unfolding sha256
     sha256-parts last alike =
         let fits = blocks-fit (length m % 64) bits k (omega arith) fills in
-        let same : Alike (k * 64) last (ended rest bits) = record { at = λ i below. subst (λ r. getD last i 0 ≡ getD (ended r bits) i 0) rest-taken (alike .at i (omega arith)) } in
+        let same : Alike (k * 64) last (ended rest bits) =
+        record { at = λ i below. subst (λ r. getD last i 0 ≡ getD (ended r bits) i 0) rest-taken (alike .at i (omega arith)) } in
         hashed-alike last (ended rest bits) k (hashed whole m firstHash) same
         ∙ ap₂ (hashed k) (sym end-of-padded) (sym (hashed-alike (padded m) m whole firstHash start-alike))
         ∙ sym (hashed-after (padded m) whole k firstHash)

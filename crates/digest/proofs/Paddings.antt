@@ -85,7 +85,8 @@ pub record Filling (n : ℕ) (target last : List ℕ) (i : ℕ) : Type 0 where
   pub size : length last ≡ n
   pub alike : Alike i last target
 
-pub filling-turn : {n : ℕ} {target last : List ℕ} {i x : ℕ} → i < n → Filling n target last i → x ≡ getD target i 0 → Filling n target (set last i x) (i + 1)
+pub filling-turn : {n : ℕ} {target last : List ℕ} {i x : ℕ}
+    → i < n → Filling n target last i → x ≡ getD target i 0 → Filling n target (set last i x) (i + 1)
 filling-turn {n} {target} {last} {i} {x} h f e = record {
   some = omega arith;
   size = length-set last i x ∙ f .size;

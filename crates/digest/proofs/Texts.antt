@@ -47,7 +47,8 @@ words-length (x ∷ words) = omega (arith, length-append (hexWord x) (hexWords w
 pub hexadecimal-length : (d : Digest) → length (hexadecimal d) ≡ 64
 hexadecimal-length d = words-length (wordsOf d)
 
-module _ {out₀ : List ℕ} {at : ℕ} (words : List ℕ) {i end : ℕ} {out : List ℕ} (inside : i < length words) (p : Puts out₀ at (hexWords (take i words)) end out) where
+module _ {out₀ : List ℕ} {at : ℕ} (words : List ℕ) {i end : ℕ} {out : List ℕ} (inside : i < length words)
+    (p : Puts out₀ at (hexWords (take i words)) end out) where
   -- there is room for the next
   pub next-word-room : Room out₀ at (hexWords words) → Room out end (hexWord (getD words i 0))
   unfolding hexWords

@@ -29,7 +29,9 @@ array-read-put-word : tie.Need-array-read-put-word Inv-loop μ-loop
 array-read-put-word c = search needs
 
 put-word-requires : tie.Need-put-word-requires Inv-loop μ-loop
-put-word-requires c κs = let s = c .before .before .before .before in next-word-room (wordsOf (s .args .d)) (c .before .loop-test .taken) (c .before .before .loop .inv .1) (s .pre)
+put-word-requires c κs =
+    let s = c .before .before .before .before in
+    next-word-room (wordsOf (s .args .d)) (c .before .loop-test .taken) (c .before .before .loop .inv .1) (s .pre)
 
 add-i : tie.Need-add-i Inv-loop μ-loop
 add-i c = search needs
@@ -38,7 +40,12 @@ loop-less : tie.Need-loop-less Inv-loop μ-loop
 loop-less c = search needs
 
 loop-again : tie.Need-loop-again Inv-loop μ-loop
-loop-again c = let l = c .before .before .before .before .before in let s = l .before .before in (omega (arith, l .loop .inv .0, c .before .before .before .before .loop-test .taken), next-word-put (wordsOf (s .args .d)) (c .before .before .before .before .loop-test .taken) (l .loop .inv .1) (c .before .before .put-word .ensures))
+loop-again c =
+    let l = c .before .before .before .before .before in
+    let s = l .before .before in (
+      omega (arith, l .loop .inv .0, c .before .before .before .before .loop-test .taken),
+      next-word-put (wordsOf (s .args .d)) (c .before .before .before .before .loop-test .taken) (l .loop .inv .1) (c .before .before .put-word .ensures),
+    )
 
 same-length : tie.Need-same-length Inv-loop μ-loop
 same-length c = puts-length (c .before .loop .inv .1)

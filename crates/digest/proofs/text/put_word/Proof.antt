@@ -33,10 +33,14 @@ hex-byte-requires : tie.Need-hex-byte-requires Inv-loop μ-loop
 hex-byte-requires c κs = search needs
 
 add-out : tie.Need-add-out Inv-loop μ-loop
-add-out c = let s = c .before .before .before .before in record { fits = omega (arith, s .good .0, s .pre .fits, word-length (s .args .word), c .before .loop-test .taken) }
+add-out c =
+    let s = c .before .before .before .before in
+    record { fits = omega (arith, s .good .0, s .pre .fits, word-length (s .args .word), c .before .loop-test .taken) }
 
 slice-write-out : tie.Need-slice-write-out Inv-loop μ-loop
-slice-write-out c = let s = c .before .before .before .before in omega (arith, part-length (c .before .before .loop .inv) (s .pre), s .pre .fits, word-length (s .args .word), c .before .loop-test .taken)
+slice-write-out c =
+    let s = c .before .before .before .before in
+    omega (arith, part-length (c .before .before .loop .inv) (s .pre), s .pre .fits, word-length (s .args .word), c .before .loop-test .taken)
 
 add-i : tie.Need-add-i Inv-loop μ-loop
 add-i c = search needs
@@ -45,7 +49,9 @@ loop-less : tie.Need-loop-less Inv-loop μ-loop
 loop-less c = search needs
 
 loop-again : tie.Need-loop-again Inv-loop μ-loop
-loop-again c = let s = c .before .before .before .before in word-turn (s .args .word) (c .before .before .loop .inv) (s .pre) (c .before .loop-test .taken) (c .hex-byte .ensures)
+loop-again c =
+    let s = c .before .before .before .before in
+    word-turn (s .args .word) (c .before .before .loop .inv) (s .pre) (c .before .loop-test .taken) (c .hex-byte .ensures)
 
 add-result : tie.Need-add-result Inv-loop μ-loop
 add-result c = let s = c .before .before .before in record { fits = omega (arith, s .good .0, s .pre .fits, word-length (s .args .word)) }
