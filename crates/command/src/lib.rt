@@ -2,6 +2,7 @@
 mod verbs;
 mod words;
 
+use checking::check_files;
 use correct::correct;
 use desk::Outcome;
 use desk::report_input;
@@ -38,6 +39,7 @@ fn show_help(verb: Verb) -> Outcome {
         Verb::Correct => correct::help(STDOUT_FILENO),
         Verb::Rewrite => rewrite::help(STDOUT_FILENO),
         Verb::Invert => invert::help(STDOUT_FILENO),
+        Verb::Check => checking::help(STDOUT_FILENO),
         Verb::Help => words::help(STDOUT_FILENO),
         Verb::Version => words::help(STDOUT_FILENO),
         Verb::Unknown => words::help(STDOUT_FILENO),
@@ -81,6 +83,7 @@ fn obey(
         Verb::Correct => correct(file, table, bytes, raw, corrected),
         Verb::Rewrite => rewrite(file, table, text),
         Verb::Invert => invert(file, table),
+        Verb::Check => check_files(file),
         Verb::Help => show_help(verb),
         Verb::Version => show_version(),
         Verb::Unknown => refuse_call(),

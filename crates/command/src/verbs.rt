@@ -9,6 +9,7 @@ pub enum Verb {
     Correct,
     Rewrite,
     Invert,
+    Check,
     Help,
     Version,
     Unknown,
@@ -23,6 +24,8 @@ const CORRECT: [u8; 7] = *b"correct";
 const REWRITE: [u8; 7] = *b"rewrite";
 
 const INVERT: [u8; 6] = *b"invert";
+
+const CHECK: [u8; 5] = *b"check";
 
 const VERSION: [u8; 9] = *b"--version";
 
@@ -57,6 +60,9 @@ pub fn verb_of(word: &[u8]) -> Verb
     }
     if is_named(word, &INVERT) {
         return Verb::Invert;
+    }
+    if is_named(word, &CHECK) {
+        return Verb::Check;
     }
     if is_named(word, &VERSION) {
         return Verb::Version;

@@ -1,9 +1,9 @@
 // What the command says of itself.
 use desk::write;
 
-// As `erythmoda 1.4.2`; tests hold it to the version of the header.
+// As `erythmoda 1.5.0`; tests hold it to the version of the header.
 pub fn version(fd: i32) -> bool {
-    write(fd, b"erythmoda 1.4.2\n")
+    write(fd, b"erythmoda 1.5.0\n")
 }
 
 // What there is, with an example of each.
@@ -16,6 +16,11 @@ pub fn help(fd: i32) -> bool {
         && write(
             fd,
             b"    what a small table says: kind, N and rows, domains, title; or why it is refused\n",
+        )
+        && write(fd, b"erythmoda check *.cube\n")
+        && write(
+            fd,
+            b"    what each table is, of any size; or why it is refused, which bytes are meant and what would pass\n",
         )
         && write(fd, b"erythmoda explain table.cube 8 51 102 204\n")
         && write(

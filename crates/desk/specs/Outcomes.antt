@@ -2,6 +2,8 @@
 use Prim.Native.Nat.{ℕ}
 use mathlib.Core.Path.{_≡_}
 use mathlib.Core.Logic.{_⊎_}
+use mathlib.Core.Bool.{cond}
+use lib.Dec.{ltb}
 use Rattle.rules.specs.declared.Read.{Read}
 use Rattle.rules.specs.declared.Read.the-variants as R
 use Rattle.desk.specs.declared.outcomes.Outcome.{Outcome}
@@ -12,6 +14,10 @@ unfoldable pub statusOf : Outcome → ℕ
 statusOf Done = 0
 statusOf Refused = 1
 statusOf Failed = 2
+
+-- of two ends of one work the greater status counts
+unfoldable pub worseOf : Outcome → Outcome → Outcome
+worseOf a b = cond (ltb (statusOf a) (statusOf b)) b a
 
 -- a file that is accepted is done with
 unfoldable pub outcomeOf : Read → Outcome

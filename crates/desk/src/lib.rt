@@ -8,6 +8,7 @@ mod outcomes;
 mod printing;
 mod refusals;
 mod reports;
+mod tables;
 
 pub use arguments::Argument;
 pub use arguments::Last;
@@ -33,4 +34,9 @@ pub use printing::write_signed;
 pub use refusals::say_refusal;
 pub use refusals::write_meaning;
 pub use refusals::write_refused;
+pub use reports::outcome_of;
 pub use reports::report_input;
+pub use tables::write_domain;
+pub use tables::write_domains;
+pub use tables::write_size;
+pub use tables::write_title;

@@ -13,7 +13,7 @@ ghost use Rattle.rules.specs.Reporting.{report};
 ghost use Rattle.desk.specs.Outcomes.{outcomeOf, EndsAs};
 
 // Accepted is done.
-fn outcome_of(answer: Read) -> Outcome
+pub fn outcome_of(answer: Read) -> Outcome
     ensures { λ r. ⌜ r ≡ outcomeOf answer ⌝ }
 {
     match answer {

@@ -29,6 +29,9 @@ four c = c .before .before .before
 abbrev five : tie.Else6 → tie.Else5
 five c = c .before .before .before
 
+abbrev six : tie.Else7 → tie.Else6
+six c = c .before .before .before
+
 no-report : (c : tie.Else1) → same (word c) (bytes "report") ≡ false
 unfolding bytes
 no-report c = sym (c .before .is-named .ensures) ∙ c .if1 .left
@@ -49,9 +52,13 @@ no-invert : (c : tie.Else5) → same (word (one (two (three (four c))))) (bytes 
 unfolding bytes
 no-invert c = sym (c .before .is-named5 .ensures) ∙ c .if5 .left
 
-no-version : (c : tie.Else6) → same (word (one (two (three (four (five c)))))) (bytes "--version") ≡ false
+no-check : (c : tie.Else6) → same (word (one (two (three (four (five c)))))) (bytes "check") ≡ false
 unfolding bytes
-no-version c = sym (c .before .is-named6 .ensures) ∙ c .if6 .left
+no-check c = sym (c .before .is-named6 .ensures) ∙ c .if6 .left
+
+no-version : (c : tie.Else7) → same (word (one (two (three (four (five (six c))))))) (bytes "--version") ≡ false
+unfolding bytes
+no-version c = sym (c .before .is-named7 .ensures) ∙ c .if7 .left
 
 slice-aggregate-is-named : tie.Need-slice-aggregate-is-named
 slice-aggregate-is-named c = search needs
@@ -122,24 +129,40 @@ returns-6 c =
     let v = four d in
     rw (no-report (one (two (three v))), no-explain (two (three v)), no-correct (three v), no-rewrite v, no-invert d, sym (c .before .is-named6 .ensures) ∙ c .if6 .taken)
 
-asks-help-requires : tie.Need-asks-help-requires
-asks-help-requires c κs = search needs
+slice-aggregate-is-named-7 : tie.Need-slice-aggregate-is-named-7
+slice-aggregate-is-named-7 c = search needs
+
+is-named-requires-7 : tie.Need-is-named-requires-7
+is-named-requires-7 c κs = search needs
 
 returns-7 : tie.Need-returns-7
 unfolding verbOf bytes
 returns-7 c =
-    let d = c .before .before in
+    let d = c .before .before .before in
     let i = five d in
     let v = four i in
-    rw (no-report (one (two (three v))), no-explain (two (three v)), no-correct (three v), no-rewrite v, no-invert i, no-version d, sym (c .before .asks-help .ensures) ∙ c .if7 .taken)
+    rw (no-report (one (two (three v))), no-explain (two (three v)), no-correct (three v), no-rewrite v, no-invert i, no-check d, sym (c .before .is-named7 .ensures) ∙ c .if7 .taken)
+
+asks-help-requires : tie.Need-asks-help-requires
+asks-help-requires c κs = search needs
 
 returns-8 : tie.Need-returns-8
 unfolding verbOf bytes
 returns-8 c =
     let d = c .before .before in
-    let i = five d in
+    let k = six d in
+    let i = five k in
     let v = four i in
-    rw (no-report (one (two (three v))), no-explain (two (three v)), no-correct (three v), no-rewrite v, no-invert i, no-version d, sym (c .before .asks-help .ensures) ∙ c .if7 .left)
+    rw (no-report (one (two (three v))), no-explain (two (three v)), no-correct (three v), no-rewrite v, no-invert i, no-check k, no-version d, sym (c .before .asks-help .ensures) ∙ c .if8 .taken)
+
+returns-9 : tie.Need-returns-9
+unfolding verbOf bytes
+returns-9 c =
+    let d = c .before .before in
+    let k = six d in
+    let i = five k in
+    let v = four i in
+    rw (no-report (one (two (three v))), no-explain (two (three v)), no-correct (three v), no-rewrite v, no-invert i, no-check k, no-version d, sym (c .before .asks-help .ensures) ∙ c .if8 .left)
 
 pub verb-of-spec : {M : Type 1} → statement M
 verb-of-spec =
@@ -163,6 +186,9 @@ verb-of-spec =
     slice-aggregate-is-named-6
     is-named-requires-6
     returns-6
-    asks-help-requires
+    slice-aggregate-is-named-7
+    is-named-requires-7
     returns-7
-    returns-8)
+    asks-help-requires
+    returns-8
+    returns-9)

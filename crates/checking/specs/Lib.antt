@@ -1,0 +1,2 @@
+-- How the check of a file ends.
+pub mod Verdicts
