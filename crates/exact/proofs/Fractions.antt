@@ -1,5 +1,5 @@
 -- Integers over natural numbers, by their halves: an equation between products is one for each half. So S / E has one form in lowest terms.
-use Prim.Native.Nat.{ℕ, suc, _*_, _/_, _∣_, _<_}
+use Prim.Native.Nat.{ℕ, suc, _*_, _/_, _∣_, _≤_, _<_}
 use mathlib.Core.Path.{_≡_, refl, sym, ap, subst, _∙_}
 use native.Mathlib.Nat as NatL
 use native.Mathlib.Omega.{arith}
@@ -12,7 +12,7 @@ use Rattle.whole.proofs.Halves as H
 use Rattle.whole.proofs.Held.{quot-size}
 use Rattle.exact.specs.Values.{LowestTerms}
 use Rattle.exact.specs.declared.ratio.Ratio.{Ratio}
-use Rattle.exact.proofs.CommonDivisors.{divides-both, reduced, same-bottom}
+use Rattle.exact.proofs.CommonDivisors.{divides-both, divides-other, reduced, same-bottom}
 
 -- ---- products and quotients by a natural number, half by half
 
@@ -76,6 +76,14 @@ divided s e g top some is t =
               (ap (λ n. n * e) ups ∙ exchanged (up s) e g above (f .bottom)) (ap (λ n. n * e) dns ∙ exchanged (dn s) e g below (f .bottom));
           lowest = ap (λ x. gcd x (e / g)) (ap natAbs t ∙ quot-size s g) ∙ f .lowest;
         }
+
+-- the bottom divides E
+pub bottom-most : {s : ℤ} {e : ℕ} {r : Ratio} → 0 < e → LowestTerms s e r → r .bottom ≤ e
+bottom-most {s} {e} {r} some p =
+    let x = r .top .0 in
+    let sizes : natAbs x * e ≡ natAbs s * r .bottom = sym (H.product-abs x (pos e)) ∙ ap natAbs (p .same) ∙ H.product-abs s (pos (r .bottom)) in
+    let product = subst (λ n. r .bottom ∣ n) (sym sizes) (NatL.dvd-mul-left (r .bottom) (natAbs s)) in
+    NatL.le-of-dvd some (divides-other (natAbs x) (r .bottom) e (p .lowest) product)
 
 -- and no other ratio is
 pub lowest-one : {s : ℤ} {e : ℕ} {r t : Ratio} → 0 < e → LowestTerms s e r → LowestTerms s e t → r ≡ t
