@@ -24,7 +24,7 @@ use Rattle.exact.specs.declared.codes.InCodes.{InCodes}
 use Rattle.exact.proofs.Fractions as Fractions
 use Rattle.exact.proofs.CodeValues as CodeValues
 use Rattle.placing.specs.Shown.{Summed}
-use Rattle.facts.specs.Told.{Known, Told}
+use Rattle.facts.specs.Told.{KnownDepths, Told}
 use Rattle.facts.specs.declared.told.Facts.{Facts}
 
 -- ---- a sum over what is full on an axis
@@ -40,7 +40,8 @@ module _ {p m : ℕ} {axis : Axis} (fits : AxisFits axis) (coded : Codable p axi
     pub value-most : {v : InCodes} → CodeValue s (axis .full) m v → natAbs (v .whole .0) ≤ 1_099_511_627_776
     value-most value = omega (arith, CodeValues.whole-most (coded .wide) value 1000 within, coded .deepest)
 
-    pub within-bounds : {code : ℕ} {f : Facts} → f .sum .0 ≡ s → f .over ≡ axis .full → LowestTerms s (axis .full) (f .lowest) → CodeValue s (axis .full) m (f .value)
+    pub within-bounds : {code : ℕ} {f : Facts} → f .sum .0 ≡ s → f .over ≡ axis .full → LowestTerms s (axis .full) (f .lowest)
+        → CodeValue s (axis .full) m (f .value)
         → f .settled ≡ settledAs s (axis .full) (f .value .rest) (f .value .unit) → Apart code (f .value) (f .distance) → Told s (axis .full) m code f
     within-bounds sum over lowest value settled distance = record {
       sum = sum;
@@ -58,7 +59,7 @@ module _ {p m : ℕ} {axis : Axis} (fits : AxisFits axis) (coded : Codable p axi
 
 -- ---- a colour's line of a plan
 
-module _ {d : Description} {table : List ℤ} {depths : Depths} {shares : Shares} (summed : Summed d table depths shares) (known : Known depths) (c : Colour)
+module _ {d : Description} {table : List ℤ} {depths : Depths} {shares : Shares} (summed : Summed d table depths shares) (known : KnownDepths depths) (c : Colour)
     {plan : Plan} (made : plan ≡ planOf d depths) {line : Line} (drawn : line ≡ lineOf plan c) where
   abbrev planned : Planned plan table
   planned = Plans.planned d (known .0) (summed .could) (known .1) made

@@ -18,8 +18,8 @@ use Rattle.facts.specs.declared.parts.Parts.{Parts}
 use Rattle.facts.specs.declared.told.Facts.{Facts}
 
 -- depths that are found by their bits
-abbrev pub Known : Depths → Type 0
-Known depths = (bits : Bits) × (depthsOf bits ≡ Both depths)
+abbrev pub KnownDepths : Depths → Type 0
+KnownDepths depths = (bits : Bits) × (depthsOf bits ≡ Both depths)
 
 -- of an exact value s / e, for codes up to m, and of a code
 pub record Told (s : ℤ) (e m code : ℕ) (f : Facts) : Type 0 where
@@ -29,7 +29,7 @@ pub record Told (s : ℤ) (e m code : ℕ) (f : Facts) : Type 0 where
   pub value : CodeValue s e m (f .value)
   pub settled : f .settled ≡ settledAs s e (f .value .rest) (f .value .unit)
   pub distance : Apart code (f .value) (f .distance)
-  -- how great the numbers are: below 2^60, as decimals ask for, and at most 2^40
+  -- what printing asks for: nothing stands over 0 or over 2^60 and more, and the whole is at most 2^40 in size
   pub some : 0 < f .over
   pub over-most : f .over < 1_152_921_504_606_846_976
   pub bottom-most : f .lowest .bottom < 1_152_921_504_606_846_976

@@ -21,7 +21,7 @@ ghost use lib.IntN.{natAbs};
 ghost use Rattle.colour.specs.Places.{AxisFits};
 ghost use Rattle.colour.specs.Adding.{Codable};
 ghost use Rattle.placing.specs.Shown.{Summed};
-ghost use Rattle.facts.specs.Told.{Known, Told, FactsOf};
+ghost use Rattle.facts.specs.Told.{KnownDepths, Told, FactsOf};
 
 pub struct Facts {
     // S.
@@ -67,7 +67,7 @@ pub fn facts_of(
     code: u16,
 ) -> Facts
     requires { ⌜ Summed d (now table) depths shares ⌝ }
-    requires { ⌜ Known depths ⌝ }
+    requires { ⌜ KnownDepths depths ⌝ }
     ensures { λ r. ⌜ FactsOf d (now (table .entry)) depths shares c code r ⌝ }
 {
     let sum = total_of(d, table, depths, shares, c);
