@@ -3,3 +3,5 @@ mod Ahead
 mod Counting
 mod Failing
 pub mod Inside
+-- What a refusal points at lies on its line.
+pub mod OnItsLine
