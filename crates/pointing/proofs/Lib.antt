@@ -5,3 +5,8 @@ mod Failing
 pub mod Inside
 -- What a refusal points at lies on its line.
 pub mod OnItsLine
+pub mod Meant
+mod WordPlaces
+mod Falls
+mod Wrongs
+pub mod ToThePoint

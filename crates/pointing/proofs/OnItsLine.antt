@@ -1,10 +1,10 @@
 -- What a refusal points at lies on the line that it names: the line is one of the file's, its bytes stand where the definition puts it, and the spot lies between its first byte and its end.
 use Prim.Native.Nat.{ℕ, zero, suc, _+_, _-_, _≤_, _<_}
-use mathlib.Core.Path.{_≡_, refl, sym, ap, _∙_}
+use mathlib.Core.Path.{_≡_, refl, ap, _∙_}
 use mathlib.Core.List.{List, [], _∷_, _++_}
 use native.Mathlib.Omega.{arith}
 use lib.ListN.{length, getD, take, drop, length-append}
-use lib.Seq.{take-at, drop-append-add, getD-at}
+use lib.Seq.{take-at, drop-append-add}
 use Rattle.rules.specs.Answers.{refusalNumber}
 use Rattle.rules.specs.Reading.{read}
 use Rattle.rules.specs.Reading.Judge.{start}
