@@ -10,13 +10,12 @@ use Rattle.rules.specs.Reading.Lines.{lineLimit, permitted, blank, numberByte, 
 use Rattle.rules.specs.Reading.Numerals.{digits, spell}
 use Rattle.rules.specs.Reading.Numbers.{numberOf}
 use Rattle.rules.specs.Reading.Items.{named}
-use Rattle.rules.specs.Reading.Contents.{formOf}
+use Rattle.rules.specs.Reading.Contents.{formOf, formed}
 use Rattle.rules.specs.declared.Form.the-variants.{Data}
 use Rattle.rules.specs.declared.Keyword.{Keyword}
 use Rattle.rules.specs.declared.Keyword.the-variants.{ATitle, ALower, AnUpper, ASize}
 use Rattle.rules.specs.declared.Kind.{Kind}
-use Rattle.rules.specs.declared.Number.{Number}
-use Rattle.rules.specs.declared.Number.the-variants.{Malformed, Beyond, Finer}
+use Rattle.rules.specs.declared.Number.the-variants.{Beyond, Finer}
 use Rattle.rules.specs.declared.Refusal.{Refusal}
 use Rattle.rules.specs.declared.Refusal.the-variants.{LineTooLong, ByteNotPermitted, NeitherDataNorKeyword, KeywordAfterData, KeywordRepeated, ParametersWrong, SizeOutOfRange, DomainNumberWrong, NoSize, LowerNotBelowUpper, DomainTooWide, DomainsDiffer, TooLittleRoom, TooManyRows, NotThreeNumbers, SampleBeyond, SampleTooFine, TooFewRows, HalfADomain, DepthUnknown, PictureNotPixels, OutputTooShort, CodeTooGreat, CouldNotBeRead, RowsOrWeightsWrong, TitleNotPlain, NoneWithinTolerance, InputTooLong}
 use Rattle.pointing.specs.Pointing.{isValue}
@@ -82,15 +81,28 @@ AKeyword = AWord (λ ahead w. (ahead ≡ []) × ((k : Keyword) × (w ≡ named k
 
 -- ---- 6, 7 and 8: a keyword's parameters; 15, 16 and 17: a row's samples
 
--- past the first words of the line, so many as `skip`, it has not just `count` words that are right: the spot is a wrong one of them, the line's end where one is missing, or the one too many
-pub data Amiss (Wrong : List ℕ → Type 0) (skip count : ℕ) (p : ℕ) (l : List ℕ) (s : Spot) : Type 0 where
-  a-wrong-one : AWord (λ ahead w. (skip ≤ length ahead) × (length ahead < skip + count) × Wrong w) p l s → Amiss Wrong skip count p l s
-  one-missing : length (wordsOf l) < skip + count → LineEnd p l s → Amiss Wrong skip count p l s
-  one-too-many : AWord (λ ahead w. length ahead ≡ skip + count) p l s → Amiss Wrong skip count p l s
+-- a test comes out true of each word of a list
+abbrev pub All : (List ℕ → Bool) → List (List ℕ) → Type 0
+All test [] = Unit
+All test (w ∷ ws) = (test w ≡ true) × All test ws
 
--- no number by its form
-abbrev pub NoNumber : ℕ → ℕ → List ℕ → Type 0
-NoNumber places limit w = numberOf places limit w ≡ Malformed
+-- one of `count` words past the line's first `skip`, with right ones alone between those and it; something holds of it
+abbrev pub OneOf : (List ℕ → Bool) → ℕ → ℕ → (List ℕ → Type 0) → ℕ → List ℕ → Spot → Type 0
+OneOf right skip count Holds = AWord (λ ahead w. (skip ≤ length ahead) × (length ahead < skip + count) × All right (drop skip ahead) × Holds w)
+
+-- not just `count` words that are right stand past the first `skip`: the spot is the first wrong one; or, where those that are there are right, the line's end in place of the one that is missing, or the one too many
+pub data Amiss (right : List ℕ → Bool) (skip count : ℕ) (p : ℕ) (l : List ℕ) (s : Spot) : Type 0 where
+  a-wrong-one : OneOf right skip count (λ w. right w ≡ false) p l s → Amiss right skip count p l s
+  one-missing : length (wordsOf l) < skip + count → All right (drop skip (wordsOf l)) → LineEnd p l s → Amiss right skip count p l s
+  one-too-many : AWord (λ ahead w. (length ahead ≡ skip + count) × All right (drop skip ahead)) p l s → Amiss right skip count p l s
+
+-- a number by its form
+abbrev pub isNumber : ℕ → ℕ → List ℕ → Bool
+isNumber places limit w = formed (numberOf places limit w)
+
+-- a number within the limit and a multiple of the unit
+abbrev pub hasValue : ℕ → ℕ → List ℕ → Bool
+hasValue places limit w = isValue (numberOf places limit w)
 
 -- past the keyword and the blanks after it the spot is all that is left of the line, and that is no quote, text, quote and blanks
 pub record TitleAmiss (p : ℕ) (l : List ℕ) (s : Spot) : Type 0 where
@@ -104,32 +116,17 @@ pub record TitleAmiss (p : ℕ) (l : List ℕ) (s : Spot) : Type 0 where
 -- by the keyword: a title; a domain, of three numbers; a size, of one word with digits alone
 pub data ParametersAmiss (p : ℕ) (l : List ℕ) (s : Spot) : Type 0 where
   of-title : FirstIs ATitle l → TitleAmiss p l s → ParametersAmiss p l s
-  of-lower : FirstIs ALower l → Amiss (NoNumber boundPlaces boundLimit) 1 3 p l s → ParametersAmiss p l s
-  of-upper : FirstIs AnUpper l → Amiss (NoNumber boundPlaces boundLimit) 1 3 p l s → ParametersAmiss p l s
-  of-size : (k : Kind) → FirstIs (ASize k) l → Amiss (λ w. digits w ≡ false) 1 1 p l s → ParametersAmiss p l s
+  of-lower : FirstIs ALower l → Amiss (isNumber boundPlaces boundLimit) 1 3 p l s → ParametersAmiss p l s
+  of-upper : FirstIs AnUpper l → Amiss (isNumber boundPlaces boundLimit) 1 3 p l s → ParametersAmiss p l s
+  of-size : (k : Kind) → FirstIs (ASize k) l → Amiss digits 1 1 p l s → ParametersAmiss p l s
 
 -- a size's only parameter: digits alone, and N by them is out of the kind's range
 abbrev pub OutOfRange : List (List ℕ) → List ℕ → Type 0
 OutOfRange ahead w = (k : Kind) × (ahead ≡ named (ASize k) ∷ []) × (digits w ≡ true) × (inRange k (spell 0 w) ≡ false)
 
--- a test comes out true of each word of a list
-abbrev pub All : (List ℕ → Bool) → List (List ℕ) → Type 0
-All test [] = Unit
-All test (w ∷ ws) = (test w ≡ true) × All test ws
-
--- each is a number within the limit and a multiple of the unit
-abbrev pub AllValues : ℕ → ℕ → List (List ℕ) → Type 0
-AllValues places limit = All (λ w. isValue (numberOf places limit w))
-
--- one of a domain's three numbers, with values ahead of it; it is beyond the limit or no multiple of the unit
-abbrev pub BoundAmiss : List (List ℕ) → List ℕ → Type 0
-BoundAmiss ahead w =
-    (vs : List (List ℕ)) × ((ahead ≡ named ALower ∷ vs) ⊎ (ahead ≡ named AnUpper ∷ vs)) × (length vs < 3) × AllValues boundPlaces boundLimit vs
-    × ((numberOf boundPlaces boundLimit w ≡ Beyond) ⊎ (numberOf boundPlaces boundLimit w ≡ Finer))
-
--- one of a row's three samples, with values ahead of it; it is beyond the limit, or within it and no multiple of the unit
-abbrev pub SampleAmiss : Number → List (List ℕ) → List ℕ → Type 0
-SampleAmiss found ahead w = (length ahead < 3) × AllValues samplePlaces sampleLimit ahead × (numberOf samplePlaces sampleLimit w ≡ found)
+-- a number of a domain beyond the limit, or within it and no multiple of the unit
+abbrev pub NoBound : List ℕ → Type 0
+NoBound w = (numberOf boundPlaces boundLimit w ≡ Beyond) ⊎ (numberOf boundPlaces boundLimit w ≡ Finer)
 
 -- ---- 9, 19 and 10 to 14: where a data line stands
 
@@ -153,7 +150,7 @@ Meant KeywordAfterData file p l s = AKeyword p l s
 Meant KeywordRepeated file p l s = AKeyword p l s
 Meant ParametersWrong file p l s = ParametersAmiss p l s
 Meant SizeOutOfRange file p l s = (length (wordsOf l) ≡ 2) × AWord OutOfRange p l s
-Meant DomainNumberWrong file p l s = AWord BoundAmiss p l s
+Meant DomainNumberWrong file p l s = (FirstIs ALower l ⊎ FirstIs AnUpper l) × OneOf (hasValue boundPlaces boundLimit) 1 3 NoBound p l s
 Meant NoSize file p l s = RowOrEnd file p l s
 Meant HalfADomain file p l s = RowOrEnd file p l s
 Meant LowerNotBelowUpper file p l s = RowOrEnd file p l s
@@ -161,9 +158,9 @@ Meant DomainTooWide file p l s = RowOrEnd file p l s
 Meant DomainsDiffer file p l s = RowOrEnd file p l s
 Meant TooLittleRoom file p l s = RowOrEnd file p l s
 Meant TooManyRows file p l s = WholeRow p l s
-Meant NotThreeNumbers file p l s = Amiss (NoNumber samplePlaces sampleLimit) 0 3 p l s
-Meant SampleBeyond file p l s = AWord (SampleAmiss Beyond) p l s
-Meant SampleTooFine file p l s = AWord (SampleAmiss Finer) p l s
+Meant NotThreeNumbers file p l s = Amiss (isNumber samplePlaces sampleLimit) 0 3 p l s
+Meant SampleBeyond file p l s = OneOf (hasValue samplePlaces sampleLimit) 0 3 (λ w. numberOf samplePlaces sampleLimit w ≡ Beyond) p l s
+Meant SampleTooFine file p l s = OneOf (hasValue samplePlaces sampleLimit) 0 3 (λ w. numberOf samplePlaces sampleLimit w ≡ Finer) p l s
 Meant TooFewRows file p l s = FileEnd file s
 Meant DepthUnknown file p l s = ⊥
 Meant PictureNotPixels file p l s = ⊥

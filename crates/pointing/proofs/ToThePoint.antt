@@ -8,8 +8,8 @@ use mathlib.Core.Option.{Option, none, some}
 use native.Mathlib.Omega.{arith}
 use borrow.Author.Tests.{leb-false, le-leb, eq-eqb}
 use lib.Dec.{leb}
-use lib.ListN.{length, getD, take, drop, length-append, length-drop, take-append-drop}
-use lib.Seq.{length-take-le, take-at, drop-at, getD-at, drop-drop}
+use lib.ListN.{length, getD, take, drop, length-append, take-append-drop}
+use lib.Seq.{take-at, drop-at, getD-at, drop-drop}
 use Rattle.rules.specs.Answers.{refusalNumber}
 use Rattle.rules.specs.Demands.{isData}
 use Rattle.rules.specs.Units.{samplePlaces, sampleLimit, boundPlaces, boundLimit}
@@ -19,7 +19,7 @@ use Rattle.rules.specs.Reading.Numerals.{digits}
 use Rattle.rules.specs.Reading.Numbers.{numberOf}
 use Rattle.rules.specs.Reading.Items.{named}
 use Rattle.rules.specs.Reading.Grammar.{Lines}
-use Rattle.rules.specs.Reading.Contents.{formed, formOf, wordForm, keywordForm, keywordOf, parameters, contentBy, contentOf, titleOf, boundsOf, boundsAt, rowOf, samplesOn, sizeOf}
+use Rattle.rules.specs.Reading.Contents.{formOf, wordForm, keywordForm, keywordOf, parameters, contentBy, contentOf, titleOf, boundsOf, boundsAt, rowOf, samplesOn, sizeOf}
 use Rattle.rules.specs.Reading.Judge.{State, start, judge, refuse, byteFault, orderFault, headFault, endFault}
 use Rattle.rules.specs.declared.Bounds.{Bounds}
 use Rattle.rules.specs.declared.Content.the-variants.{Wrong}
@@ -31,7 +31,7 @@ use Rattle.rules.specs.declared.Keyword.{Keyword}
 use Rattle.rules.specs.declared.Keyword.the-variants.{ATitle, ALower, AnUpper, ASize}
 use Rattle.rules.specs.declared.Kind.{Kind}
 use Rattle.rules.specs.declared.Number.{Number}
-use Rattle.rules.specs.declared.Number.the-variants.{Value, Malformed, Beyond, Finer}
+use Rattle.rules.specs.declared.Number.the-variants.{Beyond, Finer}
 use Rattle.rules.specs.declared.Read.the-variants.{Refused}
 use Rattle.rules.specs.declared.Refusal.{Refusal}
 use Rattle.rules.specs.declared.Refusal.the-variants.{LineTooLong, ByteNotPermitted, NeitherDataNorKeyword, KeywordAfterData, KeywordRepeated, ParametersWrong, SizeOutOfRange, DomainNumberWrong, NoSize, LowerNotBelowUpper, DomainTooWide, DomainsDiffer, TooLittleRoom, TooManyRows, NotThreeNumbers, SampleBeyond, SampleTooFine, TooFewRows, HalfADomain}
@@ -46,41 +46,13 @@ use Rattle.pointing.specs.Pointing.{part, endSpot, wordSpot, byteSpot, i
 use Rattle.pointing.specs.declared.aims.Aim.{Aim}
 use Rattle.pointing.specs.declared.aims.Aim.the-variants as A
 use Rattle.pointing.specs.declared.spots.Spot.{Spot}
-use Rattle.pointing.specs.declared.words.Wanted.{Wanted}
 use Rattle.pointing.specs.declared.words.Wanted.the-variants as W
 use Rattle.pointing.proofs.Inside.{start-inside}
 use Rattle.pointing.proofs.OnItsLine.{lineOf, lineStart, OnItsLine, numbered, last-ends, pointed-so, on-its-line}
-use Rattle.pointing.proofs.Meant.{Parts, AWord, FileEnd, FirstIs, Forbidden, Unknown, unknown-word, blanks-alone, AKeyword, Amiss, a-wrong-one, one-missing, one-too-many, NoNumber, ParametersAmiss, of-title, of-lower, of-upper, of-size, OutOfRange, All, AllValues, SampleAmiss, WholeRow, RowOrEnd, whole-row, file-end, Meant}
-use Rattle.pointing.proofs.WordPlaces.{at, Between, start-between, start-words, Step, step, spot-none, none-ahead, first-passed}
-use Rattle.pointing.proofs.Falls.{following, AllRight, passed, Falls, on-wrong, on-missing, behind, all-right, falls, reaches}
-use Rattle.pointing.proofs.Wrongs.{none-is, need-is, head-is, first-is, unless-is, taken-wrong, says-wrong, wrong-same, quoted-wrong, unquoted, AllFormed, NoThree, by-form, by-beyond, by-finer, values-wrong, NoSizeIn, by-digits, by-range, size-wrong}
-
--- ---- words that are amiss
-
--- a test with the same answers
-all-same : (f g : List ℕ → Bool) → ((w : List ℕ) → f w ≡ g w) → (ws : List (List ℕ)) → All f ws → All g ws
-all-same f g e [] h = tt
-all-same f g e (w ∷ ws) h = (sym (e w) ∙ h .0, all-same f g e ws (h .1))
-
--- where the words past a place are not just so many that are right, the first wrong one is amiss
-amiss : (Wrongly : List ℕ → Type 0) (wanted : Wanted) (skip count p : ℕ) (l : List ℕ) (q : ℕ) → Between l q → passed l q ≡ skip → ((w : List ℕ) → right wanted w ≡ false → Wrongly w)
-    → (length (wordsOf (drop q l)) ≡ count → AllRight wanted (wordsOf (drop q l)) → ⊥) → Amiss Wrongly skip count p l (at p (firstWrong wanted count l q))
-amiss Wrongly wanted skip count p l q b n so not-all = by (falls wanted count p l q b)
-  where
-    counted : length (wordsOf l) ≡ skip + length (wordsOf (drop q l))
-    counted = ap length (b .apart) ∙ length-append (wordsOf (take q l)) (wordsOf (drop q l)) ∙ ap (λ (k : ℕ). k + length (wordsOf (drop q l))) n
-
-    by : {s : Spot} → Falls wanted count p l q s → Amiss Wrongly skip count p l s
-    by (on-wrong a) = a-wrong-one (following (λ ahead w h. (omega (arith, h .0, n), omega (arith, h .1, n), so w (h .2))) a)
-    by (on-missing k e) = one-missing (omega (arith, k, counted)) e
-    by (behind a) = one-too-many (following (λ ahead w h. omega (arith, h, n)) a)
-    by (all-right k all e) = absurd (not-all k all)
-
-malformed : (x : Number) → formed x ≡ false → x ≡ Malformed
-malformed (Value v) h = absurd (no-true h)
-malformed Malformed h = refl
-malformed Beyond h = absurd (no-true h)
-malformed Finer h = absurd (no-true h)
+use Rattle.pointing.proofs.Meant.{Parts, FileEnd, FirstIs, Forbidden, Unknown, unknown-word, blanks-alone, AKeyword, All, OneOf, Amiss, isNumber, hasValue, ParametersAmiss, of-title, of-lower, of-upper, of-size, OutOfRange, NoBound, WholeRow, RowOrEnd, whole-row, file-end, Meant}
+use Rattle.pointing.proofs.WordPlaces.{at, rest-parts, Between, start-between, start-words, Step, step, spot-none, none-ahead, first-passed}
+use Rattle.pointing.proofs.Falls.{amiss, one-of}
+use Rattle.pointing.proofs.Wrongs.{none-is, need-is, head-is, first-is, unless-is, taken-wrong, says-wrong, wrong-same, quoted-wrong, unquoted, NoThree, by-form, by-beyond, by-finer, values-wrong, NoSizeIn, by-digits, by-range, size-wrong}
 
 no-data : (f : Form) → isData f ≡ false → f ≡ Data → ⊥
 no-data f h e = no-true (ap isData (sym e) ∙ h)
@@ -95,14 +67,7 @@ module _ (file : List ℕ) (p : ℕ) (l : List ℕ) where
   unfolding spotIn
   too-long long =
       let n : lineLimit < length l = leb-false (length l) lineLimit long in
-      rw long (record {
-        longer = n;
-        parts = record {
-          line = sym (take-append-drop lineLimit l) ∙ ap (λ (x : List ℕ). take lineLimit l ++ x) (sym (append-nil (drop lineLimit l)));
-          place = omega (arith, length-take-le lineLimit l (omega (arith, n)));
-          long = sym (length-drop lineLimit l);
-        };
-      })
+      rw long (record { longer = n; parts = rest-parts p l lineLimit (omega (arith, n)) })
 
   module _ (short : leb (length l) lineLimit ≡ true) where
     to : (r : Refusal) (aim : Aim) → aimOf (refusalNumber r) ≡ aim → Meant r file p l (at p (aimedIn aim l)) → Is r
@@ -188,7 +153,7 @@ module _ (file : List ℕ) (p : ℕ) (l : List ℕ) where
       unfolding parameters
       parameters-past = rw (first-is-keyword .1) (sym (first-step .next))
 
-      one-passed : passed l q ≡ 1
+      one-passed : length (wordsOf (take q l)) ≡ 1
       one-passed = ap length (first-passed l (named k) (first-is-keyword .0) first-step)
 
       parameters-wrong : ParametersAmiss p l (at p (parameterSpot (Keyed k) l q)) → Is ParametersWrong
@@ -200,103 +165,90 @@ module _ (file : List ℕ) (p : ℕ) (l : List ℕ) where
     title-is form b r g = subst Is (quoted-wrong _ _ r g) (parameters-wrong ATitle form (of-title (first-is-keyword ATitle form) (record {
       before = take (wordStart l q) l;
       text = drop (wordStart l q) l;
-      parts = record {
-        line = sym (take-append-drop (wordStart l q) l) ∙ ap (λ (x : List ℕ). take (wordStart l q) l ++ x) (sym (append-nil _));
-        place = omega (arith, length-take-le (wordStart l q) l inside);
-        long = sym (length-drop (wordStart l q) l);
-      };
-      keyword = start-words l q (first-step ATitle form .between .inside) ∙ first-passed l (named ATitle) _ (first-step ATitle form);
+      parts = rest-parts p l (wordStart l q) (start-inside l q inside);
+      keyword = start-words l q inside ∙ first-passed l (named ATitle) _ (first-step ATitle form);
       from-word = ap (starts blank) text-so ∙ after-stops blank _;
       unquoted = λ title trail t s so. unquoted _ _ r g title trail t s (sym text-so ∙ so);
     })))
       where
-        inside : wordStart l q ≤ length l
-        inside = start-inside l q (first-step ATitle form .between .inside)
+        inside : q ≤ length l
+        inside = first-step ATitle form .between .inside
 
         text-so : drop (wordStart l q) l ≡ after blank (after inWord (after blank l))
         text-so = drop-to-end blank l q ∙ ap (after blank) (drop-to-end inWord l (wordStart l 0) ∙ ap (after inWord) (drop-to-end blank l 0))
 
-    bound-form : (w : List ℕ) → right W.BoundForm w ≡ formed (numberOf boundPlaces boundLimit w)
+    bound-form : (w : List ℕ) → right W.BoundForm w ≡ isNumber boundPlaces boundLimit w
     unfolding right
     bound-form w = refl
 
-    bound-value : (w : List ℕ) → right W.BoundValue w ≡ isValue (numberOf boundPlaces boundLimit w)
+    bound-value : (w : List ℕ) → right W.BoundValue w ≡ hasValue boundPlaces boundLimit w
     unfolding right
     bound-value w = refl
 
-    -- three numbers of which one has no value
-    bound-amiss : (k : Keyword) (form : formOf l ≡ Keyed k) → ((k ≡ ALower) ⊎ (k ≡ AnUpper)) → (vs : List (List ℕ)) (w : List ℕ) (us : List (List ℕ)) → wordsOf (drop q l) ≡ vs ++ (w ∷ us) → length vs < 3
-        → AllValues boundPlaces boundLimit vs → isValue (numberOf boundPlaces boundLimit w) ≡ false
-        → ((numberOf boundPlaces boundLimit w ≡ Beyond) ⊎ (numberOf boundPlaces boundLimit w ≡ Finer)) → Is DomainNumberWrong
-    unfolding aimOf refusalNumber aimedIn
-    bound-amiss k form side vs w us left n all no-value off = to DomainNumberWrong A.BoundValue refl
-        (following (λ ahead v h. (vs, by side (h .0 ∙ ap (λ (xs : List (List ℕ)). xs ++ vs) (first-passed l (named k) _ (first-step k form))), n, all, subst (λ (x : List ℕ). (numberOf boundPlaces boundLimit x ≡ Beyond) ⊎ (numberOf boundPlaces boundLimit x ≡ Finer)) (sym (h .1)) off))
-        (reaches W.BoundValue 3 p l q vs w us (first-step k form .between) left (all-same _ (right W.BoundValue) (λ v. sym (bound-value v)) vs all) n (bound-value w ∙ no-value)))
-      where
-        by : ((k ≡ ALower) ⊎ (k ≡ AnUpper)) → {ahead : List (List ℕ)} → ahead ≡ named k ∷ vs → (ahead ≡ named ALower ∷ vs) ⊎ (ahead ≡ named AnUpper ∷ vs)
-        by (inl e) a = inl (a ∙ ap (λ (x : Keyword). named x ∷ vs) e)
-        by (inr e) a = inr (a ∙ ap (λ (x : Keyword). named x ∷ vs) e)
-
-    bounds-is : (k : Keyword) (form : formOf l ≡ Keyed k) (side : (k ≡ ALower) ⊎ (k ≡ AnUpper)) (item : Bounds → Item) (r : Refusal)
-        → (Amiss (NoNumber boundPlaces boundLimit) 1 3 p l (at p (firstWrong W.BoundForm 3 l q)) → Is ParametersWrong) → boundsOf item (parameters (wordsOf l)) ≡ Wrong r → Is r
-    unfolding boundsOf
-    bounds-is k form side item r made g =
+    bounds-is : (k : Keyword) (form : formOf l ≡ Keyed k) (item : Bounds → Item) (r : Refusal) → (FirstIs ALower l ⊎ FirstIs AnUpper l)
+        → (Amiss (isNumber boundPlaces boundLimit) 1 3 p l (at p (firstWrong W.BoundForm 3 l q)) → ParametersAmiss p l (at p (parameterSpot (Keyed k) l q)))
+        → boundsOf item (parameters (wordsOf l)) ≡ Wrong r → Is r
+    unfolding boundsOf aimOf refusalNumber aimedIn
+    bounds-is k form item r side made g =
         by (values-wrong ParametersWrong DomainNumberWrong DomainNumberWrong boundPlaces boundLimit r (λ x y z. item (boundsAt x y z)) (wordsOf (drop q l)) (rw (parameters-past k form) at g))
       where
+        between : Between l q
+        between = first-step k form .between
+
+        no-bound : (vs : List (List ℕ)) (w : List ℕ) (us : List (List ℕ)) → wordsOf (drop q l) ≡ vs ++ (w ∷ us) → length vs < 3 → All (hasValue boundPlaces boundLimit) vs
+            → hasValue boundPlaces boundLimit w ≡ false → NoBound w → Is DomainNumberWrong
+        no-bound vs w us so n all wrong off =
+            to DomainNumberWrong A.BoundValue refl (side, one-of (hasValue boundPlaces boundLimit) W.BoundValue bound-value 1 3 p l q between (one-passed k form) NoBound vs w us so n all wrong off)
+
         by : NoThree ParametersWrong DomainNumberWrong DomainNumberWrong boundPlaces boundLimit (wordsOf (drop q l)) r → Is r
-        by (by-form e not-all) = subst Is e (made (amiss (NoNumber boundPlaces boundLimit) W.BoundForm 1 3 p l q (first-step k form .between) (one-passed k form) (λ w h. malformed (numberOf boundPlaces boundLimit w) (sym (bound-form w) ∙ h)) (λ n all. not-all n (all-same (right W.BoundForm) (λ w. formed (numberOf boundPlaces boundLimit w)) bound-form (wordsOf (drop q l)) all))))
-        by (by-beyond vs w us e so n all off) = subst Is e (bound-amiss k form side vs w us so n all (ap isValue off) (inl off))
-        by (by-finer vs w us e so n all off) = subst Is e (bound-amiss k form side vs w us so n all (ap isValue off) (inr off))
+        by (by-form e not-all) = subst Is e (parameters-wrong k form (made (amiss (isNumber boundPlaces boundLimit) W.BoundForm bound-form 1 3 p l q between (one-passed k form) not-all)))
+        by (by-beyond vs w us e so n all off) = subst Is e (no-bound vs w us so n all (ap isValue off) (inl off))
+        by (by-finer vs w us e so n all off) = subst Is e (no-bound vs w us so n all (ap isValue off) (inr off))
 
     size-is : (k : Kind) (form : formOf l ≡ Keyed (ASize k)) (r : Refusal) → sizeOf k (parameters (wordsOf l)) ≡ Wrong r → Is r
     unfolding aimOf refusalNumber aimedIn right
     size-is k form r g = by (size-wrong k (wordsOf (drop q l)) r (rw (parameters-past (ASize k) form) at g))
       where
-        between : Between l q
-        between = first-step (ASize k) form .between
+        first : FirstIs (ASize k) l
+        first = first-is-keyword (ASize k) form
 
-        not-one : (ws : List (List ℕ)) → (length ws ≡ 1 → (w : List ℕ) (vs : List (List ℕ)) → ws ≡ w ∷ vs → digits w ≡ true → ⊥) → length ws ≡ 1 → AllRight W.Digits ws → ⊥
-        not-one [] f n all = omega arith
-        not-one (w ∷ vs) f n all = f n w vs refl (all .0)
+        st : Step l 0 (named (ASize k)) (first .0)
+        st = first-step (ASize k) form
 
         by : NoSizeIn k (wordsOf (drop q l)) r → Is r
-        by (by-digits e wrong) = subst Is e (parameters-wrong (ASize k) form (of-size k (first-is-keyword (ASize k) form) (amiss (λ w. digits w ≡ false) W.Digits 1 1 p l q between (one-passed (ASize k) form) (λ w h. h) (not-one _ wrong))))
+        by (by-digits e not-all) = subst Is e (parameters-wrong (ASize k) form (of-size k first (amiss digits W.Digits (λ w. refl) 1 1 p l q (st .between) (one-passed (ASize k) form) not-all)))
         by (by-range w e so d i) = subst Is e (to SizeOutOfRange A.SecondWord refl (
-          ap length (first-is-keyword (ASize k) form .1) ∙ ap (λ (ws : List (List ℕ)). suc (length ws)) (sym (first-step (ASize k) form .next) ∙ so),
-          step l q w [] between so .is-word OutOfRange p (k, first-passed l _ _ (first-step (ASize k) form), d, i),
+          ap length (first .1) ∙ ap (λ (ws : List (List ℕ)). suc (length ws)) (sym (st .next) ∙ so),
+          step l q w [] (st .between) so .is-word OutOfRange p (k, first-passed l _ _ st, d, i),
         ))
 
     -- ---- a row's samples
 
-    sample-form : (w : List ℕ) → right W.SampleForm w ≡ formed (numberOf samplePlaces sampleLimit w)
+    sample-form : (w : List ℕ) → right W.SampleForm w ≡ isNumber samplePlaces sampleLimit w
     unfolding right
     sample-form w = refl
 
-    sample-value : (w : List ℕ) → right W.SampleValue w ≡ isValue (numberOf samplePlaces sampleLimit w)
+    sample-value : (w : List ℕ) → right W.SampleValue w ≡ hasValue samplePlaces sampleLimit w
     unfolding right
     sample-value w = refl
-
-    not-three : (length (wordsOf l) ≡ 3 → AllFormed samplePlaces sampleLimit (wordsOf l) → ⊥) → Is NotThreeNumbers
-    unfolding aimOf refusalNumber aimedIn
-    not-three not-all = to NotThreeNumbers A.SampleForm refl
-        (amiss (NoNumber samplePlaces sampleLimit) W.SampleForm 0 3 p l 0 (start-between l) (ap length (none-ahead l)) (λ w h. malformed _ (sym (sample-form w) ∙ h))
-        (λ n all. not-all n (all-same (right W.SampleForm) (λ w. formed (numberOf samplePlaces sampleLimit w)) sample-form (wordsOf l) all)))
-
-    sample-amiss : (found : Number) (vs : List (List ℕ)) (w : List ℕ) (us : List (List ℕ)) → isValue found ≡ false → wordsOf l ≡ vs ++ (w ∷ us) → length vs < 3
-        → AllValues samplePlaces sampleLimit vs → numberOf samplePlaces sampleLimit w ≡ found → AWord (SampleAmiss found) p l (at p (firstWrong W.SampleValue 3 l 0))
-    sample-amiss found vs w us no-value so n all off =
-        following (λ ahead v h. let e : ahead ≡ vs = h .0 ∙ ap (λ (xs : List (List ℕ)). xs ++ vs) (none-ahead l) in
-        (omega (arith, ap length e, n), subst (AllValues samplePlaces sampleLimit) (sym e) all, ap (numberOf samplePlaces sampleLimit) (h .1) ∙ off))
-        (reaches W.SampleValue 3 p l 0 vs w us (start-between l) so (all-same _ (right W.SampleValue) (λ v. sym (sample-value v)) vs all) n (sample-value w ∙ ap isValue off ∙ no-value))
 
     samples-is : (r : Refusal) → samplesOn (wordsOf l) ≡ Wrong r → Is r
     unfolding samplesOn aimOf refusalNumber aimedIn
     samples-is r g = by (values-wrong NotThreeNumbers SampleBeyond SampleTooFine samplePlaces sampleLimit r (λ x y z. OfRow (rowOf x y z)) (wordsOf l) g)
       where
+        none-passed : length (wordsOf (take 0 l)) ≡ 0
+        none-passed = ap length (none-ahead l)
+
+        no-sample : (found : Number) (vs : List (List ℕ)) (w : List ℕ) (us : List (List ℕ)) → isValue found ≡ false → wordsOf l ≡ vs ++ (w ∷ us) → length vs < 3 → All (hasValue samplePlaces sampleLimit) vs
+            → numberOf samplePlaces sampleLimit w ≡ found
+            → OneOf (hasValue samplePlaces sampleLimit) 0 3 (λ v. numberOf samplePlaces sampleLimit v ≡ found) p l (at p (firstWrong W.SampleValue 3 l 0))
+        no-sample found vs w us wrong so n all off =
+            one-of (hasValue samplePlaces sampleLimit) W.SampleValue sample-value 0 3 p l 0 (start-between l) none-passed (λ v. numberOf samplePlaces sampleLimit v ≡ found) vs w us so n all (ap isValue off ∙ wrong) off
+
         by : NoThree NotThreeNumbers SampleBeyond SampleTooFine samplePlaces sampleLimit (wordsOf l) r → Is r
-        by (by-form e not-all) = subst Is e (not-three not-all)
-        by (by-beyond vs w us e so n all off) = subst Is e (to SampleBeyond A.SampleValue refl (sample-amiss Beyond vs w us refl so n all off))
-        by (by-finer vs w us e so n all off) = subst Is e (to SampleTooFine A.SampleValue refl (sample-amiss Finer vs w us refl so n all off))
+        by (by-form e not-all) = subst Is e (to NotThreeNumbers A.SampleForm refl (amiss (isNumber samplePlaces sampleLimit) W.SampleForm sample-form 0 3 p l 0 (start-between l) none-passed not-all))
+        by (by-beyond vs w us e so n all off) = subst Is e (to SampleBeyond A.SampleValue refl (no-sample Beyond vs w us refl so n all off))
+        by (by-finer vs w us e so n all off) = subst Is e (to SampleTooFine A.SampleValue refl (no-sample Finer vs w us refl so n all off))
 
     -- ---- what the line says
 
@@ -307,8 +259,8 @@ module _ (file : List ℕ) (p : ℕ) (l : List ℕ) where
         by : (f : Form) → formOf l ≡ f → contentBy f b l ≡ Wrong r → Is r
         by Idle e h = absurd (says-wrong _ r h)
         by (Keyed ATitle) e h = title-is e b r h
-        by (Keyed ALower) e h = bounds-is ALower e (inl refl) OfLower r (λ a. parameters-wrong ALower e (of-lower (first-is-keyword ALower e) a)) h
-        by (Keyed AnUpper) e h = bounds-is AnUpper e (inr refl) OfUpper r (λ a. parameters-wrong AnUpper e (of-upper (first-is-keyword AnUpper e) a)) h
+        by (Keyed ALower) e h = bounds-is ALower e OfLower r (inl (first-is-keyword ALower e)) (of-lower (first-is-keyword ALower e)) h
+        by (Keyed AnUpper) e h = bounds-is AnUpper e OfUpper r (inr (first-is-keyword AnUpper e)) (of-upper (first-is-keyword AnUpper e)) h
         by (Keyed (ASize k)) e h = size-is k e r h
         by Data e h = samples-is r h
         by Neither e h = subst Is (wrong-same _ r h) (neither e)
@@ -325,7 +277,7 @@ module _ (file : List ℕ) (p : ℕ) (l : List ℕ) where
         head-is Is places st e (row-is h NoSize refl) (row-is h HalfADomain refl) (row-is h LowerNotBelowUpper refl) (row-is h DomainTooWide refl) (row-is h DomainsDiffer refl) (row-is h TooLittleRoom refl)
 
     whole : formOf l ≡ Data → WholeRow p l (at p (rowSpot l))
-    whole form = rw form (record { row = form; parts = record { line = sym (append-nil l); place = refl; long = omega arith } })
+    whole form = rw form (record { row = form; parts = rest-parts p l 0 (omega arith) })
 
     too-many : formOf l ≡ Data → Is TooManyRows
     unfolding aimOf refusalNumber aimedIn

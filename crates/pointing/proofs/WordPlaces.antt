@@ -14,14 +14,22 @@ use Rattle.rules.proofs.Reading.Runs.{after-stops, run-every}
 use Rattle.scan.proofs.Runs.{drop-to-end, take-run}
 use Rattle.text.specs.WordsFrom.{wordStart, wordEnd}
 use Rattle.text.proofs.WordsFrom.{WordFound, words-next, words-none}
-use Rattle.pointing.specs.Pointing.{part, wordSpot}
+use Rattle.pointing.specs.Pointing.{part, restFrom, wordSpot}
 use Rattle.pointing.specs.declared.spots.Spot.{Spot}
 use Rattle.pointing.proofs.Inside.{start-inside, end-inside}
-use Rattle.pointing.proofs.Meant.{AWord, LineEnd}
+use Rattle.pointing.proofs.Meant.{Parts, AWord, LineEnd}
 
 -- a spot of a line that begins at place p of its file
 abbrev pub at : ℕ → Spot → Spot
 at p t = record { place = p + t .place; length = t .length }
+
+-- from a place on to the end of the line
+pub rest-parts : (p : ℕ) (l : List ℕ) (n : ℕ) → n ≤ length l → Parts p l (at p (restFrom l n)) (take n l) (drop n l) []
+rest-parts p l n h = record {
+  line = sym (take-append-drop n l) ∙ ap (λ (x : List ℕ). take n l ++ x) (sym (append-nil (drop n l)));
+  place = omega (arith, length-take-le n l h);
+  long = sym (length-drop n l);
+}
 
 -- ---- the words of two lists put together
 

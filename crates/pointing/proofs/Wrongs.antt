@@ -27,7 +27,7 @@ use Rattle.rules.specs.declared.Three.{Three}
 use Rattle.rules.proofs.Tests.{no-true, no-some}
 use Rattle.rules.proofs.Reading.Runs.{run-append}
 use Rattle.pointing.specs.Pointing.{isValue}
-use Rattle.pointing.proofs.Meant.{All, AllValues}
+use Rattle.pointing.proofs.Meant.{All, isNumber, hasValue}
 
 -- ---- the checks of the judge: what holds of each refusal of a check, and of the refusals past it, holds of the one that is found
 
@@ -90,22 +90,18 @@ unquoted end x r e title trail t s so =
 
 -- ---- three numbers
 
--- each word of a list has the form of a number
-abbrev pub AllFormed : ℕ → ℕ → List (List ℕ) → Type 0
-AllFormed places limit = All (λ w. formed (numberOf places limit w))
-
 -- they are not three words with the form of numbers; or they are, and the first with no value is beyond the limit or no multiple of the unit
 pub data NoThree (unformed beyond finer : Refusal) (places limit : ℕ) (ws : List (List ℕ)) (r : Refusal) : Type 0 where
-  by-form : unformed ≡ r → (length ws ≡ 3 → AllFormed places limit ws → ⊥) → NoThree unformed beyond finer places limit ws r
-  by-beyond : (vs : List (List ℕ)) (w : List ℕ) (us : List (List ℕ)) → beyond ≡ r → ws ≡ vs ++ (w ∷ us) → length vs < 3 → AllValues places limit vs
+  by-form : unformed ≡ r → (length ws ≡ 3 → All (isNumber places limit) ws → ⊥) → NoThree unformed beyond finer places limit ws r
+  by-beyond : (vs : List (List ℕ)) (w : List ℕ) (us : List (List ℕ)) → beyond ≡ r → ws ≡ vs ++ (w ∷ us) → length vs < 3 → All (hasValue places limit) vs
       → numberOf places limit w ≡ Beyond → NoThree unformed beyond finer places limit ws r
-  by-finer : (vs : List (List ℕ)) (w : List ℕ) (us : List (List ℕ)) → finer ≡ r → ws ≡ vs ++ (w ∷ us) → length vs < 3 → AllValues places limit vs
+  by-finer : (vs : List (List ℕ)) (w : List ℕ) (us : List (List ℕ)) → finer ≡ r → ws ≡ vs ++ (w ∷ us) → length vs < 3 → All (hasValue places limit) vs
       → numberOf places limit w ≡ Finer → NoThree unformed beyond finer places limit ws r
 
 module _ (unformed beyond finer : Refusal) (places limit : ℕ) (r : Refusal) where
   -- one of the three, with values ahead of it: it is what is wrong, or it has a value and what follows is wrong
   one-wrong : (x : Number) (w : List ℕ) (vs us ws : List (List ℕ)) (next : ℤ → Content) → numberOf places limit w ≡ x → formed x ≡ true → ws ≡ vs ++ (w ∷ us) → length vs < 3
-      → AllValues places limit vs → valued unformed beyond finer x next ≡ Wrong r
+      → All (hasValue places limit) vs → valued unformed beyond finer x next ≡ Wrong r
       → ((v : ℤ) → isValue (numberOf places limit w) ≡ true → next v ≡ Wrong r → NoThree unformed beyond finer places limit ws r) → NoThree unformed beyond finer places limit ws r
   one-wrong (Value v) w vs us ws next is f e n all g past = past v (rw is) g
   one-wrong Malformed w vs us ws next is f e n all g past = absurd (no-true (sym f))
@@ -145,17 +141,17 @@ module _ (unformed beyond finer : Refusal) (places limit : ℕ) (r : Refusal) wh
 
 -- they are not one word with digits alone; or it is, and N by it is out of range
 pub data NoSizeIn (k : Kind) (ws : List (List ℕ)) (r : Refusal) : Type 0 where
-  by-digits : ParametersWrong ≡ r → (length ws ≡ 1 → (w : List ℕ) → (vs : List (List ℕ)) → ws ≡ w ∷ vs → digits w ≡ true → ⊥) → NoSizeIn k ws r
+  by-digits : ParametersWrong ≡ r → (length ws ≡ 1 → All digits ws → ⊥) → NoSizeIn k ws r
   by-range : (w : List ℕ) → SizeOutOfRange ≡ r → ws ≡ w ∷ [] → digits w ≡ true → inRange k (spell 0 w) ≡ false → NoSizeIn k ws r
 
 pub size-wrong : (k : Kind) (ws : List (List ℕ)) (r : Refusal) → sizeOf k ws ≡ Wrong r → NoSizeIn k ws r
 unfolding sizeOf
-size-wrong k [] r g = by-digits (wrong-same _ r g) (λ n w vs e d. omega arith)
+size-wrong k [] r g = by-digits (wrong-same _ r g) (λ n all. omega arith)
 size-wrong k (w ∷ []) r g = by (digits w) (inRange k (spell 0 w)) refl refl g
   where
     by : (t u : Bool) → digits w ≡ t → inRange k (spell 0 w) ≡ u
         → cond t (cond u (Says (OfSize (record { kind = k; n = spell 0 w }))) (Wrong SizeOutOfRange)) (Wrong ParametersWrong) ≡ Wrong r → NoSizeIn k (w ∷ []) r
     by true true d i h = absurd (says-wrong _ r h)
     by true false d i h = by-range w (wrong-same _ r h) refl d i
-    by false u d i h = by-digits (wrong-same _ r h) (λ n v vs e f. let same : w ≡ v = cc in no-true (sym f ∙ ap digits (sym same) ∙ d))
-size-wrong k (w ∷ v ∷ more) r g = by-digits (wrong-same _ r g) (λ n x vs e d. omega arith)
+    by false u d i h = by-digits (wrong-same _ r h) (λ n all. no-true (sym (all .0) ∙ d))
+size-wrong k (w ∷ v ∷ more) r g = by-digits (wrong-same _ r g) (λ n all. omega arith)
