@@ -6,7 +6,7 @@ use mathlib.Core.Bool.{Bool, true, false, cond}
 use mathlib.Core.List.{List, [], _∷_, _++_, append-nil, append-assoc}
 use mathlib.Core.Option.{Option, none, some}
 use native.Mathlib.Omega.{arith}
-use borrow.Author.Tests.{leb-false, le-leb, eq-eqb}
+use borrow.Author.Tests.{leb-false, le-leb}
 use lib.Dec.{leb}
 use lib.ListN.{length, getD, take, drop, length-append, take-append-drop}
 use lib.Seq.{take-at, drop-at, getD-at, drop-drop}
@@ -20,7 +20,7 @@ use Rattle.rules.specs.Reading.Numbers.{numberOf}
 use Rattle.rules.specs.Reading.Items.{named}
 use Rattle.rules.specs.Reading.Grammar.{Lines}
 use Rattle.rules.specs.Reading.Contents.{formOf, wordForm, keywordForm, keywordOf, parameters, contentBy, contentOf, titleOf, boundsOf, boundsAt, rowOf, samplesOn, sizeOf}
-use Rattle.rules.specs.Reading.Judge.{State, start, judge, refuse, byteFault, orderFault, headFault, endFault}
+use Rattle.rules.specs.Reading.Judge.{State, start, judge, refuse, unless, take-in, byteFault, orderFault, headFault, endFault}
 use Rattle.rules.specs.declared.Bounds.{Bounds}
 use Rattle.rules.specs.declared.Content.the-variants.{Wrong}
 use Rattle.rules.specs.declared.Form.{Form}
@@ -40,7 +40,7 @@ use Rattle.rules.proofs.Reading.Runs.{run-after, run-every, after-stops}
 use Rattle.rules.proofs.Reading.Wordings.{named-known, form-keyword}
 use Rattle.rules.proofs.Reading.Order.{final}
 use Rattle.rules.proofs.Reading.Refusals.{Stopped, beginning, at-line, at-end, refused-first}
-use Rattle.scan.proofs.Runs.{drop-to-end, every-run}
+use Rattle.scan.proofs.Runs.{drop-to-end}
 use Rattle.text.specs.WordsFrom.{wordStart, wordEnd}
 use Rattle.pointing.specs.Pointing.{part, endSpot, wordSpot, byteSpot, isValue, right, firstWrong, aimOf, parameterSpot, rowSpot, aimedIn, spotIn, pointed}
 use Rattle.pointing.specs.declared.aims.Aim.{Aim}
@@ -60,6 +60,7 @@ no-data f h e = no-true (ap isData (sym e) ∙ h)
 -- ---- a line that the judge refuses; it begins at place p of the file
 
 module _ (file : List ℕ) (p : ℕ) (l : List ℕ) where
+  -- a refusal with the spot that its number gives in the line
   abbrev Is : Refusal → Type 0
   Is r = Meant r file p l (at p (spotIn (refusalNumber r) l))
 
@@ -70,6 +71,7 @@ module _ (file : List ℕ) (p : ℕ) (l : List ℕ) where
       rw long (record { longer = n; parts = rest-parts p l lineLimit (omega (arith, n)) })
 
   module _ (short : leb (length l) lineLimit ≡ true) where
+    -- by its aim, in a line of at most 250 bytes
     to : (r : Refusal) (aim : Aim) → aimOf (refusalNumber r) ≡ aim → Meant r file p l (at p (aimedIn aim l)) → Is r
     unfolding spotIn
     to r aim e h = rw (short, e) h
@@ -78,8 +80,13 @@ module _ (file : List ℕ) (p : ℕ) (l : List ℕ) where
     unfolding aimOf refusalNumber aimedIn starts
     forbidden some-not = to ByteNotPermitted A.Byte refl (by (after permitted l) refl (after-stops permitted l))
       where
+        run-whole : after permitted l ≡ [] → every permitted l ≡ true
+        run-whole e =
+            let whole : l ≡ run permitted l = run-after permitted l ∙ ap (λ (y : List ℕ). run permitted l ++ y) e ∙ append-nil (run permitted l) in
+            ap (every permitted) whole ∙ run-every permitted l
+
         by : (x : List ℕ) → after permitted l ≡ x → starts permitted x ≡ false → Forbidden p l (at p (byteSpot l))
-        by [] e s = absurd (no-true (sym (every-run permitted l ∙ eq-eqb _ _ (sym (ap length (run-after permitted l ∙ ap (λ (y : List ℕ). run permitted l ++ y) e ∙ append-nil (run permitted l))))) ∙ some-not))
+        by [] e s = absurd (no-true (sym (run-whole e) ∙ some-not))
         by (b ∷ rest) e s =
             let whole : l ≡ run permitted l ++ (b ∷ rest) = run-after permitted l ∙ ap (λ (y : List ℕ). run permitted l ++ y) e in
             record {
@@ -93,6 +100,7 @@ module _ (file : List ℕ) (p : ℕ) (l : List ℕ) where
 
     -- ---- the first word
 
+    -- where it ends
     abbrev q : ℕ
     q = wordEnd l 0
 
@@ -239,16 +247,19 @@ module _ (file : List ℕ) (p : ℕ) (l : List ℕ) where
         none-passed : length (wordsOf (take 0 l)) ≡ 0
         none-passed = ap length (none-ahead l)
 
-        no-sample : (found : Number) (vs : List (List ℕ)) (w : List ℕ) (us : List (List ℕ)) → isValue found ≡ false → wordsOf l ≡ vs ++ (w ∷ us) → length vs < 3 → All (hasValue samplePlaces sampleLimit) vs
-            → numberOf samplePlaces sampleLimit w ≡ found
-            → OneOf (hasValue samplePlaces sampleLimit) 0 3 (λ v. numberOf samplePlaces sampleLimit v ≡ found) p l (at p (firstWrong W.SampleValue 3 l 0))
-        no-sample found vs w us wrong so n all off =
-            one-of (hasValue samplePlaces sampleLimit) W.SampleValue sample-value 0 3 p l 0 (start-between l) none-passed (λ v. numberOf samplePlaces sampleLimit v ≡ found) vs w us so n all (ap isValue off ∙ wrong) off
+        number : List ℕ → Number
+        number = numberOf samplePlaces sampleLimit
+
+        no-sample : (found : Number) → isValue found ≡ false → (vs : List (List ℕ)) (w : List ℕ) (us : List (List ℕ)) → wordsOf l ≡ vs ++ (w ∷ us) → length vs < 3
+            → All (hasValue samplePlaces sampleLimit) vs → number w ≡ found
+            → OneOf (hasValue samplePlaces sampleLimit) 0 3 (λ v. number v ≡ found) p l (at p (firstWrong W.SampleValue 3 l 0))
+        no-sample found wrong vs w us so n all off =
+            one-of (hasValue samplePlaces sampleLimit) W.SampleValue sample-value 0 3 p l 0 (start-between l) none-passed (λ v. number v ≡ found) vs w us so n all (ap isValue off ∙ wrong) off
 
         by : NoThree NotThreeNumbers SampleBeyond SampleTooFine samplePlaces sampleLimit (wordsOf l) r → Is r
         by (by-form e not-all) = subst Is e (to NotThreeNumbers A.SampleForm refl (amiss (isNumber samplePlaces sampleLimit) W.SampleForm sample-form 0 3 p l 0 (start-between l) none-passed not-all))
-        by (by-beyond vs w us e so n all off) = subst Is e (to SampleBeyond A.SampleValue refl (no-sample Beyond vs w us refl so n all off))
-        by (by-finer vs w us e so n all off) = subst Is e (to SampleTooFine A.SampleValue refl (no-sample Finer vs w us refl so n all off))
+        by (by-beyond vs w us e so n all off) = subst Is e (to SampleBeyond A.SampleValue refl (no-sample Beyond refl vs w us so n all off))
+        by (by-finer vs w us e so n all off) = subst Is e (to SampleTooFine A.SampleValue refl (no-sample Finer refl vs w us so n all off))
 
     -- ---- what the line says
 
@@ -273,8 +284,8 @@ module _ (file : List ℕ) (p : ℕ) (l : List ℕ) where
 
     head-means : RowOrEnd file p l (at p (rowSpot l)) → (places : ℕ) (st : State) (r : Refusal) → headFault places st ≡ some r → Is r
     unfolding aimOf refusalNumber
-    head-means h places st r e =
-        head-is Is places st e (row-is h NoSize refl) (row-is h HalfADomain refl) (row-is h LowerNotBelowUpper refl) (row-is h DomainTooWide refl) (row-is h DomainsDiffer refl) (row-is h TooLittleRoom refl)
+    head-means h places st r =
+        head-is Is places st (row-is h NoSize refl) (row-is h HalfADomain refl) (row-is h LowerNotBelowUpper refl) (row-is h DomainTooWide refl) (row-is h DomainsDiffer refl) (row-is h TooLittleRoom refl)
 
     whole : formOf l ≡ Data → WholeRow p l (at p (rowSpot l))
     whole form = rw form (record { row = form; parts = rest-parts p l 0 (omega arith) })
@@ -289,8 +300,8 @@ module _ (file : List ℕ) (p : ℕ) (l : List ℕ) where
       where
         by : (f : Form) → formOf l ≡ f → orderFault places st f ≡ some r → Is r
         by Idle e h = none-is Is h
-        by (Keyed k) e h = need-is Is _ _ _ h (λ t. after-data k e) (λ t h₁. need-is Is _ _ _ h₁ (λ u. repeated k e) (λ u h₂. none-is Is h₂))
-        by Data e h = first-is Is _ _ h (head-means (whole-row (whole e)) places st r) (λ h₁. need-is Is _ _ _ h₁ (λ t. too-many e) (λ t h₂. none-is Is h₂))
+        by (Keyed k) e h = need-is Is _ _ _ h (λ t. after-data k e) (λ t h₁. need-is Is _ _ _ h₁ (λ u. repeated k e) (λ u. none-is Is))
+        by Data e h = first-is Is _ _ h (head-means (whole-row (whole e)) places st r) (λ h₁. need-is Is _ _ _ h₁ (λ t. too-many e) (λ t. none-is Is))
         by Neither e h = none-is Is h
 
     -- ---- the file's end, past a last line that the judge lets pass
@@ -310,15 +321,19 @@ module _ (file : List ℕ) (p : ℕ) (l : List ℕ) where
 
       end-is : (places : ℕ) (st : State) (r : Refusal) → endFault places st ≡ some r → Is r
       unfolding endFault aimOf refusalNumber aimedIn
-      end-is places st r g = first-is Is _ _ g (head-means row-or-end places st r) (λ h. need-is Is _ _ _ h (λ t. to TooFewRows A.End refl end-spot) (λ t h₁. none-is Is h₁))
+      end-is places st r g = first-is Is _ _ g (head-means row-or-end places st r) (λ h. need-is Is _ _ _ h (λ t. to TooFewRows A.End refl end-spot) (λ t. none-is Is))
 
   -- ---- all the checks of the judge in their order
 
   judged : (places : ℕ) (st : State) (b : ℕ) (r : Refusal) → judge places st b l ≡ refuse r → Is r
   unfolding judge byteFault
-  judged places st b r g = unless-is Is (byteFault l) _ g
-      (λ h. need-is Is _ _ _ h too-long (λ short h₁. need-is Is _ _ _ h₁ (forbidden short) (λ t h₂. none-is Is h₂)))
-      (λ clean h. let short = need-none _ _ _ clean .0 in unless-is Is (orderFault places st (formOf l)) _ h (order-is short places st r) (λ placed h₁. content-is short b r (taken-wrong st (contentOf b l) r h₁)))
+  judged places st b r g = unless-is Is (byteFault l) _ g in-bytes (λ clean. past-bytes (need-none _ _ _ clean .0))
+    where
+      in-bytes : byteFault l ≡ some r → Is r
+      in-bytes h = need-is Is _ _ _ h too-long (λ short h₁. need-is Is _ _ _ h₁ (forbidden short) (λ t. none-is Is))
+
+      past-bytes : leb (length l) lineLimit ≡ true → unless (orderFault places st (formOf l)) (take-in st (contentOf b l)) ≡ refuse r → Is r
+      past-bytes short h = unless-is Is (orderFault places st (formOf l)) _ h (order-is short places st r) (λ placed h₁. content-is short b r (taken-wrong st (contentOf b l) r h₁))
 
 -- ---- the line that a refusal names
 

@@ -40,12 +40,16 @@ module _ (Q : Refusal → Type 0) {r : Refusal} where
   need-is true x f e here past = past refl e
   need-is false x f e here past = let same : x ≡ r = cc in subst Q same (here refl)
 
-  pub head-is : (places : ℕ) (st : State) → headFault places st ≡ some r → Q NoSize → Q HalfADomain → Q LowerNotBelowUpper → Q DomainTooWide → Q DomainsDiffer → Q TooLittleRoom → Q r
+  past : (t : Bool) (x : Refusal) (f : Fault) → Q x → (f ≡ some r → Q r) → need t x f ≡ some r → Q r
+  past t x f here further e = need-is t x f e (λ fails. here) (λ passes. further)
+
+  -- 9, 19, 10 to 13
+  pub head-is : (places : ℕ) (st : State) → Q NoSize → Q HalfADomain → Q LowerNotBelowUpper → Q DomainTooWide → Q DomainsDiffer → Q TooLittleRoom → headFault places st ≡ some r → Q r
   unfolding headFault givenFault domainFault
-  head-is places st e a b c d f g = by (eqb (st .rows) 0) e
+  head-is places st a b c d f g e = by (eqb (st .rows) 0) e
     where
       by : (t : Bool) → cond t (givenFault places st) none ≡ some r → Q r
-      by true h = need-is _ _ _ h (λ n. a) (λ y h₁. need-is _ _ _ h₁ (λ n. b) (λ y₁ h₂. need-is _ _ _ h₂ (λ n. c) (λ y₂ h₃. need-is _ _ _ h₃ (λ n. d) (λ y₃ h₄. need-is _ _ _ h₄ (λ n. f) (λ y₄ h₅. need-is _ _ _ h₅ (λ n. g) (λ y₅ h₆. none-is h₆))))))
+      by true h = past _ _ _ a (past _ _ _ b (past _ _ _ c (past _ _ _ d (past _ _ _ f (past _ _ _ g none-is))))) h
       by false h = none-is h
 
   pub first-is : (f g : Fault) → first f g ≡ some r → (f ≡ some r → Q r) → (g ≡ some r → Q r) → Q r
