@@ -41,6 +41,14 @@ ptrdiff_t rattle_arg(size_t i, uint8_t *buf, size_t len) {
 
 int32_t rattle_open_to_read(const uint8_t *path) { return open((const char *)path, O_RDONLY | O_CLOEXEC); }
 
+/* A file of this name must not be there yet. */
+int32_t rattle_open_new(const uint8_t *path, uint32_t mode) {
+    return open((const char *)path, O_WRONLY | O_CREAT | O_EXCL | O_CLOEXEC, (mode_t)mode);
+}
+
+/* A device is not waited for. */
+int32_t rattle_open_to_update(const uint8_t *path) { return open((const char *)path, O_RDWR | O_CLOEXEC | O_NONBLOCK); }
+
 int32_t rattle_errno(void) { return errno; }
 
 void rattle_set_errno(int32_t error) { errno = error; }

@@ -1,6 +1,6 @@
 -- A piece, from its codes to its bytes: the pixels before the first code that is too great are within the depth, and what is corrected of them is what is written.
 use Prim.Native.Nat.{ℕ, suc, zero, _*_, _/_, _%_, _≤_}
-use mathlib.Core.Path.{_≡_, refl, sym, ap, subst, _∙_}
+use mathlib.Core.Path.{_≡_, refl, sym, ap, ap₂, subst, _∙_}
 use mathlib.Core.Bool.{Bool, true, false, cond, _&&_}
 use mathlib.Core.List.{List, [], _∷_, _++_}
 use native.Mathlib.Nat.{le-trans, le-of-eq}
@@ -19,11 +19,13 @@ use Rattle.scan.proofs.Runs.{run-le}
 use Rattle.colour.specs.Plans.{Planned}
 use Rattle.colour.specs.declared.plan.Plan.{Plan}
 use Rattle.colour.proofs.Plans.{planned}
+use Rattle.ppm.specs.Excess.{excessAt}
 use Rattle.ppm.specs.Raster.{bytesOf, byteCount, codeCount, codesOf, Copied}
 use Rattle.ppm.proofs.Codes.{bytes-length, codes-length}
 use Rattle.ppm.proofs.Putting.{copied-all}
-use Rattle.correct.specs.Pieces.{Corrects, Readable, Room, bitsIn, depthsIn}
-use Rattle.correct.specs.declared.pieces.Scales.{Scales}
+use Rattle.correct.specs.Jobs.{bitsIn, depthsIn}
+use Rattle.correct.specs.Pieces.{Corrects, Readable, Room}
+use Rattle.correct.specs.declared.jobs.Scales.{Scales}
 
 -- the first of a run are all of its kind
 every-first : (kind : ℕ → Bool) (l : List ℕ) (n : ℕ) → n ≤ length (run kind l) → every kind (take n l) ≡ true
@@ -79,7 +81,7 @@ module _ {d : Description} {table : List ℤ} {s : Scales} {plan : Plan} (able :
       → count ≡ length (run (λ c. leb c (s .raw .depth .greatest)) (take n raw′))
       → dst′ ≡ eachPixel (correct d table (depthsIn s)) (take (count / 3 * 3) raw′) ++ drop (length (take (count / 3 * 3) raw′)) dst
       → Copied (bytesOf (s .corrected .wide) (take (count / 3 * 3) dst′)) bytes made bytes′
-      → Corrects d table s input (record { pixels = count / 3; bytes = made }) bytes′
+      → Corrects d table s input (record { pixels = count / 3; bytes = made; excess = excessAt (take n raw′) count }) bytes′
   piece-corrects input raw dst bytes room {n} {count} {made} {raw′} {dst′} {bytes′} read counted fixed wrote =
       let m = s .raw .depth .greatest in
       let codes = codesOf (s .raw .wide) input in
@@ -98,6 +100,7 @@ module _ {d : Description} {table : List ℤ} {s : Scales} {plan : Plan} (able :
       le-trans (le-of-eq (bytes-length wide (take q dst′))) (le-trans (byte-mono wide (omega (arith, length-take q dst′, long))) (room .for-bytes)) in
       record {
         pixels = ap (λ k. k / 3) is;
+        excess = ap₂ excessAt (put .1) is;
         few = omega (arith, long, code-few (s .raw .wide) (length input));
         inside = wrote .within;
         made = copied-all wrote fits .1 ∙ ap (bytesOf wide) (written ∙ ap (corrected d table (bitsIn s)) same);

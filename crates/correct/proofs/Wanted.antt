@@ -4,7 +4,7 @@ use mathlib.Core.Path.{_≡_, refl}
 use Rattle.ppm.specs.Scales.{scaleOf}
 use Rattle.ppm.specs.declared.depth.ScaleFound.the-variants.{Unknown}
 use Rattle.desk.specs.declared.arguments.Last.the-variants.{TooGreat}
-use Rattle.correct.specs.Headers.{maxvalWanted}
+use Rattle.correct.specs.Jobs.{maxvalWanted}
 
 pub too-great-unknown : (picture : ℕ) → scaleOf (maxvalWanted TooGreat picture) ≡ Unknown
 too-great-unknown picture = refl

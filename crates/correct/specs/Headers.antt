@@ -1,4 +1,4 @@
--- When a header is known for good, one whose sizes are within their limits, and the maxval of the one that is written.
+-- When a header is known for good, one whose sizes are within their limits, and how long the one that is written can be.
 use Prim.Native.Nat.{ℕ}
 use mathlib.Core.Bool.{Bool, true, false}
 use Rattle.ppm.specs.Header.{Sized}
@@ -6,14 +6,12 @@ use Rattle.ppm.specs.declared.header.Fault.{Fault}
 use Rattle.ppm.specs.declared.header.Fault.the-variants.{NotP6, EndsEarly, Malformed, Beyond}
 use Rattle.ppm.specs.declared.header.Header.{Header}
 use Rattle.ppm.specs.declared.header.Header.the-variants.{Stands, Wrong}
-use Rattle.desk.specs.declared.arguments.Last.{Last}
-use Rattle.desk.specs.declared.arguments.Last.the-variants.{Nothing, Number, TooGreat, Unclear}
 use Rattle.correct.specs.declared.headers.Heading.{Heading}
-use Rattle.correct.specs.declared.headers.Heading.the-variants.{Read, Unread}
+use Rattle.correct.specs.declared.headers.Heading.the-variants.{Read, TooLong, Empty, Unread}
 
 -- a fault that more bytes cannot mend: any but that they end
 abbrev lasting : Fault → Bool
-lasting NotP6 = true
+lasting (NotP6 kind) = true
 lasting EndsEarly = false
 lasting (Malformed part) = true
 lasting (Beyond part) = true
@@ -25,11 +23,10 @@ settled (Wrong fault) = lasting fault
 
 abbrev pub SizedHeading : Heading → Type 0
 SizedHeading (Read header) = Sized header
+SizedHeading TooLong = Unit {0}
+SizedHeading Empty = Unit {0}
 SizedHeading Unread = Unit {0}
 
--- the output's maxval: the number that is wanted, one above all depths for a number that is too great, and else the picture's
-abbrev pub maxvalWanted : Last → ℕ → ℕ
-maxvalWanted Nothing picture = picture
-maxvalWanted (Number n) picture = n
-maxvalWanted TooGreat picture = 65_536
-maxvalWanted Unclear picture = picture
+-- P6 and a newline, a width and a height of at most 10 digits and a maxval of at most 5, each with a byte after it
+abbrev pub longestHeader : ℕ
+longestHeader = 31

@@ -1,62 +1,44 @@
 // The pixels, piece by piece: read, corrected, written.
+use crate::ends::Ends;
+use crate::headers::pixels;
+use crate::jobs::Job;
+use crate::jobs::Scales;
+use crate::jobs::depths_in;
 use colour::Plan;
 use desk::Filled;
-use desk::Outcome;
 use desk::fill;
-use libc::STDIN_FILENO;
-use libc::STDOUT_FILENO;
 use picture::correct_all;
-use ppm::Scale;
+use ppm::Excess;
 use ppm::bytes_from;
 use ppm::codes_from;
 use ppm::count_within;
-use rules::Depths;
+use ppm::excess_at;
+use rules::Colour;
 ghost use mathlib.Core.Path.{_≡_};
 ghost use Prim.Native.Nat.{_≤_, min};
 ghost use lib.ListN.{length, take};
 ghost use Rattle.rules.specs.declared.Description.{Description};
-ghost use Rattle.correct.specs.Pieces.{Buffers, Corrects, Readable, Room, depthsIn, hasRoom, mostPixels, outcomeOf, piecePixels, pixelBytes};
+ghost use Rattle.correct.specs.Jobs.{Agrees};
+ghost use Rattle.correct.specs.Pieces.{Buffers, Corrects, Readable, Room, hasRoom, mostPixels, passedOf, pieceBytes, piecePixels, pixelBytes};
 
 // What became of the pixels: all are written, or the pixel at which it stopped.
 pub enum Passed {
     Whole,
-    Ends(u64),
-    TooGreat(u64),
+    Cut(u64),
+    TooGreat {
+        pixel: u64,
+        colour: Colour,
+        code: u16,
+    },
     Unread(u64),
     Unwritten,
 }
 
-// A picture that breaks off or has a code that is too great is refused, and a system that cannot read or write has failed.
-pub fn outcome_of(passed: Passed) -> Outcome
-    ensures { λ r. ⌜ r ≡ outcomeOf passed ⌝ }
-{
-    match passed {
-        Passed::Whole => Outcome::Done,
-        Passed::Ends(_) => Outcome::Refused,
-        Passed::TooGreat(_) => Outcome::Refused,
-        Passed::Unread(_) => Outcome::Failed,
-        Passed::Unwritten => Outcome::Failed,
-    }
-}
-
-// What maxval says of the codes, of the picture and of the output.
-pub struct Scales {
-    pub raw: Scale,
-    pub corrected: Scale,
-}
-
-pub fn depths_in(scales: Scales) -> Depths
-    ensures { λ r. ⌜ r ≡ depthsIn scales ⌝ }
-{
-    let raw = scales.raw.depth;
-    let corrected = scales.corrected.depth;
-    Depths { raw, corrected }
-}
-
-// How many pixels of a piece were corrected, and how many bytes those are.
+// How many pixels of a piece were corrected, how many bytes those are, and the code that is too great after them, if there is one.
 struct Piece {
     pixels: usize,
     bytes: usize,
+    excess: Excess,
 }
 
 // A piece is what fixed memory holds of a picture. The larger it is, the fewer are the reads and writes; and of a 1D table the codes that are kept are worked
@@ -95,7 +77,9 @@ fn correct_piece(
     let of_raw = scales.raw;
     let of_corrected = scales.corrected;
     let count = codes_from(&bytes[..n], of_raw.wide, &mut *raw);
-    let pixels = count_within(&raw[..count], of_raw.depth.greatest()) / 3;
+    let within = count_within(&raw[..count], of_raw.depth.greatest());
+    let excess = excess_at(&raw[..count], within);
+    let pixels = within / 3;
     let codes = pixels * 3;
     correct_all(
         plan,
@@ -108,6 +92,7 @@ fn correct_piece(
     Piece {
         pixels,
         bytes: made,
+        excess,
     }
 }
 
@@ -117,8 +102,32 @@ fn pixel_bytes(wide: bool) -> usize
     if wide { 6 } else { 3 }
 }
 
-// One piece of so many pixels, of which the first has a number in the picture.
+// What became of a piece of so many pixels, once what could be corrected of it is written. Its first pixel has a number in the picture.
+fn passed_of(piece: Piece, first: u64, want: usize) -> Passed
+    requires { ⌜ (first ≤ mostPixels) × (piece .pixels ≤ pieceBytes) ⌝ }
+    ensures { λ r. ⌜ r ≡ passedOf piece first want ⌝ }
+{
+    let pixels = piece.pixels;
+    let pixel = first + pixels as u64;
+    let excess = piece.excess;
+    match excess {
+        Excess::Above { colour, code } => Passed::TooGreat {
+            pixel,
+            colour,
+            code,
+        },
+        Excess::Nothing => {
+            if pixels < want {
+                return Passed::Cut(pixel);
+            }
+            Passed::Whole
+        }
+    }
+}
+
+// One piece of so many pixels.
 fn pass_piece(
+    ends: Ends,
     plan: Plan,
     table: &[i64],
     scales: Scales,
@@ -134,22 +143,15 @@ fn pass_piece(
 {
     let of_raw = scales.raw;
     let size = pixel_bytes(of_raw.wide);
-    let Filled::Bytes(got) = fill(STDIN_FILENO, &mut bytes[..want * size]) else {
+    let Filled::Bytes(got) = fill(ends.from, &mut bytes[..want * size]) else {
         return Passed::Unread(first);
     };
     let piece = correct_piece(plan, table, scales, &mut *bytes, got, raw, corrected);
     let made = piece.bytes;
-    if !io::write_all(STDOUT_FILENO, &bytes[..made]) {
+    if !io::write_all(ends.to, &bytes[..made]) {
         return Passed::Unwritten;
     }
-    let pixels = piece.pixels;
-    if pixels < got / size {
-        return Passed::TooGreat(first + pixels as u64);
-    }
-    if pixels < want {
-        return Passed::Ends(first + pixels as u64);
-    }
-    Passed::Whole
+    passed_of(piece, first, want)
 }
 
 // At most a piece of what is left.
@@ -163,27 +165,29 @@ fn next_piece(left: u64) -> usize
     }
 }
 
-// So many pixels of standard input, corrected, to standard output.
+// The pixels of a picture whose header is written.
 pub fn pass_all(
+    ends: Ends,
     plan: Plan,
     table: &[i64],
-    scales: Scales,
-    pixels: u64,
+    job: Job,
     bytes: &mut [u8],
     raw: &mut [u16],
     corrected: &mut [u16],
 ) -> Passed
-    requires { ⌜ ((d : Description) × Readable d (now table) scales plan) ⌝ }
+    requires { ⌜ ((d : Description) × Readable d (now table) (job .scales) plan) ⌝ }
+    requires { ⌜ Agrees job ⌝ }
     requires { ⌜ Buffers (length (now bytes)) (length (now raw)) (length (now corrected)) ⌝ }
-    requires { ⌜ pixels ≤ mostPixels ⌝ }
 {
+    let pixels = pixels(job.frame);
     let mut left = pixels;
     while left > 0 {
         let want = next_piece(left);
         let passed = pass_piece(
+            ends,
             plan,
             table,
-            scales,
+            job.scales,
             pixels - left,
             want,
             &mut *bytes,

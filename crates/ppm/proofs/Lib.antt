@@ -3,6 +3,7 @@
 pub mod Gaps
 pub mod Codes
 pub mod Putting
+pub mod FirstAbove
 pub mod Scaling
 pub mod Sizes
 pub mod Prefixes

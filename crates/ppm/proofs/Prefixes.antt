@@ -13,6 +13,7 @@ use lib.Seq.{length-take-le, take-all, take-take, take-nil, getD-take}
 use Rattle.rules.specs.Reading.Lines.{digit, run}
 use Rattle.rules.specs.Reading.Numerals.{spell}
 use Rattle.scan.specs.RunEnds.{runEnd}
+use Rattle.ppm.specs.Kinds.{kindOf}
 use Rattle.ppm.specs.Header.{whitespace, goesOn, commentAfter, gapLength, gapEnd, fieldBetween, fieldAt, withMaxval, afterHeight, withHeight, afterWidth, withWidth, startsP6, mostSize, mostMaxval, headerOf}
 use Rattle.ppm.specs.declared.header.Count.{Count}
 use Rattle.ppm.specs.declared.header.Fault.{Fault}
@@ -103,7 +104,7 @@ module _ (part : Part) (limit : ℕ) (s : List ℕ) where
   field-ends p number e = subst (Ends (runEnd digit s (gapEnd false s p))) e (between-ends (gapEnd false s p) (runEnd digit s (gapEnd false s p)))
 
   -- a number that is found is found in the first bytes, up to where it ends or further
-  pub field-first : (p m : ℕ) (number : Count) → fieldAt part limit s p ≡ Says number → number .next ≤ m → (p ≤ number .next) × (fieldAt part limit (take m s) p ≡ Says number)
+  pub field-first : (p m : ℕ) (number : Count) → fieldAt part limit s p ≡ Says number → number .next ≤ m → (p < number .next) × (fieldAt part limit (take m s) p ≡ Says number)
   field-first p m number e h = (omega (arith, field-ends p number e), by (decLe (length s) m))
     where
       by : Dec (length s ≤ m) → fieldAt part limit (take m s) p ≡ Says number
@@ -115,7 +116,7 @@ module _ (part : Part) (limit : ℕ) (s : List ℕ) where
 never : (fault : Fault) (f : Frame) → Wrong fault ≡ Stands f → ⊥
 never fault f e = let z : _≡_ {A = ℕ} 0 1 = cc in omega arith
 
--- what stands in the bytes stands in the first m of them, where m reaches to the pixels
+-- what stands in the bytes stands in the first m of them, where m reaches to the pixels, which are not before place p
 abbrev StandsFrom : (List ℕ → Header) → List ℕ → ℕ → Frame → Type 0
 StandsFrom says s p f = (p ≤ f .pixels) × ((m : ℕ) → f .pixels ≤ m → says (take m s) ≡ Stands f)
 
@@ -123,10 +124,10 @@ module _ (s : List ℕ) (f : Frame) where
   -- a number that is found, and what it is followed by
   number-stands : (part : Part) (limit p : ℕ) (next : List ℕ → Field → Header) → ((fault : Fault) → next s (Lacks fault) ≡ Wrong fault)
       → ((number : Count) → next s (Says number) ≡ Stands f → StandsFrom (λ l. next l (Says number)) s (number .next) f)
-      → next s (fieldAt part limit s p) ≡ Stands f → StandsFrom (λ l. next l (fieldAt part limit l p)) s p f
+      → next s (fieldAt part limit s p) ≡ Stands f → StandsFrom (λ l. next l (fieldAt part limit l p)) s (p + 1) f
   number-stands part limit p next lacks later e = by (fieldAt part limit s p) refl e
     where
-      by : (found : Field) → fieldAt part limit s p ≡ found → next s found ≡ Stands f → StandsFrom (λ l. next l (fieldAt part limit l p)) s p f
+      by : (found : Field) → fieldAt part limit s p ≡ found → next s found ≡ Stands f → StandsFrom (λ l. next l (fieldAt part limit l p)) s (p + 1) f
       by (Lacks fault) g e = absurd (never fault f (sym (lacks fault) ∙ e))
       by (Says number) g e =
           let rest = later number e in (
@@ -134,7 +135,7 @@ module _ (s : List ℕ) (f : Frame) where
             λ m h. ap (next (take m s)) (field-first part limit s p m number g (omega (arith, rest .0)) .1) ∙ rest .1 m h,
           )
 
-  height-first : (width : ℕ) (height : Count) → afterHeight s width height ≡ Stands f → StandsFrom (λ l. afterHeight l width height) s (height .next) f
+  height-first : (width : ℕ) (height : Count) → afterHeight s width height ≡ Stands f → StandsFrom (λ l. afterHeight l width height) s (height .next + 1) f
   unfolding afterHeight withMaxval
   height-first width height = number-stands Maxval mostMaxval (height .next) (λ l. withMaxval width (height .value)) (λ fault. refl) pixels-next
     where
@@ -144,27 +145,27 @@ module _ (s : List ℕ) (f : Frame) where
           let pixels : maxval .next ≡ f .pixels = ap (λ x. x .pixels) frame in
           (omega arith, λ m h. e)
 
-  width-first : (width : Count) → afterWidth s width ≡ Stands f → StandsFrom (λ l. afterWidth l width) s (width .next) f
+  width-first : (width : Count) → afterWidth s width ≡ Stands f → StandsFrom (λ l. afterWidth l width) s (width .next + 1) f
   unfolding afterWidth withHeight
-  width-first width = number-stands Height mostSize (width .next) (λ l. withHeight l (width .value)) (λ fault. refl) (height-first (width .value))
+  width-first width = number-stands Height mostSize (width .next) (λ l. withHeight l (width .value)) (λ fault. refl) (λ height e. let h = height-first (width .value) height e in (omega (arith, h .0), h .1))
 
-  fields-first : withWidth s (fieldAt Width mostSize s 3) ≡ Stands f → StandsFrom (λ l. withWidth l (fieldAt Width mostSize l 3)) s 3 f
+  fields-first : withWidth s (fieldAt Width mostSize s 3) ≡ Stands f → StandsFrom (λ l. withWidth l (fieldAt Width mostSize l 3)) s 4 f
   unfolding withWidth
-  fields-first = number-stands Width mostSize 3 withWidth (λ fault. refl) width-first
+  fields-first = number-stands Width mostSize 3 withWidth (λ fault. refl) (λ width e. let w = width-first width e in (omega (arith, w .0), w .1))
 
   -- a header that stands, stands in the bytes before its pixels
   pub header-first : headerOf s ≡ Stands f → headerOf (take (f .pixels) s) ≡ Stands f
   unfolding headerOf startsP6
-  header-first e = by (ltb (length s) 3) refl (startsP6 s) refl e
+  header-first e = by (ltb (length s) 4) refl (startsP6 s) refl e
     where
-      by : (short : Bool) → ltb (length s) 3 ≡ short → (p6 : Bool) → startsP6 s ≡ p6
-          → cond short (Wrong EndsEarly) (cond p6 (withWidth s (fieldAt Width mostSize s 3)) (Wrong NotP6)) ≡ Stands f
+      by : (short : Bool) → ltb (length s) 4 ≡ short → (p6 : Bool) → startsP6 s ≡ p6
+          → cond short (Wrong EndsEarly) (cond p6 (withWidth s (fieldAt Width mostSize s 3)) (Wrong (NotP6 (kindOf s)))) ≡ Stands f
           → headerOf (take (f .pixels) s) ≡ Stands f
       by true l p6 g e = absurd (never _ f e)
       by false l false g e = absurd (never _ f e)
       by false l true g e =
           let found = fields-first e in
           let m = f .pixels in
-          let long : ltb (length (take m s)) 3 ≡ false = le-ltb (length (take m s)) 3 (omega (arith, length-take m s, ltb-false (length s) 3 l, found .0)) in
+          let long : ltb (length (take m s)) 4 ≡ false = le-ltb (length (take m s)) 4 (omega (arith, length-take m s, ltb-false (length s) 4 l, found .0)) in
           let starts : startsP6 (take m s) ≡ true = rw (getD-take m s 0 0 (omega (arith, found .0)), getD-take m s 1 0 (omega (arith, found .0)), getD-take m s 2 0 (omega (arith, found .0))) g in
           rw (long, starts) (found .1 m (omega arith))

@@ -59,4 +59,4 @@ module _ (s : List ℕ) where
 
   pub header-sized : Sized (headerOf s)
   unfolding headerOf
-  header-sized = either Sized (ltb (length s) 3) tt (either Sized (startsP6 s) (width-sized _ (field-up-to _ mostSize s 3)) tt)
+  header-sized = either Sized (ltb (length s) 4) tt (either Sized (startsP6 s) (width-sized _ (field-up-to _ mostSize s 3)) tt)

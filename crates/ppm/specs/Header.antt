@@ -9,6 +9,7 @@ use lib.ListN.{length, take, drop, getD}
 use Rattle.rules.specs.Reading.Lines.{digit, hash}
 use Rattle.rules.specs.Reading.Numerals.{spell}
 use Rattle.scan.specs.RunEnds.{runEnd}
+use Rattle.ppm.specs.Kinds.{kindOf}
 use Rattle.ppm.specs.declared.header.Part.{Part}
 use Rattle.ppm.specs.declared.header.Part.the-variants.{Width, Height, Maxval}
 use Rattle.ppm.specs.declared.header.Fault.the-variants.{NotP6, EndsEarly, Malformed, Beyond}
@@ -104,12 +105,12 @@ unfoldable pub withWidth : List ℕ → Field → Header
 withWidth s (Lacks fault) = Wrong fault
 withWidth s (Says width) = afterWidth s width
 
--- what the header at the start of the bytes says
+-- what the header at the start of the bytes says; fewer than four bytes do not tell what they begin
 unfoldable pub headerOf : List ℕ → Header
 headerOf s =
-    cond (ltb (length s) 3) (Wrong EndsEarly)
+    cond (ltb (length s) 4) (Wrong EndsEarly)
     (cond (startsP6 s) (withWidth s (fieldAt Width mostSize s 3))
-    (Wrong NotP6))
+    (Wrong (NotP6 (kindOf s))))
 
 -- ---- what a header that stands keeps
 

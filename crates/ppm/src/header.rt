@@ -1,5 +1,7 @@
 // The header: P6 and a whitespace byte, then width, height and maxval. Each number stands after whitespace and comments, if any, and is ended by
 // one whitespace byte; the one after maxval is the last byte before the pixels.
+use crate::kinds::Kind;
+use crate::kinds::kind_of;
 use numbers::spelt;
 use rules::Depth;
 use scan::ByteKind;
@@ -20,7 +22,7 @@ pub enum Part {
 
 // What is wrong with a header; the bytes that end early may be only the first of the header's.
 pub enum Fault {
-    NotP6,
+    NotP6(Kind),
     EndsEarly,
     Malformed(Part),
     Beyond(Part),
@@ -195,15 +197,15 @@ fn after_width(s: &[u8], width: Count) -> Header
     }
 }
 
-// What the header at the start of the bytes says.
+// What the header at the start of the bytes says; the first four tell what they begin.
 pub fn header_of(s: &[u8]) -> Header
     ensures { λ r. ⌜ r ≡ headerOf (now (s .entry)) ⌝ }
 {
-    if s.len() < 3 {
+    if s.len() < 4 {
         return Header::Wrong(Fault::EndsEarly);
     }
     if !starts_p6(s) {
-        return Header::Wrong(Fault::NotP6);
+        return Header::Wrong(Fault::NotP6(kind_of(s)));
     }
     let field = field_at(s, 3, MOST_SIZE, Part::Width);
     match field {

@@ -6,14 +6,11 @@ use borrow.Author.Needs.{needs}
 use Rattle.correct.proofs.correct.Statement.{statement}
 use Rattle.correct.proofs.correct.Tie as tie
 
-slice-aggregate-option-at : tie.Need-slice-aggregate-option-at
-slice-aggregate-option-at c = search needs
+asked-for-requires : tie.Need-asked-for-requires
+asked-for-requires c κs = search needs
 
-cast-option-at : tie.Need-cast-option-at
-cast-option-at c = search needs
-
-option-at-requires : tie.Need-option-at-requires
-option-at-requires c κs = search needs
+enum-known-call : tie.Need-enum-known-call
+enum-known-call c = search needs
 
 enum-told : tie.Need-enum-told
 enum-told c = search needs
@@ -63,9 +60,8 @@ pub correct-spec : {M : Type 1} → statement M
 correct-spec =
     tie.close
     (tie.spec
-    slice-aggregate-option-at
-    cast-option-at
-    option-at-requires
+    asked-for-requires
+    enum-known-call
     enum-told
     help-requires
     returns

@@ -16,8 +16,8 @@ load-argument-requires c κs = search needs
 enum-known-description : tie.Need-enum-known-description
 enum-known-description c = search needs
 
-correct-input-requires : tie.Need-correct-input-requires
-correct-input-requires c κs =
+correct-with-requires : tie.Need-correct-with-requires
+correct-with-requires c κs =
     let d = c .before .before .before .before .before in
     let l = d .before .before .before .before .before in
     let s = l .before .before .before .before .before .before .before .before in
@@ -75,7 +75,7 @@ correct-by-spec =
     slice-aggregate-load-argument
     load-argument-requires
     enum-known-description
-    correct-input-requires
+    correct-with-requires
     enum-told
     enum-told-2
     same-length

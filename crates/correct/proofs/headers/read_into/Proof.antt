@@ -11,10 +11,10 @@ use Rattle.correct.proofs.headers.read_into.Statement.{statement}
 use Rattle.correct.proofs.headers.read_into.Tie as tie
 
 abbrev Inv-loop : tie.InvT-loop
-Inv-loop bytes₀ n₀ bytes n = (n ≤ length bytes) × (length bytes ≡ length bytes₀)
+Inv-loop from bytes₀ n₀ bytes n = (n ≤ length bytes) × (length bytes ≡ length bytes₀)
 
 abbrev μ-loop : tie.MeasureT-loop
-μ-loop bytes₀ n₀ bytes n = length bytes₀ - n
+μ-loop from bytes₀ n₀ bytes n = length bytes₀ - n
 
 loop-holds : tie.Need-loop-holds Inv-loop μ-loop
 loop-holds c = search needs
@@ -45,6 +45,9 @@ same-length c = search needs
 
 returns : tie.Need-returns Inv-loop μ-loop
 returns c = search needs
+
+ended-after-requires : tie.Need-ended-after-requires Inv-loop μ-loop
+ended-after-requires c κs = search needs
 
 same-length-2 : tie.Need-same-length-2 Inv-loop μ-loop
 same-length-2 c = search needs
@@ -101,6 +104,7 @@ read-into-spec =
     enum-told
     same-length
     returns
+    ended-after-requires
     same-length-2
     returns-2
     add-n

@@ -14,7 +14,9 @@ use Rattle.rules.specs.Picturing.{eachPixel}
 use Rattle.rules.specs.declared.Depths.{Depths}
 use Rattle.rules.specs.declared.Description.{Description}
 use Rattle.rules.proofs.Picturing.Checks.{within-all}
-use Rattle.correct.specs.Pieces.{Corrects, Readable, Room, depthsIn}
+use Rattle.ppm.specs.declared.excess.Excess.{Excess}
+use Rattle.correct.specs.Jobs.{depthsIn}
+use Rattle.correct.specs.Pieces.{Corrects, Readable, Room}
 use Rattle.correct.proofs.Corrected.{kept-within, piece-corrects, plan-there}
 use native.Mathlib.Omega.{arith}
 use borrow.Author.Needs.{needs}
@@ -33,7 +35,7 @@ abbrev made : tie.After-count-within → List ℕ
 made c = read c .codes-from .last .1 .1 .0
 
 abbrev counted : tie.After-correct-all-arg2 → tie.After-count-within
-counted c = c .before .before .before
+counted c = c .before .before .before .before .before
 
 -- how many codes the whole pixels are
 abbrev many : tie.After-count-within → ℕ
@@ -80,16 +82,23 @@ fixed c d able = let is = c .before .before .before .depths-in .ensures in subst
 abbrev corrected : tie.After-bytes-from → tie.After-correct-all
 corrected c = c .before .before .before .before .before
 
+abbrev tried : tie.After-correct-all → tie.After-excess-at
+tried c = c .before .before .before .before
+
 -- so the piece is what it is to be
 corrects : (c : tie.After-bytes-from) (d : Description) → let k = counted (corrected c .before) in let a = entry (read k) .args in
     Readable d (now (a .table)) (a .scales) (a .plan)
-    → Corrects d (now (a .table)) (a .scales) (take (a .n) (now (a .bytes))) (record { pixels = k .count-within .result / 3; bytes = c .bytes-from .result }) (c .bytes-from .last .1 .1 .0)
+    → Corrects d (now (a .table)) (a .scales) (take (a .n) (now (a .bytes))) (record { pixels = k .count-within .result / 3; bytes = c .bytes-from .result; excess = tried (corrected c) .excess-at .result })
+    (c .bytes-from .last .1 .1 .0)
 corrects c d able =
     let k = counted (corrected c .before) in
     let s = entry (read k) in
     let a = s .args in
     let room = subst (λ n. Room (a .scales) n (length (now (a .bytes))) (length (now (a .raw))) (length (now (a .corrected)))) (sym (input-length s)) (s .pre .1) in
-    piece-corrects able _ (now (a .raw)) (now (a .corrected)) (now (a .bytes)) room (read k .codes-from .ensures) (count k) (fixed (corrected c) d able) (c .bytes-from .ensures)
+    let Is : Excess → Type 0 = λ e.
+    Corrects d (now (a .table)) (a .scales) (take (a .n) (now (a .bytes))) (record { pixels = k .count-within .result / 3; bytes = c .bytes-from .result; excess = e }) (c .bytes-from .last .1 .1 .0) in
+    subst Is (sym (tried (corrected c) .excess-at .ensures))
+    (piece-corrects able _ (now (a .raw)) (now (a .corrected)) (now (a .bytes)) room (read k .codes-from .ensures) (count k) (fixed (corrected c) d able) (c .bytes-from .ensures))
 
 -- ---- the answers
 
@@ -114,6 +123,15 @@ greatest-requires c κs = search needs
 count-within-requires : tie.Need-count-within-requires
 count-within-requires c κs = search needs
 
+slice-reshare-prefix-excess-at : tie.Need-slice-reshare-prefix-excess-at
+slice-reshare-prefix-excess-at c = read c .codes-from .ensures .within
+
+slice-aggregate-excess-at : tie.Need-slice-aggregate-excess-at
+slice-aggregate-excess-at c = sym (length-take-le _ _ (read (c .before) .codes-from .ensures .within))
+
+excess-at-requires : tie.Need-excess-at-requires
+excess-at-requires c κs = search needs
+
 mul-codes : tie.Need-mul-codes
 mul-codes c = search needs
 
@@ -121,10 +139,10 @@ depths-in-requires : tie.Need-depths-in-requires
 depths-in-requires c κs = search needs
 
 slice-reshare-prefix-correct-all : tie.Need-slice-reshare-prefix-correct-all
-slice-reshare-prefix-correct-all c = few (c .before)
+slice-reshare-prefix-correct-all c = few (c .before .before .before)
 
 slice-aggregate-correct-all : tie.Need-slice-aggregate-correct-all
-slice-aggregate-correct-all c = sym (length-take-le _ _ (few (c .before .before)))
+slice-aggregate-correct-all c = sym (length-take-le _ _ (few (c .before .before .before .before)))
 
 correct-all-requires : tie.Need-correct-all-requires
 correct-all-requires c κs =
@@ -172,6 +190,9 @@ correct-piece-spec =
     slice-aggregate-count-within
     greatest-requires
     count-within-requires
+    slice-reshare-prefix-excess-at
+    slice-aggregate-excess-at
+    excess-at-requires
     mul-codes
     depths-in-requires
     slice-reshare-prefix-correct-all

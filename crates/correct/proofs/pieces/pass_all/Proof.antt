@@ -8,10 +8,13 @@ use Rattle.correct.proofs.pieces.pass_all.Statement.{statement}
 use Rattle.correct.proofs.pieces.pass_all.Tie as tie
 
 abbrev Inv-loop : tie.InvT-loop
-Inv-loop plan table scales pixels bytes₀ raw₀ corrected₀ left₀ bytes raw corrected left = (left ≤ pixels) × ((length bytes ≡ length bytes₀) × ((length raw ≡ length raw₀) × (length corrected ≡ length corrected₀)))
+Inv-loop ends plan table job bytes₀ raw₀ corrected₀ pixels left₀ bytes raw corrected left = (left ≤ pixels) × ((length bytes ≡ length bytes₀) × ((length raw ≡ length raw₀) × (length corrected ≡ length corrected₀)))
 
 abbrev μ-loop : tie.MeasureT-loop
-μ-loop plan table scales pixels bytes₀ raw₀ corrected₀ left₀ bytes raw corrected left = left
+μ-loop ends plan table job bytes₀ raw₀ corrected₀ pixels left₀ bytes raw corrected left = left
+
+pixels-requires : tie.Need-pixels-requires Inv-loop μ-loop
+pixels-requires c κs = c .before .before .before .pre .1 .0 .sized
 
 loop-holds : tie.Need-loop-holds Inv-loop μ-loop
 loop-holds c = search needs
@@ -26,15 +29,16 @@ pass-piece-requires : tie.Need-pass-piece-requires Inv-loop μ-loop
 pass-piece-requires c κs =
     let asked = c .before .before .before in
     let l = asked .before .before in
-    let s = l .before .before .before .before in (
+    let counted = l .before in
+    let s = counted .before .before .before .before in (
       s .pre .0,
       (
         record {
-          of-bytes = omega (arith, l .loop .inv .1 .0, s .pre .1 .0 .of-bytes);
-          of-raw = omega (arith, l .loop .inv .1 .1 .0, s .pre .1 .0 .of-raw);
-          of-corrected = omega (arith, l .loop .inv .1 .1 .0, l .loop .inv .1 .1 .1, s .pre .1 .0 .of-corrected);
+          of-bytes = omega (arith, l .loop .inv .1 .0, s .pre .1 .1 .of-bytes);
+          of-raw = omega (arith, l .loop .inv .1 .1 .0, s .pre .1 .1 .of-raw);
+          of-corrected = omega (arith, l .loop .inv .1 .1 .0, l .loop .inv .1 .1 .1, s .pre .1 .1 .of-corrected);
         },
-        (omega (arith, s .pre .1 .1), omega (arith, asked .next-piece .ensures)),
+        (omega (arith, counted .pixels .ensures .1), omega (arith, asked .next-piece .ensures)),
       ),
     )
 
@@ -80,6 +84,7 @@ pass-all-spec =
     (tie.spec
     Inv-loop
     μ-loop
+    pixels-requires
     loop-holds
     next-piece-requires
     sub-pass-piece

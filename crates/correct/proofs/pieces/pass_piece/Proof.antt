@@ -1,15 +1,13 @@
 -- What is read is a piece at most, and a piece fits its buffers.
 use denote.Ref.{now}
-use Prim.Native.Nat.{ℕ, _+_, _*_, _≤_, _<_}
+use Prim.Native.Nat.{ℕ, _*_, _≤_}
 use mathlib.Core.Path.{_≡_, sym, subst}
 use mathlib.Core.List.{_++_}
 use lib.ListN.{length, drop, length-append, length-drop}
-use mir.Syntax.{w64}
-use mir.Val.{Fits}
 use lib.Seq.{length-take-le}
 use Rattle.desk.specs.Loads.{Fills}
 use Rattle.correct.specs.Pieces.{pixelBytes}
-use Rattle.correct.proofs.Sizes.{piece-bytes, piece-codes, piece-made, pixel-there}
+use Rattle.correct.proofs.Sizes.{piece-bytes, piece-codes, piece-made}
 use native.Mathlib.Omega.{arith}
 use borrow.Author.Needs.{needs}
 use Rattle.correct.proofs.pieces.pass_piece.Statement.{statement}
@@ -32,23 +30,23 @@ filled c = c .before .before .before .before
 
 -- how many bytes were asked for
 abbrev count : tie.After-got → ℕ
-count c = let p = filled c .before .before in entry p .args .want * p .pixel-bytes .result
+count c = let p = filled c .before .before .before in entry p .args .want * p .pixel-bytes .result
 
 -- the bytes that were lent for the reading are so many
 long : (c : tie.After-got) → length (filled c .fill .last .1 .0) ≡ count c
-long c = let p = filled c .before .before in omega (arith, filled c .fill .kept, length-take-le (count c) (now (entry p .args .bytes)) (fits p))
+long c = let p = filled c .before .before .before in omega (arith, filled c .fill .kept, length-take-le (count c) (now (entry p .args .bytes)) (fits p))
 
 -- what was read is no more
 inside : (c : tie.After-got) → c .got .given .0 .0 ≤ count c
 inside c = subst (λ n. c .got .given .0 .0 ≤ n) (long c) (subst (Fills _) (c .got .given .1) (filled c .fill .ensures))
 
-got : (c : tie.After-got) → let s = entry (filled c .before .before) in c .got .given .0 .0 ≤ s .args .want * pixelBytes (s .args .scales .raw .wide)
-got c = let p = filled c .before .before in subst (λ n. c .got .given .0 .0 ≤ entry p .args .want * n) (p .pixel-bytes .ensures) (inside c)
+got : (c : tie.After-got) → let s = entry (filled c .before .before .before) in c .got .given .0 .0 ≤ s .args .want * pixelBytes (s .args .scales .raw .wide)
+got c = let p = filled c .before .before .before in subst (λ n. c .got .given .0 .0 ≤ entry p .args .want * n) (p .pixel-bytes .ensures) (inside c)
 
 -- all bytes are as many as before
-lent : (c : tie.After-got) → let bytes = now (entry (filled c .before .before) .args .bytes) in length (filled c .fill .last .1 .0 ++ drop (count c) bytes) ≡ length bytes
+lent : (c : tie.After-got) → let bytes = now (entry (filled c .before .before .before) .args .bytes) in length (filled c .fill .last .1 .0 ++ drop (count c) bytes) ≡ length bytes
 lent c =
-    let p = filled c .before .before in
+    let p = filled c .before .before .before in
     let bytes = now (entry p .args .bytes) in
     omega (arith, length-append (filled c .fill .last .1 .0) (drop (count c) bytes), length-drop (count c) bytes, long c, fits p)
 
@@ -57,17 +55,10 @@ read c = c .before .before .before .before .before
 
 -- the bytes that are made stand among those that were lent
 made : (c : tie.After-correct-piece) → c .correct-piece .result .bytes ≤ length (c .correct-piece .last .1 .1 .1 .0)
-made c = let readable = entry (filled (read c) .before .before) .pre .0 in c .correct-piece .ensures .0 (readable .0) (readable .1) .inside
+made c = let readable = entry (filled (read c) .before .before .before) .pre .0 in c .correct-piece .ensures .0 (readable .0) (readable .1) .inside
 
 abbrev piece : tie.Else1 → tie.After-correct-piece
-piece c = c .before .before .before .before .before .before .before .before .before
-
--- the pixel at which it stops has a number
-numbered : (c : tie.Else1) → Fits w64 (entry (filled (read (piece c)) .before .before) .args .first + piece c .correct-piece .result .pixels)
-numbered c =
-    let p = read (piece c) in
-    let s = entry (filled p .before .before) in
-    record { fits = omega (arith, s .pre .1 .1 .0, piece c .correct-piece .ensures .1, got p, piece-bytes (s .args .scales .raw .wide) (s .args .want) (s .pre .1 .1 .1)) }
+piece c = c .before .before .before .before .before .before .before .before .before .before
 
 pixel-bytes-requires : tie.Need-pixel-bytes-requires
 pixel-bytes-requires c κs = search needs
@@ -100,10 +91,10 @@ correct-piece-requires : tie.Need-correct-piece-requires
 correct-piece-requires c κs =
     let r = c .before .before .before .before in
     let n = r .got .given .0 .0 in
-    let s = entry (filled r .before .before) in (
+    let s = entry (filled r .before .before .before) in (
       s .pre .0,
       record {
-        there = omega (arith, lent r, inside r, fits (filled r .before .before));
+        there = omega (arith, lent r, inside r, fits (filled r .before .before .before));
         for-raw = omega (arith, s .pre .1 .0 .of-raw, piece-codes (s .args .scales .raw .wide) (s .args .want) n (s .pre .1 .1 .1) (got r));
         for-corrected = s .pre .1 .0 .of-corrected;
         for-bytes = omega (arith, lent r, s .pre .1 .0 .of-bytes, piece-made (s .args .scales .raw .wide) (s .args .scales .corrected .wide) (s .args .want) n (s .pre .1 .1 .1) (got r));
@@ -131,13 +122,11 @@ same-length-4 c = search needs
 returns-2 : tie.Need-returns-2
 returns-2 c = search needs
 
-div-if2 : tie.Need-div-if2
-div-if2 c =
-    let p = filled (read (piece c)) .before .before in
-    subst (λ n. 0 < n) (sym (p .pixel-bytes .ensures)) (pixel-there (entry p .args .scales .raw .wide))
-
-add-t30 : tie.Need-add-t30
-add-t30 c = numbered (c .before)
+passed-of-requires : tie.Need-passed-of-requires
+passed-of-requires c κs =
+    let p = read (piece c) in
+    let s = entry (filled p .before .before .before) in
+    (s .pre .1 .1 .0, omega (arith, piece c .correct-piece .ensures .1, got p, piece-bytes (s .args .scales .raw .wide) (s .args .want) (s .pre .1 .1 .1)))
 
 same-length-5 : tie.Need-same-length-5
 same-length-5 c = search needs
@@ -150,33 +139,6 @@ same-length-7 c = search needs
 
 returns-3 : tie.Need-returns-3
 returns-3 c = search needs
-
-add-t32 : tie.Need-add-t32
-add-t32 c = numbered (c .before .before)
-
-same-length-8 : tie.Need-same-length-8
-same-length-8 c = search needs
-
-same-length-9 : tie.Need-same-length-9
-same-length-9 c = search needs
-
-same-length-10 : tie.Need-same-length-10
-same-length-10 c = search needs
-
-returns-4 : tie.Need-returns-4
-returns-4 c = search needs
-
-same-length-11 : tie.Need-same-length-11
-same-length-11 c = search needs
-
-same-length-12 : tie.Need-same-length-12
-same-length-12 c = search needs
-
-same-length-13 : tie.Need-same-length-13
-same-length-13 c = search needs
-
-returns-5 : tie.Need-returns-5
-returns-5 c = search needs
 
 pub pass-piece-spec : {M : Type 1} → statement M
 pass-piece-spec =
@@ -199,18 +161,8 @@ pass-piece-spec =
     same-length-3
     same-length-4
     returns-2
-    div-if2
-    add-t30
+    passed-of-requires
     same-length-5
     same-length-6
     same-length-7
-    returns-3
-    add-t32
-    same-length-8
-    same-length-9
-    same-length-10
-    returns-4
-    same-length-11
-    same-length-12
-    same-length-13
-    returns-5)
+    returns-3)

@@ -6,26 +6,33 @@ use borrow.Author.Tests.{lt-ltb, le-ltb, not-true, not-false}
 use lib.Dec.{ltb}
 use lib.ListN.{length}
 use Rattle.ppm.specs.Header.{EndsWithin, startsP6, withWidth, headerOf}
+use Rattle.ppm.specs.declared.header.Fault.the-variants.{NotP6}
+use Rattle.ppm.specs.declared.header.Header.the-variants.{Wrong}
 use borrow.Author.Needs.{needs}
 use Rattle.ppm.proofs.header.header_of.Statement.{statement}
 use Rattle.ppm.proofs.header.header_of.Tie as tie
 
-long : (c : tie.Else1) → ltb (length (now (c .before .before .args .s))) 3 ≡ false
-long c = le-ltb _ 3 (c .if1 .left)
+long : (c : tie.Else1) → ltb (length (now (c .before .before .args .s))) 4 ≡ false
+long c = le-ltb _ 4 (c .if1 .left)
 
 p6 : (c : tie.Else2) → startsP6 (now (c .before .before .before .before .args .s)) ≡ true
 p6 c = sym (c .before .starts-p6 .ensures) ∙ not-false (c .before .starts-p6 .result) (c .if2 .left)
 
 returns : tie.Need-returns
 unfolding headerOf
-returns c = rw (lt-ltb _ 3 (c .if1 .taken))
+returns c = rw (lt-ltb _ 4 (c .if1 .taken))
 
 starts-p6-requires : tie.Need-starts-p6-requires
 starts-p6-requires c κs = search needs
 
+kind-of-requires : tie.Need-kind-of-requires
+kind-of-requires c κs = search needs
+
 returns-2 : tie.Need-returns-2
 unfolding headerOf
-returns-2 c = rw (long (c .before .before), ← c .before .starts-p6 .ensures, not-true (c .before .starts-p6 .result) (c .if2 .taken))
+returns-2 c =
+    let p = c .before .before in
+    rw (long (p .before), ← p .starts-p6 .ensures, not-true (p .starts-p6 .result) (c .before .if2 .taken)) (ap (λ kind. Wrong (NotP6 kind)) (c .kind-of .ensures))
 
 field-at-requires : tie.Need-field-at-requires
 field-at-requires c κs = search needs
@@ -60,6 +67,7 @@ header-of-spec =
     (tie.spec
     returns
     starts-p6-requires
+    kind-of-requires
     returns-2
     field-at-requires
     enum-known-field

@@ -1,8 +1,8 @@
 -- The variant found is what the definition says of it.
-use Rattle.correct.specs.Pieces.{outcomeOf}
+use Rattle.correct.specs.Outcomes.{fateOf}
 use borrow.Author.Needs.{needs}
-use Rattle.correct.proofs.pieces.outcome_of.Statement.{statement}
-use Rattle.correct.proofs.pieces.outcome_of.Tie as tie
+use Rattle.correct.proofs.outcomes.fate_of.Statement.{statement}
+use Rattle.correct.proofs.outcomes.fate_of.Tie as tie
 
 enum-told : tie.Need-enum-told
 enum-told c = search needs
@@ -20,27 +20,27 @@ enum-told-5 : tie.Need-enum-told-5
 enum-told-5 c = search needs
 
 returns : tie.Need-returns
-unfolding outcomeOf
+unfolding fateOf
 returns c = search needs
 
 returns-2 : tie.Need-returns-2
-unfolding outcomeOf
+unfolding fateOf
 returns-2 c = search needs
 
 returns-3 : tie.Need-returns-3
-unfolding outcomeOf
+unfolding fateOf
 returns-3 c = search needs
 
 returns-4 : tie.Need-returns-4
-unfolding outcomeOf
+unfolding fateOf
 returns-4 c = search needs
 
 returns-5 : tie.Need-returns-5
-unfolding outcomeOf
+unfolding fateOf
 returns-5 c = search needs
 
-pub outcome-of-spec : {M : Type 1} → statement M
-outcome-of-spec =
+pub fate-of-spec : {M : Type 1} → statement M
+fate-of-spec =
     tie.close
     (tie.spec
     enum-told
