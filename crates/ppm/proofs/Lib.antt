@@ -7,3 +7,4 @@ pub mod FirstAbove
 pub mod Scaling
 pub mod Sizes
 pub mod Prefixes
+pub mod Plainest
