@@ -69,6 +69,10 @@ module _ {job : Job} (agrees : Agrees job) where
   of-corrected : ScaleFits (job .maxval) (job .scales .corrected)
   of-corrected = scale-fits (job .maxval) _ (agrees .corrected)
 
+  -- the picture's greatest code is its maxval
+  pub raw-greatest : job .scales .raw .depth .greatest ≡ job .frame .maxval
+  raw-greatest = of-raw .greatest
+
   -- both depths are known
   pub agrees-known : depthsOf (bitsIn (job .scales)) ≡ Both (depthsIn (job .scales))
   agrees-known = ap₂ together (of-raw .depth) (of-corrected .depth)

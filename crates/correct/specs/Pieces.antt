@@ -1,5 +1,5 @@
 -- A piece of a picture: the pixels that its bytes are, up to the first that has a code above the greatest, corrected.
-use Prim.Native.Nat.{ℕ, _+_, _*_, _/_, _≤_}
+use Prim.Native.Nat.{ℕ, _+_, _*_, _/_, _≤_, _<_}
 use mathlib.Core.Path.{_≡_}
 use mathlib.Core.Bool.{Bool, true, false, cond, _&&_}
 use mathlib.Core.List.{List}
@@ -21,7 +21,7 @@ use Rattle.ppm.specs.declared.excess.Excess.the-variants.{Nothing, Above}
 use Rattle.correct.specs.Jobs.{bitsIn, depthsIn}
 use Rattle.correct.specs.declared.jobs.Scales.{Scales}
 use Rattle.correct.specs.declared.pieces.Passed.{Passed}
-use Rattle.correct.specs.declared.pieces.Passed.the-variants.{Whole, Cut, TooGreat}
+use Rattle.correct.specs.declared.pieces.Passed.the-variants.{Whole, Cut, TooGreat, Unread, Unwritten}
 use Rattle.correct.specs.declared.pieces.Piece.{Piece}
 
 -- the bytes of a pixel
@@ -87,3 +87,11 @@ passedBy Nothing piece first want = cond (ltb (piece .pixels) want) (Cut (first 
 
 unfoldable pub passedOf : Piece → ℕ → ℕ → Passed
 passedOf piece first want = passedBy (piece .excess) piece first want
+
+-- a code that is told as too great is above m
+abbrev pub TrulyTold : ℕ → Passed → Type 0
+TrulyTold m Whole = Unit {0}
+TrulyTold m (Cut pixel) = Unit {0}
+TrulyTold m (TooGreat pixel colour code) = m < code
+TrulyTold m (Unread pixel) = Unit {0}
+TrulyTold m Unwritten = Unit {0}

@@ -11,6 +11,7 @@ use ppm::Header;
 use ppm::Kind;
 use ppm::Part;
 use rules::Colour;
+ghost use Rattle.correct.specs.Pieces.{TrulyTold};
 
 // ---- help
 
@@ -294,7 +295,10 @@ fn say_excess(colour: Colour, code: u16, maxval: u64) {
     say(b"\n");
 }
 
-pub fn say_passed(ends: Ends, number: u64, passed: Passed, frame: Frame) {
+// A code that is told as above maxval is.
+pub fn say_passed(ends: Ends, number: u64, passed: Passed, frame: Frame)
+    requires { ⌜ TrulyTold (frame .maxval) passed ⌝ }
+{
     match passed {
         Passed::Whole => {}
         Passed::Cut(pixel) => {

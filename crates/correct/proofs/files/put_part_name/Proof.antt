@@ -1,7 +1,6 @@
 -- Four texts, one after another.
-use mathlib.Core.List.{[], _∷_}
 use Prim.Native.Nat.{ℕ, _/_, _%_}
-use mathlib.Core.List.{List}
+use mathlib.Core.List.{List, [], _∷_}
 use Rattle.rules.specs.Decimals.{digitByte}
 use Rattle.rules.specs.Reading.Lines.{bytes}
 use Rattle.lettering.specs.Putting.{Room}

@@ -5,7 +5,8 @@ use Rattle.colour.specs.Plans.{planOf}
 use Rattle.colour.specs.Ratios.{ratioOf, InTerms}
 use Rattle.colour.proofs.Ratios.{ratio-known}
 use Rattle.correct.specs.Jobs.{bitsIn, depthsIn}
-use Rattle.correct.proofs.Agreeing.{agrees-known}
+use Rattle.correct.specs.Pieces.{TrulyTold}
+use Rattle.correct.proofs.Agreeing.{agrees-known, raw-greatest}
 use borrow.Author.Needs.{needs}
 use Rattle.correct.proofs.pictures.pass_job.Statement.{statement}
 use Rattle.correct.proofs.pictures.pass_job.Tie as tie
@@ -40,7 +41,10 @@ pass-all-requires c κs =
     )
 
 say-passed-requires : tie.Need-say-passed-requires
-say-passed-requires c κs = search needs
+say-passed-requires c κs =
+    let all = c .before .before .before .before .before .before in
+    let s = entry (all .before .before .before .before .before .before .before) in
+    subst (λ m. TrulyTold m (all .pass-all .result)) (raw-greatest (s .pre .1 .0)) (all .pass-all .ensures)
 
 fate-of-requires : tie.Need-fate-of-requires
 fate-of-requires c κs = search needs

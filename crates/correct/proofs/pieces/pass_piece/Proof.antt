@@ -6,8 +6,9 @@ use mathlib.Core.List.{_++_}
 use lib.ListN.{length, drop, length-append, length-drop}
 use lib.Seq.{length-take-le}
 use Rattle.desk.specs.Loads.{Fills}
-use Rattle.correct.specs.Pieces.{pixelBytes}
+use Rattle.correct.specs.Pieces.{TrulyTold, pixelBytes}
 use Rattle.correct.proofs.Sizes.{piece-bytes, piece-codes, piece-made}
+use Rattle.correct.proofs.Telling.{truly-told}
 use native.Mathlib.Omega.{arith}
 use borrow.Author.Needs.{needs}
 use Rattle.correct.proofs.pieces.pass_piece.Statement.{statement}
@@ -85,7 +86,7 @@ same-length : tie.Need-same-length
 same-length c = search needs
 
 returns : tie.Need-returns
-returns c = search needs
+returns c = tt
 
 correct-piece-requires : tie.Need-correct-piece-requires
 correct-piece-requires c κs =
@@ -120,7 +121,7 @@ same-length-4 : tie.Need-same-length-4
 same-length-4 c = search needs
 
 returns-2 : tie.Need-returns-2
-returns-2 c = search needs
+returns-2 c = tt
 
 passed-of-requires : tie.Need-passed-of-requires
 passed-of-requires c κs =
@@ -138,7 +139,12 @@ same-length-7 : tie.Need-same-length-7
 same-length-7 c = search needs
 
 returns-3 : tie.Need-returns-3
-returns-3 c = search needs
+returns-3 c =
+    let p = piece (c .before) in
+    let s = entry (filled (read p) .before .before .before) in
+    let readable = s .pre .0 in
+    let m = s .args .scales .raw .depth .greatest in
+    subst (TrulyTold m) (sym (c .passed-of .ensures)) (truly-told m _ (p .correct-piece .result) (s .args .first) (s .args .want) (p .correct-piece .ensures .0 (readable .0) (readable .1) .excess))
 
 pub pass-piece-spec : {M : Type 1} → statement M
 pass-piece-spec =
