@@ -3,6 +3,7 @@ use Prim.Native.Nat.{ℕ, _+_, _*_, _/_, _≤_, _<_}
 use mathlib.Core.Path.{_≡_}
 use mathlib.Core.Bool.{Bool, true, false, cond, _&&_}
 use mathlib.Core.List.{List}
+use mathlib.Core.Logic.{_⊎_}
 use lib.Dec.{leb, ltb}
 use lib.IntN.{ℤ}
 use lib.ListN.{length, take}
@@ -87,6 +88,19 @@ passedBy Nothing piece first want = cond (ltb (piece .pixels) want) (Cut (first 
 
 unfoldable pub passedOf : Piece → ℕ → ℕ → Passed
 passedOf piece first want = passedBy (piece .excess) piece first want
+
+-- some input of a piece's length at most was corrected, and r says how far it went
+pub record WentSoFar (d : Description) (table : List ℤ) (s : Scales) (first want : ℕ) (r : Passed) : Type 0 where
+  pub input : List ℕ
+  pub piece : Piece
+  pub bytes : List ℕ
+  pub within-piece : length input ≤ want * pixelBytes (s .raw .wide)
+  pub corrects : Corrects d table s input piece bytes
+  pub told : r ≡ passedOf piece first want
+
+-- what becomes of a piece: it cannot be read, or not be written, or it goes so far
+abbrev pub PieceGoes : Description → List ℤ → Scales → ℕ → ℕ → Passed → Type 0
+PieceGoes d table s first want r = (r ≡ Unread first) ⊎ ((r ≡ Unwritten) ⊎ WentSoFar d table s first want r)
 
 -- a code that is told as too great is above m
 abbrev pub TrulyTold : ℕ → Passed → Type 0

@@ -19,7 +19,7 @@ ghost use Prim.Native.Nat.{_≤_, min};
 ghost use lib.ListN.{length, take};
 ghost use Rattle.rules.specs.declared.Description.{Description};
 ghost use Rattle.correct.specs.Jobs.{Agrees};
-ghost use Rattle.correct.specs.Pieces.{Buffers, Corrects, Readable, Room, TrulyTold, hasRoom, mostPixels, passedOf, pieceBytes, piecePixels, pixelBytes};
+ghost use Rattle.correct.specs.Pieces.{Buffers, Corrects, PieceGoes, Readable, Room, TrulyTold, hasRoom, mostPixels, passedOf, pieceBytes, piecePixels, pixelBytes};
 
 // What became of the pixels: all are written, or the pixel at which it stopped.
 pub enum Passed {
@@ -140,7 +140,7 @@ fn pass_piece(
     requires { ⌜ ((d : Description) × Readable d (now table) scales plan) ⌝ }
     requires { ⌜ Buffers (length (now bytes)) (length (now raw)) (length (now corrected)) ⌝ }
     requires { ⌜ (first ≤ mostPixels) × (want ≤ piecePixels) ⌝ }
-    ensures { λ r. ⌜ TrulyTold (scales .raw .depth .greatest) r ⌝ }
+    ensures { λ r. ⌜ ((d : Description) → Readable d (now (table .entry)) scales plan → PieceGoes d (now (table .entry)) scales first want r) ⌝ }
 {
     let of_raw = scales.raw;
     let size = pixel_bytes(of_raw.wide);

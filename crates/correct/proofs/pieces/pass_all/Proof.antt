@@ -2,6 +2,7 @@
 use Prim.Native.Nat.{_≤_}
 use mathlib.Core.Path.{_≡_}
 use lib.ListN.{length}
+use Rattle.correct.proofs.Telling.{goes-truly}
 use borrow.Author.Needs.{needs}
 use native.Mathlib.Omega.{arith}
 use Rattle.correct.proofs.pieces.pass_all.Statement.{statement}
@@ -55,7 +56,11 @@ same-length-3 : tie.Need-same-length-3 Inv-loop μ-loop
 same-length-3 c = search needs
 
 returns : tie.Need-returns Inv-loop μ-loop
-returns c = c .before .before .before .before .before .before .before .pass-piece .ensures
+returns c =
+    let piece = c .before .before .before .before .before .before .before in
+    let l = piece .before .before .before .before .before .before in
+    let s = l .before .before .before .before .before in
+    goes-truly (s .args .job .scales) (piece .pass-piece .ensures (s .pre .0 .0) (s .pre .0 .1))
 
 sub-left : tie.Need-sub-left Inv-loop μ-loop
 sub-left c = search needs

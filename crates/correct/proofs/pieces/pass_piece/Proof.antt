@@ -1,14 +1,14 @@
 -- What is read is a piece at most, and a piece fits its buffers.
 use denote.Ref.{now}
 use Prim.Native.Nat.{ℕ, _*_, _≤_}
-use mathlib.Core.Path.{_≡_, sym, subst}
-use mathlib.Core.List.{_++_}
-use lib.ListN.{length, drop, length-append, length-drop}
+use mathlib.Core.Path.{_≡_, refl, sym, subst}
+use mathlib.Core.List.{List, _++_}
+use mathlib.Core.Logic.{inl, inr}
+use lib.ListN.{length, take, drop, length-append, length-drop}
 use lib.Seq.{length-take-le}
 use Rattle.desk.specs.Loads.{Fills}
-use Rattle.correct.specs.Pieces.{TrulyTold, pixelBytes}
+use Rattle.correct.specs.Pieces.{pixelBytes}
 use Rattle.correct.proofs.Sizes.{piece-bytes, piece-codes, piece-made}
-use Rattle.correct.proofs.Telling.{truly-told}
 use native.Mathlib.Omega.{arith}
 use borrow.Author.Needs.{needs}
 use Rattle.correct.proofs.pieces.pass_piece.Statement.{statement}
@@ -51,6 +51,14 @@ lent c =
     let bytes = now (entry p .args .bytes) in
     omega (arith, length-append (filled c .fill .last .1 .0) (drop (count c) bytes), length-drop (count c) bytes, long c, fits p)
 
+-- the bytes after the reading
+abbrev all : tie.After-got → List ℕ
+all c = filled c .fill .last .1 .0 ++ drop (count c) (now (entry (filled c .before .before .before) .args .bytes))
+
+-- what was read is among them
+there : (c : tie.After-got) → c .got .given .0 .0 ≤ length (all c)
+there c = omega (arith, lent c, inside c, fits (filled c .before .before .before))
+
 abbrev read : tie.After-correct-piece → tie.After-got
 read c = c .before .before .before .before .before
 
@@ -86,7 +94,7 @@ same-length : tie.Need-same-length
 same-length c = search needs
 
 returns : tie.Need-returns
-returns c = tt
+returns c = λ d readable. inl refl
 
 correct-piece-requires : tie.Need-correct-piece-requires
 correct-piece-requires c κs =
@@ -95,7 +103,7 @@ correct-piece-requires c κs =
     let s = entry (filled r .before .before .before) in (
       s .pre .0,
       record {
-        there = omega (arith, lent r, inside r, fits (filled r .before .before .before));
+        there = there r;
         for-raw = omega (arith, s .pre .1 .0 .of-raw, piece-codes (s .args .scales .raw .wide) (s .args .want) n (s .pre .1 .1 .1) (got r));
         for-corrected = s .pre .1 .0 .of-corrected;
         for-bytes = omega (arith, lent r, s .pre .1 .0 .of-bytes, piece-made (s .args .scales .raw .wide) (s .args .scales .corrected .wide) (s .args .want) n (s .pre .1 .1 .1) (got r));
@@ -121,7 +129,7 @@ same-length-4 : tie.Need-same-length-4
 same-length-4 c = search needs
 
 returns-2 : tie.Need-returns-2
-returns-2 c = tt
+returns-2 c = λ d readable. inr (inl refl)
 
 passed-of-requires : tie.Need-passed-of-requires
 passed-of-requires c κs =
@@ -141,10 +149,19 @@ same-length-7 c = search needs
 returns-3 : tie.Need-returns-3
 returns-3 c =
     let p = piece (c .before) in
-    let s = entry (filled (read p) .before .before .before) in
-    let readable = s .pre .0 in
-    let m = s .args .scales .raw .depth .greatest in
-    subst (TrulyTold m) (sym (c .passed-of .ensures)) (truly-told m _ (p .correct-piece .result) (s .args .first) (s .args .want) (p .correct-piece .ensures .0 (readable .0) (readable .1) .excess))
+    let g = read p in
+    let corrected = p .correct-piece .ensures .0 in
+    λ d readable.
+    inr
+    (inr
+    (record {
+      input = take (g .got .given .0 .0) (all g);
+      piece = p .correct-piece .result;
+      bytes = p .correct-piece .last .1 .1 .1 .0;
+      within-piece = omega (arith, got g, length-take-le (g .got .given .0 .0) (all g) (there g));
+      corrects = corrected d readable;
+      told = c .passed-of .ensures;
+    }))
 
 pub pass-piece-spec : {M : Type 1} → statement M
 pass-piece-spec =
