@@ -5,16 +5,16 @@ pub fn help(fd: i32) -> bool {
     write(fd, b"usage: erythmoda check TABLE...\n")
         && write(
             fd,
-            b"Judges .cube files of any size that has rules, and says one line of each on standard output: what an accepted file is, or why\n",
+            b"Judges .cube files of every size that the rules allow, and prints a line for each: what it is, or the number and the line for\n",
         )
         && write(
             fd,
-            b"one is refused, with the number, the line, what is meant there and what would pass.\n",
+            b"which it is refused, which bytes are meant and what would pass in their place.\n",
         )
         && write(fd, b"  TABLE  the name of a .cube file\n")
         && write(
             fd,
-            b"status: 0 all are accepted, 1 one is refused, 2 a wrong call, or a file could not be read\n",
+            b"status: 0 all are accepted; 1 one is refused; 2 a wrong call, or the system could not read or write\n",
         )
         && write(fd, b"example: erythmoda check look.cube\n")
         && write(fd, b"example: erythmoda check tables/*.cube\n")

@@ -27,10 +27,10 @@ pub fn help(fd: i32) -> bool {
             fd,
             b"    which rows of the table made a pixel's codes, with which weights, and between which codes they lie; these as a line to keep, and the codes of one\n",
         )
-        && write(fd, b"erythmoda correct table.cube < in.ppm > out.ppm\n")
+        && write(fd, b"erythmoda correct table.cube in.ppm out.ppm\n")
         && write(
             fd,
-            b"    a binary PPM picture of 8, 10, 12 or 16 bits, corrected by the table, in the same depth or another one\n",
+            b"    binary PPM pictures of 8, 10, 12 or 16 bits, corrected by the table, in the same depth or another one; also from standard input to standard output\n",
         )
         && write(fd, b"erythmoda rewrite table.cube > new.cube\n")
         && write(
@@ -45,7 +45,7 @@ pub fn help(fd: i32) -> bool {
         && write(fd, b"erythmoda VERB --help, erythmoda --version\n\n")
         && write(
             fd,
-            b"Status: 0 done, or for report accepted; 1 refused, with a number and words; 2 a wrong call, or the system could not read or write.\n",
+            b"Status: 0 done, or for report and check accepted; 1 refused, with a number and words; 2 a wrong call, or the system could not read or write.\n",
         )
 }
 
