@@ -87,7 +87,7 @@ fn write_code(fd: i32, byte: u8, column: u64) -> bool {
         && write_known_byte(fd, byte)
 }
 
-// As `: 0x0D in column 12, a carriage return ...`.
+// As `: 0x0d in column 12, a carriage return ...`.
 fn write_byte(fd: i32, text: &[u8], column: u64) -> bool {
     if text.len() == 0 {
         return true;
