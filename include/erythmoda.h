@@ -25,9 +25,9 @@ extern "C" {
  * a call changes, so that a program never meets a library with other calls than it was compiled for. MINOR grows when a
  * call is new, or a rule changes, so that some file or pixel is answered otherwise. PATCH grows when no answer changes. */
 #define ERYTHMODA_VERSION_MAJOR 1
-#define ERYTHMODA_VERSION_MINOR 6
+#define ERYTHMODA_VERSION_MINOR 5
 #define ERYTHMODA_VERSION_PATCH 0
-#define ERYTHMODA_VERSION "1.6.0"
+#define ERYTHMODA_VERSION "1.5.0"
 
 /* What a table is, in eleven numbers:
  *

@@ -1,6 +1,6 @@
 -- What an accepted answer tells of its file, and that an answer ends as the file's own does.
 use Prim.Native.Nat.{ℕ}
-use mathlib.Core.Path.{◌≡◌, refl, sym, ap}
+use mathlib.Core.Path.{◌≡◌, refl, sym, ap, ◌∙◌}
 use mathlib.Core.List.{List}
 use Rattle.rules.specs.Units.{place_limit}
 use Rattle.rules.specs.Reading.{read, check}
@@ -10,8 +10,9 @@ use Rattle.rules.specs.declared.Description.{Description}
 use Rattle.rules.specs.declared.Read.{Read}
 use Rattle.rules.specs.declared.Read.TheVariants.{Accepted, Refused}
 use Rattle.rules.proofs.Answers.{refused-not-0}
+use Rattle.rules.proofs.Reading.Bridge.{accepted-in-range}
+use Rattle.rules.proofs.Reporting.Lengths.{title-inside}
 use Rattle.reporting.specs.Telling.{Tellable}
-use Rattle.reporting.proofs.Answered.{accepted-tellable}
 use Rattle.desk.specs.Outcomes.{outcome_of}
 
 -- an answer with the number and the description of an accepted one is that one
@@ -31,7 +32,11 @@ module _ (file : List ℕ) where
   pub tellable : {d : Description} → Checks file (Accepted d) → Tellable file d
   unfolding check
   tellable {d} c =
-      accepted-tellable file place_limit d (same-accepted (read file place_limit) d c.number c.description)
+      let accepted : read file place_limit ≡ Accepted d = same-accepted (read file place_limit) d c.number c.description in
+      record {
+        range = accepted-in-range file place_limit d accepted;
+        title = record { within = title-inside file place_limit d accepted };
+      }
 
   pub ends : {r : Read} → Checks file r → outcome_of r ≡ outcome_of (check file)
   ends {r} c = same_end r (check file) c.number

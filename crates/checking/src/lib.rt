@@ -1,4 +1,6 @@
 // Files judged one after another, with no table: a line for each, on standard output.
+#![tactic(auto)]
+
 mod words;
 
 ghost use Rattle.rules.specs.Reading.{check};
@@ -9,8 +11,8 @@ ghost use Rattle.desk.specs.Outcomes.{outcome_of, EndsAs};
 ghost use Rattle.checking.specs.Verdicts.{EndsBy};
 
 use desk::{
-    Fetched, Name, Outcome, fetch_file, name_at, outcome_of, say, write_domains, write_escaped,
-    write_refused, write_size, write_title,
+    Fetched, Name, Outcome, fetch_file, name_at, outcome_of, say, write_domains, write_refused,
+    write_size, write_title,
 };
 use libc::{STDERR_FILENO, STDOUT_FILENO};
 use reading::check;
@@ -47,10 +49,7 @@ fn check_bytes(path: &[u8], file: &[u8]) -> Outcome
     ensures { EndsAs (outcome_of (check file.now)) result }
 {
     let answer = check(file);
-    let written = write_escaped(STDOUT_FILENO, path)
-        && say(b": ")
-        && show_answer(file, answer)
-        && say(b"\n");
+    let written = say(path) && say(b": ") && show_answer(file, answer) && say(b"\n");
     outcome_of(answer).if_written(written, &PROGRAM)
 }
 

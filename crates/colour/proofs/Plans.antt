@@ -105,7 +105,7 @@ module _ (d : Description) {table : List ℤ} (good : Sound d table) (depths : D
       ∙ position-is (domain d c) (span d c) (in_parts d good c) (wide_enough (good.domains c)) raw (ratio_of depths).bottom d.n (stride d.n c) code
       (span-some d good c) deep good.least
 
-  pub place-at : (c : Colour) (code : ℕ) → place_of (axis_in (plan_of d depths) c) (d.n - 1) code ≡ record { index = index_at d raw c code; fraction = fraction_at d raw c code }
+  place-at : (c : Colour) (code : ℕ) → place_of (axis_in (plan_of d depths) c) (d.n - 1) code ≡ record { index = index_at d raw c code; fraction = fraction_at d raw c code }
   place-at c code =
       ap (λ x. place_of x (d.n - 1) code) (axis-of d depths c)
       ∙ place_is (domain d c) (span d c) (in_parts d good c) (wide_enough (good.domains c)) raw (ratio_of depths).bottom d.n (stride d.n c) code

@@ -1,11 +1,12 @@
 // One pixel to three corrected codes, with the rows and weights used: a plan, the two halves of the way over it, and both in one.
+#![tactic(auto)]
+
 ghost use Rattle.std.specs.Prelude.{◌≡◌, List, ℤ};
 ghost use Rattle.rules.specs.Units.{raw_m};
 ghost use Rattle.rules.specs.Looking.{shown, used, codes_by, correct};
 ghost use Rattle.colour.specs.Plans.{axis_in, rows_in, Planned, Made};
 ghost use Rattle.rules.specs.Demands.{Weighable};
 
-pub use codes::code_in;
 use codes::{codes_by, line_codes};
 pub use lines::{Line, line_code, line_of};
 pub use place::{Place, place_of};
@@ -13,7 +14,6 @@ pub use plan::{Axis, Plan, plan_of, times_m};
 pub use rows::{den_of, row_code};
 use rules::{Codes, Colour, Kind, Shares};
 use shares::{line, path_by, steps_of};
-pub use span::domain_of;
 use sums::cube_sums;
 pub use sums::{colour_place, row_part, sample_of, with_term};
 

@@ -1,4 +1,6 @@
 // The command `erythmoda`: what its first argument asks for, done in memory that is lent to it, and the status that it ends with.
+#![tactic(auto)]
+
 mod verbs;
 mod words;
 

@@ -1,9 +1,9 @@
 // What the command says of itself.
 use desk::write;
 
-// As `erythmoda 1.6.0`; tests hold it to the version of the header.
+// As `erythmoda 1.5.0`; tests hold it to the version of the header.
 pub fn version(fd: i32) -> bool {
-    write(fd, b"erythmoda 1.6.0\n")
+    write(fd, b"erythmoda 1.5.0\n")
 }
 
 // What there is, with an example of each.
@@ -24,7 +24,7 @@ pub fn help(fd: i32) -> bool {
         && write(fd, b"erythmoda explain table.cube 8 51 102 204\n")
         && write(
             fd,
-            b"    which rows of the table made a pixel's codes, with which weights, and the exact values; as words, fields or a drawing; rows and weights as a line to keep\n",
+            b"    which rows of the table made a pixel's codes, with which weights, and between which codes they lie; these as a line to keep, and the codes of one\n",
         )
         && write(fd, b"erythmoda correct table.cube in.ppm out.ppm\n")
         && write(
@@ -56,12 +56,8 @@ pub fn report_help(fd: i32) -> bool {
         )
         && write(
             fd,
-            b"N and rows, the domain of each colour in thousandths, the title; or, of a file that is refused, one line: refused, the number,\n",
+            b"N and rows, the domain of each colour in thousandths, the title. A file that it refuses gives one line: refused, the number,\n",
         )
-        && write(fd, b"the line.\n")
-        && write(
-            fd,
-            b"status: 0 the file is accepted; 1 it is refused; 2 a wrong call, or the system could not read or write\n",
-        )
+        && write(fd, b"the line; the status is then 1.\n")
         && write(fd, b"example: erythmoda report < look.cube\n")
 }

@@ -1,4 +1,6 @@
 // What a line says by itself, whatever stands before it: three numbers, a size, a title, by the line's form.
+#![tactic(auto)]
+
 ghost use Rattle.std.specs.Prelude.{◌≡◌, cond, ◌&&◌, [], ◌∷◌, ◌+◌, ◌≤◌, ℤ, length, drop};
 ghost use Rattle.std.proofs.Math.Option.{none, some};
 ghost use Rattle.numbers.specs.Cuts.{most_limit, most_places};

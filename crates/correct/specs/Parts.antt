@@ -5,3 +5,7 @@ use Rattle.rules.specs.Reading.Lines.{bytes}
 
 unfoldable pub part_name : List ℕ → ℕ → List ℕ
 part_name path number = path ++ (bytes ".part-" ++ (digit_byte (number / 10) ∷ digit_byte (number % 10) ∷ []))
+
+-- the most bytes of a name
+abbrev pub most_name : ℕ
+most_name = 4_095

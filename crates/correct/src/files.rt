@@ -4,17 +4,16 @@ ghost use Rattle.io.specs.Counts.{IsPrefixLen};
 ghost use Rattle.libc.specs.Io.{Ended};
 ghost use Rattle.rules.specs.Descriptions.{could_be_read};
 ghost use Rattle.lettering.specs.Putting.{Room, Puts};
-ghost use Rattle.desk.specs.Loads.{longest_name};
 ghost use Rattle.desk.specs.Outcomes.{EndsAs};
 ghost use Rattle.correct.specs.Outcomes.{outcome_of};
-ghost use Rattle.correct.specs.Parts.{part_name};
+ghost use Rattle.correct.specs.Parts.{most_name, part_name};
 ghost use Rattle.correct.specs.Pieces.{Buffers};
 
 use crate::ends::Ends;
 use crate::outcomes::{Story, outcome_of};
 use crate::pictures::pass_pictures;
 use crate::words;
-use desk::{Last, Name, Outcome, name_at};
+use desk::{Last, Outcome};
 use lettering::{put, put_byte};
 use libc::PATH_MAX;
 use rules::Description;
@@ -29,13 +28,19 @@ const PART_BYTES: usize = 8;
 // ---- names
 
 // The name that an argument gives, put at the start of `path`, and how many bytes it has; or 0, once it was said why it is none.
-fn name_given(place: usize, what: &[u8], path: &mut [u8]) -> usize
+fn name_at(place: usize, what: &[u8], path: &mut [u8]) -> usize
     ensures counts { IsPrefixLen result path.new }
-    ensures within { result ≤ longest_name }
+    ensures within { result ≤ most_name }
 {
-    let Name::Bytes(n) = name_at(b"erythmoda correct", what, place, path) else {
+    let n = os::arg(place, path);
+    if os::errno() != 0 {
+        words::say_long(what);
         return 0;
-    };
+    }
+    if n > LAST {
+        words::say_long(what);
+        return 0;
+    }
     if n == 0 {
         words::say_empty_name(what);
     }
@@ -181,7 +186,7 @@ fn settle(story: Story, to: i32, part: &[u8], path: &[u8]) -> Outcome
 // The file IN, open; or -1, once it was said why.
 fn open_in() -> i32 {
     let mut path = io::buffer();
-    let n = name_given(3, b"IN", &mut path);
+    let n = name_at(3, b"IN", &mut path);
     if n == 0 {
         return -1;
     }
@@ -203,7 +208,7 @@ fn correct_to(
     raw: &mut [u16],
     corrected: &mut [u16],
 ) -> Outcome
-    requires path_len_bound { length path.now ≤ longest_name }
+    requires path_len_bound { length path.now ≤ most_name }
     requires table_value { could_be_read d table.now ≡ true }
     requires buffers { Buffers (length bytes.old) (length raw.old) (length corrected.old) }
 {
@@ -235,7 +240,7 @@ pub fn correct_files(
     requires buffers { Buffers (length bytes.old) (length raw.old) (length corrected.old) }
 {
     let mut path = io::buffer();
-    let n = name_given(4, b"OUT", &mut path);
+    let n = name_at(4, b"OUT", &mut path);
     if n == 0 {
         return Outcome::Failed;
     }

@@ -1,5 +1,7 @@
 // Corrects binary PPM pictures by a .cube table, piece by piece and one after another: from standard input to standard output, or from file to file, in lent
 // memory.
+#![tactic(auto)]
+
 mod call;
 mod ends;
 mod files;

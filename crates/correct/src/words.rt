@@ -122,6 +122,12 @@ pub fn say_unwritten(ends: Ends, number: u64) {
 
 // ---- names
 
+pub fn say_long(what: &[u8]) {
+    say(b"erythmoda correct: the name of ");
+    say(what);
+    say(b" is longer than 4,095 bytes\n");
+}
+
 pub fn say_empty_name(what: &[u8]) {
     say(b"erythmoda correct: the name of ");
     say(what);

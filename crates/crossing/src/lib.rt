@@ -1,4 +1,6 @@
 // What crosses the C boundary: descriptions, colours, pixels, codes, rows and weights as the numbers that C lends, and an answer's number and values.
+#![tactic(auto)]
+
 pub use answers::{
     description_of, first_number, first_shares, inverse_code, inverse_count, inverse_number,
     look_codes, look_number, look_shares, picture_number, places_needed, read_line, read_number,

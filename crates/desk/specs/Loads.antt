@@ -22,14 +22,6 @@ abbrev pub NameWithin : List ℕ → Name → Type 0
 NameWithin space (N.Bytes n) = n ≤ length space
 NameWithin space N.Unusable = Unit {0}
 
--- and it is none that the system has no place for
-abbrev pub longest_name : ℕ
-longest_name = 4_095
-
-abbrev pub NameShort : Name → Type 0
-NameShort (N.Bytes n) = n ≤ longest_name
-NameShort N.Unusable = Unit {0}
-
 abbrev pub Fetches : List ℕ → Fetched → Type 0
 Fetches file (Bytes n) = n ≤ length file
 Fetches file TooLong = Unit {0}

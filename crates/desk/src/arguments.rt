@@ -55,11 +55,12 @@ pub enum Last {
     Unclear,
 }
 
-// Of so many arguments, from a place on: nothing, or the option of this name and its number.
-pub fn option_among(count: usize, place: usize, name: &[u8], most: u64) -> Last
+// From a place on: nothing, or the option of this name and its number.
+pub fn option_at(place: usize, name: &[u8], most: u64) -> Last
     requires { most ≤ most_limit }
     ensures { OptionUpTo most result }
 {
+    let count = os::arg_count();
     if count < place {
         return Last::Unclear;
     }
@@ -77,12 +78,4 @@ pub fn option_among(count: usize, place: usize, name: &[u8], most: u64) -> Last
         Argument::TooGreat => Last::TooGreat,
         Argument::NoNumber => Last::Unclear,
     }
-}
-
-// Of all arguments.
-pub fn option_at(place: usize, name: &[u8], most: u64) -> Last
-    requires { most ≤ most_limit }
-    ensures { OptionUpTo most result }
-{
-    option_among(os::arg_count(), place, name, most)
 }

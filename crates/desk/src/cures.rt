@@ -6,7 +6,9 @@ use judge::{count_rows, in_range};
 use numbers::number_of;
 use pointing::{SizeFound, line_spot, point_at, rows_in, size_in};
 use rules::{Form, Keyword, Kind, Number, Refusal, Size, TenMillionths};
-use text::{LINE_LIMIT, form_of};
+use text::form_of;
+
+const LINE_LIMIT: usize = 250;
 
 // ---- what was read
 

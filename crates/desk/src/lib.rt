@@ -1,7 +1,8 @@
 // What the programs at the desk share: a table loaded from a file, arguments as numbers, and what is printed.
+#![tactic(auto)]
+
 mod arguments;
 mod cures;
-mod depths;
 mod failures;
 mod loading;
 mod names;
@@ -11,13 +12,12 @@ mod refusals;
 mod reports;
 mod tables;
 
-pub use arguments::{Argument, Last, is_word_at, number_in, option_among, option_at};
-pub use depths::{say_code, say_depths};
+pub use arguments::{Argument, Last, is_word_at, number_in, option_at};
 pub use failures::{say_unread, say_unwritten};
 pub use loading::{Fetched, Filled, Loaded, fetch_file, fill, load_argument};
 pub use names::{Name, name_at};
 pub use outcomes::Outcome;
-pub use printing::{say, write, write_count, write_escaped, write_sample, write_signed};
+pub use printing::{say, write, write_count, write_sample, write_signed};
 pub use refusals::{say_refusal, write_meaning, write_refused};
 pub use reports::{outcome_of, report_input};
-pub use tables::{title_text, write_bound, write_domain, write_domains, write_size, write_title};
+pub use tables::{write_domain, write_domains, write_size, write_title};

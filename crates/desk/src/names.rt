@@ -1,5 +1,5 @@
 // The name of a file among the arguments.
-ghost use Rattle.desk.specs.Loads.{NameShort, NameWithin};
+ghost use Rattle.desk.specs.Loads.{NameWithin};
 
 use crate::printing::write;
 use libc::STDERR_FILENO;
@@ -24,8 +24,7 @@ fn say_too_long(program: &[u8], what: &[u8]) {
 
 // The argument at a place, which is there, as the name of what is to be read or written.
 pub fn name_at(program: &[u8], what: &[u8], place: usize, path: &mut [u8]) -> Name
-    ensures within { NameWithin path.new result }
-    ensures short { NameShort result }
+    ensures { NameWithin path.new result }
 {
     let n = os::arg(place, path);
     if os::errno() != 0 {

@@ -11,36 +11,6 @@ pub fn write(fd: i32, text: &[u8]) -> bool {
     io::write_all(fd, text)
 }
 
-// Whether a byte would end a line or a field, or begin what stands for such a byte.
-fn needs_escape(byte: u8) -> bool {
-    if byte < b' ' {
-        return true;
-    }
-    if byte == 0x7F {
-        return true;
-    }
-    byte == b'\\'
-}
-
-fn write_byte(fd: i32, byte: u8) -> bool {
-    if needs_escape(byte) {
-        return write(fd, b"\\x") && io::print_hex(fd, byte as u64, 2);
-    }
-    write(fd, &[byte])
-}
-
-// A text that may hold any byte, such as a file's name, within a line or a field: as `two\x0alines`.
-pub fn write_escaped(fd: i32, text: &[u8]) -> bool {
-    let mut i = 0;
-    while i < text.len() {
-        if !write_byte(fd, text[i]) {
-            return false;
-        }
-        i += 1;
-    }
-    true
-}
-
 // On standard output.
 pub fn say(text: &[u8]) -> bool {
     write(STDOUT_FILENO, text)

@@ -48,18 +48,13 @@ pub fn write_refused(fd: i32, file: &[u8], reason: Refusal, line: usize) -> bool
         && write_cure(fd, file, reason, line)
 }
 
-// As `erythmoda explain: refused 20: depth unknown`, on standard error, with the line left open.
-pub fn begin_refusal(program: &[u8], reason: Refusal) {
+// One line on standard error, as `erythmoda explain: refused 20: depth unknown`.
+pub fn say_refusal(program: &[u8], reason: Refusal) {
     write(STDERR_FILENO, program);
     write(STDERR_FILENO, b": refused ");
     write_count(STDERR_FILENO, reason.number() as u64);
     write(STDERR_FILENO, b": ");
     write_meaning(STDERR_FILENO, reason);
-}
-
-// The whole line.
-pub fn say_refusal(program: &[u8], reason: Refusal) {
-    begin_refusal(program, reason);
     write(STDERR_FILENO, b"\n");
 }
 

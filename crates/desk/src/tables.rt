@@ -75,18 +75,6 @@ fn write_named(fd: i32, text: &[u8]) -> bool {
     write(fd, b"title \"") && write(fd, text) && write(fd, b"\"")
 }
 
-// The bytes of a title; none where there is no title.
-pub fn title_text(file: &[u8], title: Title) -> &[u8]
-    requires { TitleInside file.now title }
-{
-    if !title.there {
-        return &file[..0];
-    }
-    let first = title.place;
-    let end = first + title.length;
-    &file[first..end]
-}
-
 // As `title "smoke"`, or `no title`.
 pub fn write_title(fd: i32, file: &[u8], title: Title) -> bool
     requires { TitleInside file.now title }
@@ -94,5 +82,7 @@ pub fn write_title(fd: i32, file: &[u8], title: Title) -> bool
     if !title.there {
         return write(fd, b"no title");
     }
-    write_named(fd, title_text(file, title))
+    let first = title.place;
+    let end = first + title.length;
+    write_named(fd, &file[first..end])
 }

@@ -1,4 +1,6 @@
 // The SHA-256 checksum of bytes, as FIPS 180-4 defines it, and its text in hexadecimal digits.
+#![tactic(auto)]
+
 mod blocks;
 mod constants;
 mod functions;

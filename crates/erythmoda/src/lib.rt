@@ -1,4 +1,6 @@
 // The C boundary: what loggers link. Each call asks the proved call behind it and lays the answer out in lent memory.
+#![tactic(auto)]
+
 ghost use Rattle.rules.specs.Units.{bits_of};
 ghost use Rattle.rules.specs.Boundary.{ReadsC, ChecksC, LooksC, FindsRowsC, GivesCodesC, PicturesC, WritesC, InvertsC};
 ghost use Rattle.erythmoda.specs.Described.{LooksIn, FindsRowsIn, GivesCodesIn, WritesIn, InvertsIn};

@@ -1,4 +1,6 @@
 // The exact value S / E that a colour is interpolated to: in lowest terms, as a code, how the nearest code was settled and how far it is, in decimals.
+#![tactic(auto)]
+
 pub use codes::{InCodes, in_codes};
 pub use decimals::{Places, decimals_of};
 pub use distance::{Distance, distance_of};

@@ -24,8 +24,9 @@ use Rattle.rules.specs.declared.Look.{Look}
 use Rattle.rules.specs.declared.Look.TheVariants.{Accepted}
 use Rattle.rules.specs.declared.Share.{Share}
 use Rattle.rules.specs.declared.Shares.{Shares}
+use Rattle.rules.proofs.Looking.Checks.{look-passed}
 use Rattle.rules.proofs.Looking.Demand3.{looks-right}
-use Rattle.placing.proofs.Sums.{look-summed}
+use Rattle.rules.proofs.KnownDepths.{depths-bounds}
 use Rattle.explain.specs.Spans.{carries, widened, span_of, shown_span, Seen}
 use Rattle.explain.specs.declared.rows.Span.{Span}
 
@@ -102,8 +103,9 @@ module _ {d : Description} {table : List ℤ} {bits : Bits} {pixel : Codes} {r :
   -- it can be shown
   pub seen : Seen d table depths shares
   seen = record {
-    summed = look-summed l e depths known;
-    known = (bits, known);
+    could = (look-passed d table bits pixel (sym l.number ∙ ap look_number e)).could;
+    deep = (depths-bounds bits depths known).0.0;
+    in_table = λ c. (right c).in_table;
   }
 
   -- no colour's code lies outside the codes that are shown beside it

@@ -30,7 +30,6 @@ use Rattle.rules.proofs.Looking.Demand3.{codes-right}
 use Rattle.rules.proofs.Looking.Halves.{second-24, second-26, second-0}
 use Rattle.rules.proofs.Looking.Judging.{all-weighable}
 use Rattle.colour.specs.Plans.{Readable}
-use Rattle.placing.proofs.Sums.{fit-summed}
 use Rattle.explain.specs.Spans.{shown_span, Seen}
 use Rattle.explain.proofs.Between.{right-between}
 
@@ -75,8 +74,9 @@ module _ {d : Description} {table : List ℤ} {bits : Bits} {shares : Shares} {r
     -- it can be shown
     pub line-seen : Seen d table depths shares
     line-seen = record {
-      summed = fit-summed d table depths could (depths-bounds bits depths known).0 fit;
-      known = (bits, known);
+      could = could;
+      deep = (depths-bounds bits depths known).0.0;
+      in_table = λ c. (all-weighable d (raw_m depths) shares fit c).in_table;
     }
 
     -- no colour's code lies outside the codes that are shown beside it

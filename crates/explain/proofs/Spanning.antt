@@ -1,11 +1,12 @@
 -- A colour's rows as the code keeps them, and the span of their codes: the two that carry nothing in 1D change no span.
-use Prim.Native.Nat.{ℕ, ◌*◌, ◌≤◌, ◌<◌, min, max}
-use mathlib.Core.Path.{◌≡◌, refl, ap, ap₂, subst, ◌∙◌}
+use Prim.Native.Nat.{ℕ, ◌*◌, ◌<◌, min, max}
+use mathlib.Core.Path.{◌≡◌, refl, ap, ap₂, sym, subst, ◌∙◌}
 use mathlib.Core.Bool.{true, false}
 use mathlib.Core.List.{List}
-use lib.IntN.{ℤ, nat_abs}
-use Rattle.rules.specs.Units.{raw_m, corrected_m, in_range, rows_of, bound_limit}
-use Rattle.rules.specs.Descriptions.{rows, domain, Sound}
+use native.Mathlib.Nat.{mul-pos}
+use lib.IntN.{ℤ}
+use Rattle.rules.specs.Units.{raw_m, corrected_m, in_range}
+use Rattle.rules.specs.Descriptions.{rows, Sound}
 use Rattle.rules.specs.Looking.Interpolation.{den_of, row_code}
 use Rattle.rules.specs.Looking.{used}
 use Rattle.rules.specs.Demands.{Each}
@@ -17,15 +18,14 @@ use Rattle.rules.specs.declared.Kind.{Kind}
 use Rattle.rules.specs.declared.Kind.TheVariants.{OneD, ThreeD}
 use Rattle.rules.specs.declared.Share.{Share}
 use Rattle.rules.specs.declared.Shares.{Shares}
-use Rattle.rules.proofs.Sound.{sound-of, sound-range}
+use Rattle.rules.proofs.Sound.{sound-of, sound-range, sound-rows}
+use Rattle.rules.proofs.Looking.Spans.{span-some}
 use Rattle.colour.specs.Adding.{RowAt}
-use Rattle.colour.specs.Plans.{Readable}
-use Rattle.colour.proofs.Weighing.{rows-stand}
+use Rattle.colour.proofs.Weighing.{row-stands, rows-stand}
 use Rattle.halves.specs.Listed.{listed, four_of}
 use Rattle.halves.specs.declared.fours.Four.{Four}
-use Rattle.placing.proofs.Sums.{listed-fit}
 use Rattle.explain.specs.declared.rows.Span.{Span}
-use Rattle.explain.specs.Spans.{carries, widened, span_of, shown_span, Placed, Seen, CubeRows}
+use Rattle.explain.specs.Spans.{carries, widened, span_of, shown_span, Seen}
 
 pub four-spans : (code_of : ℕ → ℕ) (m : ℕ) (k : Kind) (c : Colour) (shares : Shares) → span_of code_of m (four_of k c shares) ≡ span_of code_of m (used k c shares)
 unfolding span_of widened carries
@@ -51,16 +51,28 @@ module _ (code_of : ℕ → ℕ) (s : Share) (span : Span) where
 
 module _ {d : Description} {table : List ℤ} {depths : Depths} {shares : Shares} (seen : Seen d table depths shares) where
   abbrev sound : Sound d table
-  sound = sound-of d table seen.summed.could
+  sound = sound-of d table seen.could
 
-  in_table : (c : Colour) → Each (λ s. s.row < rows d) (used d.kind c shares)
-  in_table c = (seen.summed.weighable c).in_table
+  first-row : RowAt table 0
+  first-row = row-stands d table sound 0 (sound-rows d table sound)
+
+  pub four-stand : (k : Kind) → d.kind ≡ k → (c : Colour) → Each (λ s. RowAt table (3 * s.row)) (four_of k c shares)
+  four-stand k e c = by k c (rows-stand d table sound (used k c shares) (subst (λ x. Each (λ s. s.row < rows d) (used x c shares)) e (seen.in_table c)))
+    where
+      by : (k : Kind) (c : Colour) → Each (λ s. RowAt table (3 * s.row)) (used k c shares) → Each (λ s. RowAt table (3 * s.row)) (four_of k c shares)
+      by ThreeD c h = h
+      by OneD Red h = (h.0, (h.1.0, (first-row, (first-row, tt))))
+      by OneD Green h = (h.0, (h.1.0, (first-row, (first-row, tt))))
+      by OneD Blue h = (h.0, (h.1.0, (first-row, (first-row, tt))))
 
   pub in-range : in_range d.kind d.n ≡ true
   in-range = sound-range d table sound
 
+  pub den-there : (c : Colour) → 0 < den_of d (raw_m depths) c
+  den-there c = mul-pos seen.deep (span-some _ sound c)
+
   pub listed-stand : (c : Colour) (four : Four) → listed four ≡ four_of d.kind c shares → Each (λ s. RowAt table (3 * s.row)) (listed four)
-  listed-stand c four e = (listed-fit seen.summed c four e).rows
+  listed-stand c four e = subst (Each (λ s. RowAt table (3 * s.row))) (sym e) (four-stand d.kind refl c)
 
   -- the span of the four is what is shown
   pub four-shown : (c : Colour) (four : Four) → listed four ≡ four_of d.kind c shares
@@ -69,19 +81,3 @@ module _ {d : Description} {table : List ℤ} {depths : Depths} {shares : Shares
       let m = corrected_m depths in
       let code_of = row_code m (den_of d (raw_m depths) c) table c in
       ap (span_of code_of m) e ∙ four-spans code_of m d.kind c shares
-
-  -- and so what is asked of codes that are placed holds
-  pub placed : Placed d depths
-  placed = record { readable = (table, seen.summed.could); deep = seen.summed.deep }
-
-  -- and of the rows of a path
-  pub cube-rows : d.kind ≡ ThreeD → CubeRows table d.n shares
-  cube-rows e = record {
-    range = subst (λ k. in_range k d.n ≡ true) e in-range;
-    stand = subst (λ k. Each (λ s. RowAt table (3 * s.row)) (used k Red shares)) e (rows-stand d table sound (used d.kind Red shares) (in_table Red));
-    inside = subst (λ k. Each (λ s. s.row < rows_of k d.n) (used k Red shares)) e (in_table Red);
-  }
-
--- the bounds of a domain that reading could have given
-pub bounded : (d : Description) → Readable d → (c : Colour) → (nat_abs (domain d c).lower.0 ≤ bound_limit) × (nat_abs (domain d c).upper.0 ≤ bound_limit)
-bounded d (table, could) c = let fits = (sound-of d table could).domains c in (fits.low, fits.high)

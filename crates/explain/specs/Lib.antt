@@ -2,4 +2,3 @@
 pub mod Questions
 pub mod RowLines
 pub mod Spans
-pub mod Fields

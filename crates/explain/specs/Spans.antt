@@ -1,21 +1,16 @@
 -- The least and the greatest code of the rows that carry a colour's weight.
-use Rattle.std.specs.Prelude.{ℕ, ◌*◌, ◌<◌, min, max, ◌≡◌, Bool, true, cond, List, [], ◌∷◌, ℤ, pos}
+use Rattle.std.specs.Prelude.{ℕ, ◌<◌, min, max, ◌≡◌, Bool, true, cond, List, [], ◌∷◌, ℤ, pos}
 use Rattle.std.specs.Int.Signed.{lt_z}
-use Rattle.rules.specs.Units.{raw_m, corrected_m, in_range, rows_of}
+use Rattle.rules.specs.Units.{raw_m, corrected_m}
+use Rattle.rules.specs.Descriptions.{rows, could_be_read}
 use Rattle.rules.specs.Looking.Interpolation.{den_of, row_code}
 use Rattle.rules.specs.Looking.{used}
 use Rattle.rules.specs.Demands.{Each}
 use Rattle.rules.specs.declared.Colour.{Colour}
-use Rattle.rules.specs.declared.Colour.TheVariants.{Red}
 use Rattle.rules.specs.declared.Depths.{Depths}
 use Rattle.rules.specs.declared.Description.{Description}
-use Rattle.rules.specs.declared.Kind.TheVariants.{ThreeD}
 use Rattle.rules.specs.declared.Share.{Share}
 use Rattle.rules.specs.declared.Shares.{Shares}
-use Rattle.colour.specs.Adding.{RowAt}
-use Rattle.colour.specs.Plans.{Readable}
-use Rattle.placing.specs.Shown.{Summed}
-use Rattle.facts.specs.Told.{KnownDepths}
 use Rattle.explain.specs.declared.rows.Span.{Span}
 
 -- whether a row carries weight
@@ -36,18 +31,8 @@ span_of code_of m (s ∷ ss) = widened code_of s (span_of code_of m ss)
 abbrev pub shown_span : Description → List ℤ → Depths → Shares → Colour → Span
 shown_span d table depths shares c = span_of (row_code (corrected_m depths) (den_of d (raw_m depths) c) table c) (corrected_m depths) (used d.kind c shares)
 
--- what is asked of a description whose codes are placed: reading could have given it, and the raw depth has codes
-pub record Placed (d : Description) (depths : Depths) : Type 0 where
-  pub readable : Readable d
-  pub deep : 0 < raw_m depths
-
 -- what is asked of a look that is shown
 pub record Seen (d : Description) (table : List ℤ) (depths : Depths) (shares : Shares) : Type 0 where
-  pub summed : Summed d table depths shares
-  pub known : KnownDepths depths
-
--- what is asked of the four rows of a path that are shown: each stands in the table, and is a row of the cube
-pub record CubeRows (table : List ℤ) (n : ℕ) (shares : Shares) : Type 0 where
-  pub range : in_range ThreeD n ≡ true
-  pub stand : Each (λ s. RowAt table (3 * s.row)) (used ThreeD Red shares)
-  pub inside : Each (λ s. s.row < rows_of ThreeD n) (used ThreeD Red shares)
+  pub could : could_be_read d table ≡ true
+  pub deep : 0 < raw_m depths
+  pub in_table : (c : Colour) → Each (λ s. s.row < rows d) (used d.kind c shares)

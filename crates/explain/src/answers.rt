@@ -3,22 +3,19 @@ ghost use Rattle.std.specs.Prelude.{◌≡◌, cond};
 ghost use Rattle.rules.specs.Looking.{first_half, second_half, look};
 ghost use Rattle.rules.specs.declared.Refusal.TheVariants.{RowsOrWeightsWrong};
 ghost use Rattle.colour.specs.Plans.{Readable};
-ghost use Rattle.reporting.specs.Telling.{Tellable};
 ghost use Rattle.desk.specs.Outcomes.{EndsAs};
 ghost use Rattle.desk.specs.declared.outcomes.Outcome.TheVariants.{Done, Refused, Failed};
 ghost use Rattle.explain.specs.Questions.{looked_as, kept_as, given_as, held_as, asked_as};
 
 use crate::kept::show_line;
-use crate::manners::show;
-use crate::origin::{Manner, Origin};
 use crate::question::{Pixel, Question};
-use desk::{Outcome, say_code, say_depths, say_refusal, write};
-use given::MOST;
+use crate::show::{show_look, show_pixel};
+use desk::{Outcome, say_refusal, write};
 use halves::{first_half, judged_shares, look, second_half};
 use libc::STDERR_FILENO;
 use rules::{
-    Bits, Codes, Depth, DepthFound, Depths, DepthsFound, Description, FirstHalf, Judged, Look,
-    Refusal, SecondHalf, Shares,
+    Bits, Codes, Depths, DepthsFound, Description, FirstHalf, Judged, Look, Refusal, SecondHalf,
+    Shares,
 };
 
 fn refuse(reason: Refusal) -> Outcome
@@ -35,94 +32,40 @@ fn done_if(written: bool) -> Outcome
     Outcome::Done.if_written(written, b"erythmoda explain")
 }
 
-// 20, with the bits that are no depth.
-fn refuse_depths(bits: Bits) -> Outcome
-    ensures { result ≡ Refused }
-{
-    say_depths(b"erythmoda explain", bits);
-    Outcome::Refused
-}
-
-// The first code that is above M, by its colour.
-fn say_above(raw: Codes, m: u16, bits: u32) {
-    if raw.red > m {
-        say_code(b"erythmoda explain", b"red", raw.red as u32, bits);
-        return;
-    }
-    if raw.green > m {
-        say_code(b"erythmoda explain", b"green", raw.green as u32, bits);
-        return;
-    }
-    say_code(b"erythmoda explain", b"blue", raw.blue as u32, bits);
-}
-
-// A pixel that is refused: 20 and 23 with what is meant.
-fn refuse_pixel(reason: Refusal, bits: Bits, raw: Codes) -> Outcome
-    ensures { result ≡ Refused }
-{
-    if let Refusal::DepthUnknown = reason {
-        return refuse_depths(bits);
-    }
-    let Refusal::CodeTooGreat = reason else {
-        return refuse(reason);
-    };
-    let DepthFound::Known(depth) = Depth::of(bits.raw) else {
-        return refuse(reason);
-    };
-    say_above(raw, depth.greatest(), bits.raw);
-    Outcome::Refused
-}
-
 // A code that no depth has: 20 comes before 23.
 fn refuse_beyond(bits: Bits) -> Outcome
     ensures { result ≡ Refused }
 {
-    let DepthsFound::Both(_) = Depths::of(bits) else {
-        return refuse_depths(bits);
-    };
-    say_code(b"erythmoda explain", b"a code", MOST + 1, bits.raw);
-    Outcome::Refused
+    match Depths::of(bits) {
+        DepthsFound::Both(_) => refuse(Refusal::CodeTooGreat),
+        DepthsFound::NotBoth => refuse(Refusal::DepthUnknown),
+    }
 }
 
 // ---- what made a pixel's codes
 
 // The look at a pixel of 16-bit codes, explained or refused.
-fn explain_held(
-    d: Description,
-    file: &[u8],
-    table: &[i64],
-    bits: Bits,
-    raw: Codes,
-    manner: Manner,
-) -> Outcome
-    requires { Tellable file.now d }
+fn explain_held(d: Description, file: &[u8], table: &[i64], bits: Bits, raw: Codes) -> Outcome
     ensures { EndsAs (looked_as (look d table.now bits raw)) result }
 {
     let DepthsFound::Both(depths) = Depths::of(bits) else {
-        return refuse_depths(bits);
+        return refuse(Refusal::DepthUnknown);
     };
     match look(d, table, bits, raw) {
-        Look::Refused(reason) => refuse_pixel(reason, bits, raw),
+        Look::Refused(reason) => refuse(reason),
         Look::Accepted { codes, shares } => {
-            let origin = Origin::Pixel(raw);
-            done_if(show(manner, d, file, table, depths, origin, codes, shares))
+            let written = show_pixel(raw, bits.raw)
+                && show_look(d, file, table, depths, codes, shares);
+            done_if(written)
         }
     }
 }
 
-fn explain_pixel(
-    d: Description,
-    file: &[u8],
-    table: &[i64],
-    bits: Bits,
-    pixel: Pixel,
-    manner: Manner,
-) -> Outcome
-    requires { Tellable file.now d }
+fn explain_pixel(d: Description, file: &[u8], table: &[i64], bits: Bits, pixel: Pixel) -> Outcome
     ensures { EndsAs (held_as (λ raw. looked_as (look d table.now bits raw)) pixel) result }
 {
     match pixel {
-        Pixel::Held(raw) => explain_held(d, file, table, bits, raw, manner),
+        Pixel::Held(raw) => explain_held(d, file, table, bits, raw),
         Pixel::Beyond => refuse_beyond(bits),
     }
 }
@@ -134,14 +77,7 @@ fn keep_held(d: Description, table: &[i64], raw: u32, codes: Codes) -> Outcome
     ensures { EndsAs (kept_as (first_half d table.now raw codes)) result }
 {
     match first_half(d, table, raw, codes) {
-        FirstHalf::Refused(reason) => refuse_pixel(
-            reason,
-            Bits {
-                raw,
-                corrected: raw,
-            },
-            codes,
-        ),
+        FirstHalf::Refused(reason) => refuse(reason),
         FirstHalf::Accepted(shares) => {
             let written = show_line(raw, shares);
             done_if(written)
@@ -194,44 +130,29 @@ fn refuse_line(d: Description, depths: Depths, shares: Shares, reason: Refusal) 
 }
 
 // The second half of a look, explained or refused.
-fn explain_line(
-    d: Description,
-    file: &[u8],
-    table: &[i64],
-    bits: Bits,
-    shares: Shares,
-    manner: Manner,
-) -> Outcome
-    requires { Tellable file.now d }
+fn explain_line(d: Description, file: &[u8], table: &[i64], bits: Bits, shares: Shares) -> Outcome
     ensures { EndsAs (given_as (second_half d table.now bits shares)) result }
 {
     let DepthsFound::Both(depths) = Depths::of(bits) else {
-        return refuse_depths(bits);
+        return refuse(Refusal::DepthUnknown);
     };
     match second_half(d, table, bits, shares) {
         SecondHalf::Refused(reason) => refuse_line(d, depths, shares, reason),
         SecondHalf::Accepted(codes) => {
-            let origin = Origin::Line;
-            done_if(show(manner, d, file, table, depths, origin, codes, shares))
+            let written = show_look(d, file, table, depths, codes, shares);
+            done_if(written)
         }
     }
 }
 
 // ---- any of them. The table was loaded, so that the answer is never 24: then come 20, and 23 or 26
 
-pub fn explain(
-    d: Description,
-    file: &[u8],
-    table: &[i64],
-    question: Question,
-    manner: Manner,
-) -> Outcome
-    requires { Tellable file.now d }
+pub fn explain(d: Description, file: &[u8], table: &[i64], question: Question) -> Outcome
     ensures { EndsAs (asked_as d table.now question) result }
 {
     match question {
-        Question::Pixel { bits, pixel } => explain_pixel(d, file, table, bits, pixel, manner),
+        Question::Pixel { bits, pixel } => explain_pixel(d, file, table, bits, pixel),
         Question::LineOf { raw, pixel } => keep_pixel(d, table, raw, pixel),
-        Question::Line { bits, shares } => explain_line(d, file, table, bits, shares, manner),
+        Question::Line { bits, shares } => explain_line(d, file, table, bits, shares),
     }
 }

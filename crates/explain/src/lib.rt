@@ -1,34 +1,26 @@
 // The auditor's question at the desk: which rows of a table made a pixel's corrected codes, and can a code lie outside those of its rows; and the record
 // keeper's, who keeps rows and weights as a line of numbers and asks for the codes later.
+#![tactic(auto)]
+
 mod answers;
-mod blocks;
-mod fields;
-mod headings;
 mod kept;
 mod lines;
-mod manners;
-mod origin;
-mod places;
-mod printing;
 mod question;
 mod rows;
 mod show;
-mod tabs;
-mod values;
 mod words;
 
 use answers::explain;
 use desk::{Loaded, Outcome, load_argument};
 use libc::STDERR_FILENO;
-use origin::Manner;
-use question::{Asked, Question, manner_wanted, read_arguments};
+use question::{Asked, Question, read_arguments};
 pub use words::help;
 
 // A question, answered by the table that the argument after the verb names.
-fn answer_by(file: &mut [u8], table: &mut [i64], question: Question, manner: Manner) -> Outcome {
+fn answer_by(file: &mut [u8], table: &mut [i64], question: Question) -> Outcome {
     match load_argument(b"erythmoda explain", 2, &mut *file, &mut *table) {
         Loaded::Table { description, bytes } => {
-            explain(description, &file[..bytes], table, question, manner)
+            explain(description, &file[..bytes], table, question)
         }
         Loaded::Refused => Outcome::Refused,
         Loaded::Unread => Outcome::Failed,
@@ -37,10 +29,9 @@ fn answer_by(file: &mut [u8], table: &mut [i64], question: Question, manner: Man
 
 // The question that the arguments ask, answered with lent space for the file and the table.
 pub fn answer(file: &mut [u8], table: &mut [i64]) -> Outcome {
-    let manner = manner_wanted();
-    let Asked::Plainly(question) = read_arguments(manner) else {
+    let Asked::Plainly(question) = read_arguments() else {
         help(STDERR_FILENO);
         return Outcome::Failed;
     };
-    answer_by(file, table, question, manner)
+    answer_by(file, table, question)
 }

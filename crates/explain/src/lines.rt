@@ -1,9 +1,22 @@
 // Where a row stands in the file.
 ghost use Rattle.std.specs.Prelude.{◌≡◌};
+ghost use Rattle.rules.specs.Reading.Contents.{form_of};
+ghost use Rattle.rules.specs.Demands.{is_data};
 ghost use Rattle.explain.specs.RowLines.{line_of_row};
 
-use pointing::is_data;
-use text::{Cursor, Step};
+use rules::Form;
+use text::{Cursor, Step, form_of};
+
+fn is_data(l: &[u8]) -> bool
+    ensures { result ≡ is_data (form_of l.now) }
+{
+    match form_of(l) {
+        Form::Data => true,
+        Form::Idle => false,
+        Form::Keyed(_) => false,
+        Form::Neither => false,
+    }
+}
 
 // The number of the line on which a row stands; 0 if the file has no such row.
 pub fn line_of(file: &[u8], row: usize) -> usize

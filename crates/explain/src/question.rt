@@ -2,7 +2,6 @@
 ghost use Rattle.std.specs.Prelude.{◌≡◌};
 ghost use Rattle.explain.specs.Questions.{pixel_asked};
 
-use crate::origin::Manner;
 use desk::is_word_at;
 use given::{Given, MOST, MOST_ROW, Weight, corrected_width, value_at, weight_at};
 use rules::{Bits, Codes, Share, Shares};
@@ -67,37 +66,8 @@ fn line_wanted() -> bool {
     os::arg_count() == 8 && is_word_at(7, b"--line")
 }
 
-// How the answer is wanted: by the last of the arguments, or in words.
-pub fn manner_wanted() -> Manner {
-    let count = os::arg_count();
-    if count == 0 {
-        return Manner::Words;
-    }
-    let last = count - 1;
-    if is_word_at(last, b"--tsv") {
-        return Manner::Tabs;
-    }
-    if is_word_at(last, b"--svg") {
-        return Manner::Drawing;
-    }
-    Manner::Words
-}
-
-// How many arguments there are without that one.
-fn count_before(manner: Manner) -> usize {
-    let count = os::arg_count();
-    if count == 0 {
-        return 0;
-    }
-    match manner {
-        Manner::Words => count,
-        Manner::Tabs => count - 1,
-        Manner::Drawing => count - 1,
-    }
-}
-
-// Four numbers among so many arguments; then perhaps an option.
-fn read_pixel(count: usize) -> Asked {
+// Four numbers; then perhaps an option.
+fn read_pixel() -> Asked {
     let Given::Value(raw) = value_at(3, MOST) else {
         return Asked::Unclear;
     };
@@ -114,7 +84,7 @@ fn read_pixel(count: usize) -> Asked {
     if line_wanted() {
         return Asked::Plainly(Question::LineOf { raw, pixel });
     }
-    let Given::Value(corrected) = corrected_width(count, 7, raw) else {
+    let Given::Value(corrected) = corrected_width(7, raw) else {
         return Asked::Unclear;
     };
     let bits = Bits { raw, corrected };
@@ -166,24 +136,23 @@ fn shares_given() -> SharesGiven {
 }
 
 // The thirteen numbers of a line, behind the word that announces it; then perhaps the option.
-fn read_line(count: usize) -> Asked {
+fn read_line() -> Asked {
     let Given::Value(raw) = value_at(4, MOST) else {
         return Asked::Unclear;
     };
     let SharesGiven::All(shares) = shares_given() else {
         return Asked::Unclear;
     };
-    let Given::Value(corrected) = corrected_width(count, 17, raw) else {
+    let Given::Value(corrected) = corrected_width(17, raw) else {
         return Asked::Unclear;
     };
     let bits = Bits { raw, corrected };
     Asked::Plainly(Question::Line { bits, shares })
 }
 
-pub fn read_arguments(manner: Manner) -> Asked {
-    let count = count_before(manner);
+pub fn read_arguments() -> Asked {
     if is_word_at(3, b"--line") {
-        return read_line(count);
+        return read_line();
     }
-    read_pixel(count)
+    read_pixel()
 }

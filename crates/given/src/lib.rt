@@ -1,4 +1,6 @@
 // What arguments give as numbers. Each is a number, or none. One past a limit counts as the next after it, and what judges a question refuses all of those alike.
+#![tactic(auto)]
+
 ghost use Rattle.std.specs.Prelude.{◌≡◌, suc, ◌≤◌, ◌<◌};
 ghost use Rattle.rules.specs.Reading.Numerals.{signed};
 ghost use Rattle.rules.specs.Units.{row_limit};
@@ -7,7 +9,7 @@ ghost use Rattle.desk.specs.Arguments.{argument_of};
 ghost use Rattle.given.specs.Written.{value_by, weight_by, weight_of};
 ghost use Rattle.given.specs.declared.Weight.TheVariants.{Value};
 
-use desk::{Argument, Last, number_in, option_among};
+use desk::{Argument, Last, number_in, option_at};
 use rules::Depth;
 
 // The greatest code of any depth. No depth has more bits either.
@@ -52,9 +54,9 @@ pub fn value_at(place: usize, most: u32) -> Given
     value_in(&text[..n], most)
 }
 
-// The depth of the corrected codes, among so many arguments: the raw one, where nothing more is given from a place on.
-pub fn corrected_width(count: usize, place: usize, raw: u32) -> Given {
-    match option_among(count, place, b"--corrected-bits", MOST as u64) {
+// The depth of the corrected codes: the raw one, where nothing more is given from a place on.
+pub fn corrected_width(place: usize, raw: u32) -> Given {
+    match option_at(place, b"--corrected-bits", MOST as u64) {
         Last::Nothing => Given::Value(raw),
         Last::Number(n) => Given::Value(n as u32),
         Last::TooGreat => Given::Value(MOST + 1),

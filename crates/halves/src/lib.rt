@@ -1,4 +1,6 @@
 // The two halves of a look (document 02, Req 09), and look, which joins them.
+#![tactic(auto)]
+
 ghost use Rattle.std.specs.Prelude.{◌≡◌, List, ℤ};
 ghost use Rattle.rules.specs.Units.{raw_m};
 ghost use Rattle.rules.specs.Looking.{within, rows_with};

@@ -1,5 +1,7 @@
 // Which raw code gives a wanted corrected code, in one colour of a 1D table (document 02, Req 04): all is judged once and one plan is made, then one loop
 // tries raw codes from 0 upward, each corrected by that colour alone.
+#![tactic(auto)]
+
 ghost use Rattle.std.specs.Prelude.{◌≡◌, ◌<◌};
 ghost use Rattle.rules.specs.Inverting.{apart, off, try_next, search, if_within};
 ghost use Rattle.rules.specs.Promises.{Inverts};

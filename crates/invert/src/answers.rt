@@ -1,12 +1,12 @@
 // What is to be said of a question: the raw code that was found, what it is corrected to and how many codes were tried; or why there is none.
 ghost use Rattle.std.specs.Prelude.{◌≡◌, ℕ, ◌<◌};
+ghost use Rattle.rules.specs.Units.{code_in};
 ghost use Rattle.rules.specs.Inverting.{inverse};
 ghost use Rattle.rules.specs.declared.Aim.{Aim};
 ghost use Rattle.invert.specs.Saying.{corrected_to, found_said, said_by, said_of};
 ghost use Rattle.invert.specs.declared.answers.Said.TheVariants as S;
 
 use crate::question::Question;
-use colour::code_in;
 use given::MOST;
 use halves::look;
 use inverse::{apart, inverse};
@@ -36,6 +36,16 @@ pub enum Said {
 }
 
 // ---- a raw code that was found
+
+fn code_in(codes: Codes, c: Colour) -> u16
+    ensures { result ≡ code_in codes c }
+{
+    match c {
+        Colour::Red => codes.red,
+        Colour::Green => codes.green,
+        Colour::Blue => codes.blue,
+    }
+}
 
 // What a raw code is corrected to in one colour, seen by a look at the pixel that has it in all three.
 fn corrected_to(d: Description, table: &[i64], bits: Bits, c: Colour, code: u16) -> u16

@@ -1,4 +1,6 @@
 // The technicians' question at the desk: which raw code a lamp has to be set to, so that a table corrects it to a wanted code.
+#![tactic(auto)]
+
 mod answers;
 mod question;
 mod show;

@@ -51,7 +51,7 @@ pub fn read_arguments() -> Asked {
     let Given::Value(tolerance) = value_at(6, MOST) else {
         return Asked::Unclear;
     };
-    let Given::Value(corrected) = corrected_width(os::arg_count(), 7, raw) else {
+    let Given::Value(corrected) = corrected_width(7, raw) else {
         return Asked::Unclear;
     };
     Asked::Plainly(Question {

@@ -6,9 +6,9 @@ ghost use Rattle.invert.specs.Saying.{end_of};
 
 use crate::answers::Said;
 use crate::question::Question;
-use desk::{Outcome, say, say_code, say_depths, say_refusal, write, write_count};
+use desk::{Outcome, say, say_refusal, write, write_count};
 use libc::{STDERR_FILENO, STDOUT_FILENO};
-use rules::{Bits, Colour, Refusal};
+use rules::{Colour, Refusal};
 
 pub const PROGRAM: [u8; 16] = *b"erythmoda invert";
 
@@ -89,24 +89,8 @@ fn say_tried(reason: Refusal, count: u64) {
     write_whole(STDERR_FILENO, count);
 }
 
-// 23 with the wanted code and its depth.
-fn refuse_code(bits: Bits, wanted: u32) -> Outcome
-    ensures { result ≡ Refused }
-{
-    say_code(&PROGRAM, b"the wanted code", wanted, bits.corrected);
-    Outcome::Refused
-}
-
-// 20 with the bits that are no depth.
-fn refuse_depths(bits: Bits) -> Outcome
-    ensures { result ≡ Refused }
-{
-    say_depths(&PROGRAM, bits);
-    Outcome::Refused
-}
-
-// Another refusal as always, and a line more where there is more to say.
-fn refuse_other(reason: Refusal, count: u64) -> Outcome
+// The refusal as always, and a line more where there is more to say.
+fn refuse(reason: Refusal, count: u64) -> Outcome
     ensures { result ≡ Refused }
 {
     say_refusal(&PROGRAM, reason);
@@ -115,24 +99,11 @@ fn refuse_other(reason: Refusal, count: u64) -> Outcome
     Outcome::Refused
 }
 
-fn refuse(reason: Refusal, bits: Bits, wanted: u32, count: u64) -> Outcome
-    ensures { result ≡ Refused }
-{
-    if let Refusal::DepthUnknown = reason {
-        return refuse_depths(bits);
-    }
-    if let Refusal::CodeTooGreat = reason {
-        return refuse_code(bits, wanted);
-    }
-    refuse_other(reason, count)
-}
-
 pub fn show_said(question: Question, said: Said) -> Outcome
     ensures { EndsAs (end_of said) result }
 {
     let c = question.colour;
     let wanted = question.wanted;
-    let bits = question.bits;
     match said {
         Said::Hit { code, count } => done_if(show_hit(c, wanted, code, count)),
         Said::Near {
@@ -141,6 +112,6 @@ pub fn show_said(question: Question, said: Said) -> Outcome
             off,
             count,
         } => done_if(show_near(c, wanted, code, corrected, off, count)),
-        Said::Refused { reason, count } => refuse(reason, bits, wanted, count),
+        Said::Refused { reason, count } => refuse(reason, count),
     }
 }

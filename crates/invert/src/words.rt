@@ -24,15 +24,15 @@ fn usage(fd: i32) -> bool {
 fn arguments(fd: i32) -> bool {
     write(
         fd,
-        b"  TABLE                  the name of a .cube file, of a 1D table\n",
+        b"  TABLE      the name of a .cube file, of a 1D table\n",
     ) && write(
         fd,
-        b"  BITS                   the depth of the raw codes: 8, 10, 12 or 16\n",
-    ) && write(fd, b"  COLOUR                 red, green or blue\n")
-        && write(fd, b"  CODE                   the wanted corrected code\n")
+        b"  BITS       the depth of the raw codes: 8, 10, 12 or 16\n",
+    ) && write(fd, b"  COLOUR     red, green or blue\n")
+        && write(fd, b"  CODE       the wanted corrected code\n")
         && write(
             fd,
-            b"  TOLERANCE              how many codes off it may be, 0 or more\n",
+            b"  TOLERANCE  how many codes off it may be, 0 or more\n",
         )
         && write(
             fd,
@@ -41,10 +41,7 @@ fn arguments(fd: i32) -> bool {
 }
 
 fn examples(fd: i32) -> bool {
-    write(
-        fd,
-        b"status: 0 a raw code is found; 1 the table, a depth or the code is refused, or no raw code comes within the tolerance; 2 a wrong call, or the system could not read or write\n",
-    ) && write(fd, b"example: erythmoda invert lamp.cube 8 red 128 0\n")
+    write(fd, b"example: erythmoda invert lamp.cube 8 red 128 0\n")
         && write(
             fd,
             b"example: erythmoda invert lamp.cube 12 green 32768 16 --corrected-bits 16\n",

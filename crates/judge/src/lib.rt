@@ -1,4 +1,6 @@
 // Could reading have given this description and this table? Document 01's check 24, with one function for each rule.
+#![tactic(auto)]
+
 ghost use Rattle.std.specs.Prelude.{◌≡◌, ◌%◌, true, ◌&&◌, eqb, leb, nat_abs};
 ghost use Rattle.std.specs.Int.Signed.{le_z};
 ghost use Rattle.rules.specs.Units.{bound_one, bound_limit, greatest_n, in_range, rows_of};

@@ -1,5 +1,7 @@
 // Pictures by the shortest way that is exact. A lane takes the codes of one colour to places of the table by one product and no division; a cube is
 // three lanes and what makes codes of the sums. Where the numbers are too great for it there is none, and a picture goes the way of look.
+#![tactic(auto)]
+
 mod cube;
 mod lane;
 mod nearest;

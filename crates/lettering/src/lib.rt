@@ -1,5 +1,7 @@
 // Text put into lent bytes from a place on: bytes, and numbers in decimal digits. Each call answers the place after what it put. How long a number's text is
 // can be asked for beforehand.
+#![tactic(auto)]
+
 mod decimals;
 mod digits;
 mod signs;

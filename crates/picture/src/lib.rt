@@ -1,4 +1,6 @@
 // A run of pixels to corrected codes: all is judged once and one plan is made, then the pixels are corrected by the shortest way that is exact for it.
+#![tactic(auto)]
+
 ghost use Rattle.std.specs.Prelude.{◌≡◌, List, ◌++◌, true, ℕ, leb, ℤ, length, drop};
 ghost use Rattle.rules.specs.Reading.Lines.{every};
 ghost use Rattle.rules.specs.Units.{raw_m};

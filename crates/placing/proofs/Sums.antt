@@ -4,7 +4,6 @@ use Prim.Native.Nat.{◌*◌, ◌≤◌, ◌<◌}
 use mathlib.Core.Path.{◌≡◌, refl, sym, ap, subst, ◌∙◌}
 use mathlib.Core.Bool.{true}
 use mathlib.Core.List.{List}
-use native.Mathlib.Nat.{mul-pos}
 use native.Mathlib.Omega.{arith}
 use lib.IntN.{ℤ, nat_abs, zero-*ℤ}
 use Rattle.rules.specs.Units.{depths_of, raw_m}
@@ -32,9 +31,8 @@ use Rattle.rules.proofs.Sound.{sound-of, sound-rows}
 use Rattle.rules.proofs.Looking.Checks.{LookPassed, look-passed, look-0}
 use Rattle.rules.proofs.Looking.Demand3.{rule-weighable}
 use Rattle.rules.proofs.Looking.Judging.{all-weighable}
-use Rattle.rules.proofs.Looking.Spans.{span-some, span-most}
+use Rattle.rules.proofs.Looking.Spans.{span-most}
 use Rattle.colour.specs.Adding.{RowAt, carried, SharesFit, Totalled}
-use Rattle.colour.specs.Limits.{den_limit}
 use Rattle.colour.proofs.Plans.{den-most}
 use Rattle.colour.proofs.Weighing.{row-stands, rows-stand, carried-is}
 use Rattle.halves.specs.Listed.{listed, four_of}
@@ -68,21 +66,14 @@ module _ {d : Description} {table : List ℤ} {depths : Depths} {shares : Shares
   abbrev sound : Sound d table
   sound = sound-of d table s.could
 
-  -- D
-  pub den-there : 0 < den_of d (raw_m depths) c
-  den-there = mul-pos s.deep (span-some d sound c)
-
-  pub den-within : den_of d (raw_m depths) c ≤ den_limit
-  den-within = den-most (raw_m depths) _ s.most (span-most d sound c)
-
-  -- the weights come to it
+  -- the weights come to D
   carried-den : carried (used d.kind c shares) ≡ den_of d (raw_m depths) c
   carried-den = let w = s.weighable c in ap nat_abs (sym (carried-is (used d.kind c shares) w.not_negative) ∙ w.add_up)
 
   used-fit : SharesFit table (used d.kind c shares)
   used-fit = record {
     rows = rows-stand d table sound (used d.kind c shares) (s.weighable c).in_table;
-    weights = omega (arith, carried-den, den-within);
+    weights = omega (arith, carried-den, den-most (raw_m depths) _ s.most (span-most d sound c));
   }
 
   module _ (four : Four) (e : listed four ≡ four_of d.kind c shares) where

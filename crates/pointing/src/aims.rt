@@ -8,7 +8,7 @@ use crate::lines::is_data;
 use crate::spots::{Spot, byte_spot, rest_from, word_from};
 use crate::words::{Wanted, first_wrong};
 use rules::{Form, Keyword};
-use text::{LINE_LIMIT, form_of};
+use text::form_of;
 
 // The first byte that is not permitted; the first word; the parameters of a keyword; N; a number of a domain; a number of
 // a row, by its form or its value; the end of the file; or a row's line, and the end of a file that has none.
@@ -24,6 +24,9 @@ pub enum Aim {
     End,
     RowOrEnd,
 }
+
+// A line has at most so many bytes.
+const LINE_LIMIT: usize = 250;
 
 // By the refusal's number.
 fn aim_of(number: u32) -> Aim

@@ -1,4 +1,6 @@
 // What a refusal points at in its file: the bytes that somebody has to change, or the place where some are missing.
+#![tactic(auto)]
+
 mod aims;
 mod lines;
 mod rows;

@@ -7,7 +7,7 @@ ghost use Rattle.pointing.specs.Counts.{rows_in, size_on, first_size, size_of, s
 use crate::lines::is_data;
 use content::content_by;
 use rules::{Content, Item, Size};
-use text::{Cursor, LINE_LIMIT, Step, form_of};
+use text::{Cursor, Step, form_of};
 
 // The first size that a file gives, or that it gives none.
 #[derive(Drop)]
@@ -15,6 +15,9 @@ pub enum SizeFound {
     Given(Size),
     NotGiven,
 }
+
+// A line has at most so many bytes.
+const LINE_LIMIT: usize = 250;
 
 // How many data lines a file has.
 pub fn rows_in(file: &[u8]) -> usize

@@ -1,5 +1,7 @@
 // Binary PPM pictures: what the header says and where it ends, what else the bytes are, the header that is written, what maxval says of the codes, and
 // pixels as bytes and as codes, and a code that is too great.
+#![tactic(auto)]
+
 mod depth;
 mod excess;
 mod header;

@@ -1,4 +1,6 @@
 // Reading: the bytes of one file to a description and samples, or a refusal with its number and line.
+#![tactic(auto)]
+
 mod checks;
 mod first_pass;
 mod lines;

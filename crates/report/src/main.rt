@@ -1,4 +1,6 @@
 // The report program: standard input is a .cube file, standard output what the file says or why it is refused.
+#![tactic(auto)]
+
 use desk::report_input;
 
 // What is said to someone who calls the program with arguments.

@@ -20,13 +20,6 @@ use Rattle.reporting.specs.Telling.{Tellable}
 
 -- ---- the answer by the input's length, and the text by the answer
 
--- what a file that is accepted, with a table of so many places, tells of its description
-pub accepted-tellable : (input : List ℕ) (places : ℕ) (d : Description) → read input places ≡ Accepted d → Tellable input d
-accepted-tellable input places d accepted = record {
-  range = accepted-in-range input places d accepted;
-  title = record { within = title-inside input places d accepted };
-}
-
 module _ (input : List ℕ) where
   pub too_long : report_bytes < length input → Refused InputTooLong 0 ≡ report input
   unfolding report
@@ -51,7 +44,12 @@ module _ (input : List ℕ) where
 
   -- what an accepted file's text asks of the description
   pub tellable : {d : Description} → Accepted d ≡ report input → Tellable input d
-  tellable {d} e = accepted-tellable input report_places d (sym (of-reading e))
+  tellable {d} e =
+      let accepted = sym (of-reading e) in
+      record {
+        range = accepted-in-range input report_places d accepted;
+        title = record { within = title-inside input report_places d accepted };
+      }
 
 -- ---- the lent bytes
 

@@ -1,4 +1,6 @@
 // What the report program prints: five lines of an accepted file, or one of a refusal.
+#![tactic(auto)]
+
 ghost use Rattle.std.specs.Prelude.{◌≡◌, true, [], ◌∷◌, ◌++◌};
 ghost use Rattle.rules.specs.Units.{in_range};
 ghost use Rattle.rules.specs.Answers.{refusal_number};

@@ -1,4 +1,6 @@
 // A .cube table read and written anew in its plainest form: from a file to standard output, in lent memory.
+#![tactic(auto)]
+
 mod titles;
 mod words;
 

@@ -1,4 +1,6 @@
 // The types of documents 01 and 02. What the calls answer and promise over them is in specs/, the theorems are in proofs/.
+#![tactic(auto)]
+
 ghost use Rattle.std.specs.Prelude.{◌≡◌};
 ghost use Rattle.rules.specs.Answers.{refusal_number};
 ghost use Rattle.rules.specs.Units.{depth_of, depth_with, depths_of};

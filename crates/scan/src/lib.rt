@@ -1,4 +1,6 @@
 // Kinds of bytes, and where a run of one kind ends: blanks, words, digits, a line, a title's text. One loop serves them all.
+#![tactic(auto)]
+
 ghost use Rattle.std.specs.Prelude.{◌≡◌, ◌≤◌, length};
 ghost use Rattle.rules.specs.Reading.Lines.{permitted, blank, digit, in_title, number_byte, run};
 ghost use Rattle.scan.specs.Kinds.{kind_of};

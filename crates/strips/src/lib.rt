@@ -1,5 +1,7 @@
 // 1D: one colour's codes as pieces of straight lines, a piece for each cell. In a cell the sum over D grows evenly with the code, so that a slope and a
 // base are all that a code needs, and they are worked out once.
+#![tactic(auto)]
+
 ghost use Rattle.std.specs.Prelude.{◌≡◌, List, ◌≤◌, ◌<◌, ℤ, length};
 ghost use Rattle.rules.specs.Looking.{line_code};
 ghost use Rattle.strips.specs.Strips.{LineAt, Stripped, StrippedIf, PieceOf, LaidOut, StripAt};

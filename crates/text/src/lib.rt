@@ -1,4 +1,6 @@
 // Lines, words, keywords and titles: the text of a file, up to its numbers.
+#![tactic(auto)]
+
 mod cursor;
 mod keywords;
 mod lines;
@@ -8,7 +10,7 @@ mod words;
 
 pub use cursor::{Cursor, Step};
 pub use keywords::{KeywordFound, is_named, keyword_of};
-pub use lines::{Checked, LINE_LIMIT, byte_fault, form_of};
+pub use lines::{Checked, byte_fault, form_of};
 pub use runs::every;
 pub use title::title_of;
 pub use words::{Word, next_word};

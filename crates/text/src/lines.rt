@@ -12,7 +12,7 @@ use rules::{Form, Refusal};
 use scan::{ByteKind, is_number_byte};
 
 // A line has at most so many bytes.
-pub const LINE_LIMIT: usize = 250;
+const LINE_LIMIT: usize = 250;
 
 #[derive(Drop)]
 pub enum Checked {

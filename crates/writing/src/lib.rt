@@ -1,4 +1,6 @@
 // A table as the bytes of a file: all is judged and the text's length counted before a byte is written.
+#![tactic(auto)]
+
 mod counts;
 mod lines;
 mod rows;

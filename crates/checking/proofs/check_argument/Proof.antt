@@ -5,9 +5,15 @@ use lib.ListN.{length}
 use lib.Seq.{length-take-le}
 use Rattle.desk.specs.Loads.{NameWithin}
 use Rattle.desk.specs.declared.names.Name.{Name}
+use native.Mathlib.Omega.{arith}
 use borrow.Author.Rules.{rules}
 use Rattle.checking.proofs.check_argument.Statement.{statement}
 use Rattle.checking.proofs.check_argument.Tie as tie
+use Rattle.checking.proofs.check_argument.Reads as reads
+use Rattle.checking.proofs.check_argument.Lts as lts
+use Rattle.checking.proofs.check_named.Reads as check-named-reads
+use Rattle.desk.proofs.name_at.Reads as name-at-reads
+use Rattle.io.proofs.buffer.Reads as buffer-reads
 
 buffer-requires : tie.Need-buffer-requires
 buffer-requires c κs = search rules
@@ -37,7 +43,7 @@ returns c = search rules
 named : (c : tie.After-known-told) → c.before.n.given.0.0 ≤ length c.before.before.before.before.name-at.new.1.1.1.0
 named c =
     let a = c.before.before.before.before in
-    subst (λ (x : Name). NameWithin a.name-at.new.1.1.1.0 x) c.before.n.given.1 a.name-at.ensures.0
+    subst (λ (x : Name). NameWithin a.name-at.new.1.1.1.0 x) c.before.n.given.1 a.name-at.ensures
 
 array-share-prefix-path : tie.Need-array-share-prefix-path
 array-share-prefix-path c = named c

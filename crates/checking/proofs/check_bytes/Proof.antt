@@ -3,21 +3,29 @@ use mathlib.Core.Path.{subst, ◌∙◌}
 use Rattle.desk.specs.Outcomes.{EndsAs}
 use Rattle.desk.proofs.Ends.{ends_as}
 use Rattle.checking.proofs.Checked.{ends}
+use native.Mathlib.Omega.{arith}
 use borrow.Author.Rules.{rules}
 use Rattle.checking.proofs.check_bytes.Statement.{statement}
 use Rattle.checking.proofs.check_bytes.Tie as tie
+use Rattle.checking.proofs.check_bytes.Reads as reads
+use Rattle.checking.proofs.check_bytes.Lts as lts
+use Rattle.checking.proofs.show_answer.Reads as show-answer-reads
+use Rattle.desk.proofs.outcomes.Outcome.if_written.Reads as if-written-reads
+use Rattle.desk.proofs.say.Reads as say-reads
+use Rattle.desk.proofs.outcome_of.Reads as outcome-of-reads
+use Rattle.reading.proofs.check.Reads as check-reads
 
 check-requires : tie.Need-check-requires
 check-requires c κs = search rules
 
-write-escaped-requires : tie.Need-write-escaped-requires
-write-escaped-requires c κs = search rules
+say-requires : tie.Need-say-requires
+say-requires c κs = search rules
 
 slice-aggregate-say : tie.Need-slice-aggregate-say
 slice-aggregate-say c = search rules
 
-say-requires : tie.Need-say-requires
-say-requires c κs = search rules
+say-requires-2 : tie.Need-say-requires-2
+say-requires-2 c κs = search rules
 
 show-answer-requires : tie.Need-show-answer-requires
 show-answer-requires c κs = search rules
@@ -25,8 +33,8 @@ show-answer-requires c κs = search rules
 slice-aggregate-say-2 : tie.Need-slice-aggregate-say-2
 slice-aggregate-say-2 c = search rules
 
-say-requires-2 : tie.Need-say-requires-2
-say-requires-2 c κs = search rules
+say-requires-3 : tie.Need-say-requires-3
+say-requires-3 c κs = search rules
 
 outcome-of-requires : tie.Need-outcome-of-requires
 outcome-of-requires c κs = search rules
@@ -51,12 +59,12 @@ check-bytes-spec =
     tie.close
     (tie.spec
     check-requires
-    write-escaped-requires
-    slice-aggregate-say
     say-requires
+    slice-aggregate-say
+    say-requires-2
     show-answer-requires
     slice-aggregate-say-2
-    say-requires-2
+    say-requires-3
     outcome-of-requires
     slice-aggregate-if-written
     if-written-requires

@@ -7,9 +7,13 @@ use Rattle.desk.specs.Loads.{Fetches}
 use Rattle.desk.specs.declared.loading.Fetched.{Fetched}
 use Rattle.desk.specs.declared.outcomes.Outcome.TheVariants.{Failed}
 use Rattle.checking.specs.Verdicts.{EndsBy}
+use native.Mathlib.Omega.{arith}
 use borrow.Author.Rules.{rules}
 use Rattle.checking.proofs.check_fetched.Statement.{statement}
 use Rattle.checking.proofs.check_fetched.Tie as tie
+use Rattle.checking.proofs.check_fetched.Reads as reads
+use Rattle.checking.proofs.check_fetched.Lts as lts
+use Rattle.checking.proofs.check_bytes.Reads as check-bytes-reads
 
 -- the count of bytes is one of the file's
 within : (f : tie.After-fetched) → f.fetched.given.0.0 ≤ length f.before.before.before.before.args.file.now

@@ -3,8 +3,15 @@ use Prim.Native.Nat.{◌-◌}
 use mathlib.Core.Path.{◌≡◌}
 use lib.ListN.{length}
 use borrow.Author.Rules.{rules}
+use native.Mathlib.Omega.{arith}
 use Rattle.checking.proofs.check_files.Statement.{statement}
 use Rattle.checking.proofs.check_files.Tie as tie
+use Rattle.checking.proofs.check_files.Reads as reads
+use Rattle.checking.proofs.check_files.Lts as lts
+use Rattle.checking.proofs.check_argument.Reads as check-argument-reads
+use Rattle.checking.proofs.words.help.Reads as help-reads
+use Rattle.desk.proofs.outcomes.Outcome.worse.Reads as worse-reads
+use Rattle.os.proofs.arg_count.Reads as arg-count-reads
 
 abbrev invariant-loop : tie.invariant-loop
 invariant-loop file₀ count worst₀ place₀ file worst place = length file ≡ length file₀

@@ -3,9 +3,14 @@ use mathlib.Core.Path.{subst}
 use Rattle.rules.specs.Promises.{Checks}
 use Rattle.rules.specs.declared.Read.{Read}
 use Rattle.checking.proofs.Checked.{tellable}
+use native.Mathlib.Omega.{arith}
 use borrow.Author.Rules.{rules}
 use Rattle.checking.proofs.show_answer.Statement.{statement}
 use Rattle.checking.proofs.show_answer.Tie as tie
+use Rattle.checking.proofs.show_answer.Reads as reads
+use Rattle.checking.proofs.show_answer.Lts as lts
+use Rattle.checking.proofs.show_accepted.Reads as show-accepted-reads
+use Rattle.desk.proofs.write_refused.Reads as write-refused-reads
 
 enum-known-answer : tie.Need-enum-known-answer
 enum-known-answer c = search rules

@@ -1,24 +1,22 @@
 -- What was loaded is within the space that was lent for it.
+use Prim.Native.Nat.{◌≤◌}
 use mathlib.Core.Path.{sym, subst}
+use lib.ListN.{length}
 use lib.Seq.{length-take-le}
 use Rattle.desk.specs.Loads.{Loads}
-use Rattle.rules.proofs.Answers.{reads-is}
-use Rattle.reporting.proofs.Answered.{accepted-tellable}
-use Rattle.desk.proofs.WhatIsLoaded.{OfFirstBytes, first-bytes}
+use Rattle.desk.proofs.WhatIsLoaded.{first-bytes}
 use borrow.Author.Rules.{rules}
 use Rattle.explain.proofs.answer_by.Statement.{statement}
 use Rattle.explain.proofs.answer_by.Tie as tie
 
--- what was loaded are the first bytes of the space that was lent for them, and their table
-loaded : (d : tie.After-description) → let l = d.before.before.before.before.before in
-    let s = l.before.before.before.before.before in
-    OfFirstBytes l.load-argument.new.1.1.0 s.args.table.now d.description.given.0.0 d.description.given.0.1.0 l.load-argument.new.1.1.1.0
-loaded d =
+-- the count of the file's bytes is within the space that was lent for them
+within : (d : tie.After-description) → d.description.given.0.1.0 ≤ length d.before.before.before.before.before.load-argument.new.1.1.0
+within d =
     let l = d.before.before.before.before.before in
     let s = l.before.before.before.before.before in
     let file = l.load-argument.new.1.1.0 in
     let table = l.load-argument.new.1.1.1.0 in
-    first-bytes (subst (λ r. Loads file s.args.table.now r table) d.description.given.1 l.load-argument.ensures)
+    (first-bytes (subst (λ r. Loads file s.args.table.now r table) d.description.given.1 l.load-argument.ensures)).within
 
 slice-aggregate-load-argument : tie.Need-slice-aggregate-load-argument
 slice-aggregate-load-argument c = search rules
@@ -30,15 +28,13 @@ enum-known-description : tie.Need-enum-known-description
 enum-known-description c = search rules
 
 slice-reshare-prefix-explain : tie.Need-slice-reshare-prefix-explain
-slice-reshare-prefix-explain c = (loaded c.before).within
+slice-reshare-prefix-explain c = within c.before
 
 slice-aggregate-explain : tie.Need-slice-aggregate-explain
-slice-aggregate-explain c = sym (length-take-le _ _ (loaded c.before.before).within)
+slice-aggregate-explain c = sym (length-take-le _ _ (within c.before.before))
 
 explain-requires : tie.Need-explain-requires
-explain-requires c κs =
-    let l = loaded c.before.before.before in
-    accepted-tellable _ _ _ (sym (reads-is l.reads).0)
+explain-requires c κs = search rules
 
 enum_told : tie.Need-enum-told
 enum_told c = search rules

@@ -7,14 +7,14 @@ use borrow.Author.Rules.{rules}
 use Rattle.given.proofs.corrected_width.Statement.{statement}
 use Rattle.given.proofs.corrected_width.Tie as tie
 
-slice-aggregate-option-among : tie.Need-slice-aggregate-option-among
-slice-aggregate-option-among c = search rules
+slice-aggregate-option-at : tie.Need-slice-aggregate-option-at
+slice-aggregate-option-at c = search rules
 
-cast-option-among : tie.Need-overflow-cast-option-among
-cast-option-among c = search rules
+cast-option-at : tie.Need-overflow-cast-option-at
+cast-option-at c = search rules
 
-option-among-requires : tie.Need-option-among-requires
-option-among-requires c κs = search rules
+option-at-requires : tie.Need-option-at-requires
+option-at-requires c κs = search rules
 
 enum_told : tie.Need-enum-told
 enum_told c = search rules
@@ -22,17 +22,17 @@ enum_told c = search rules
 enum-known-n : tie.Need-enum-known-n
 enum-known-n c = search rules
 
-cast-t11 : tie.Need-overflow-cast-t11
-cast-t11 c =
+cast-t10 : tie.Need-overflow-cast-t10
+cast-t10 c =
     let n = c.before in
-    let small : n.n.given.0.0 ≤ 65535 = subst (OptionUpTo 65535) n.n.given.1 n.before.before.option-among.ensures in
+    let small : n.n.given.0.0 ≤ 65535 = subst (OptionUpTo 65535) n.n.given.1 n.before.before.option-at.ensures in
     record { fits = omega (arith, small) }
 
 enum-told-2 : tie.Need-enum-told-2
 enum-told-2 c = search rules
 
-add-t12 : tie.Need-overflow-add-t12
-add-t12 c = search rules
+add-t11 : tie.Need-overflow-add-t11
+add-t11 c = search rules
 
 enum-told-3 : tie.Need-enum-told-3
 enum-told-3 c = search rules
@@ -53,14 +53,14 @@ pub corrected-width-spec : {M : Type 1} → statement M
 corrected-width-spec =
     tie.close
     (tie.spec
-    slice-aggregate-option-among
-    cast-option-among
-    option-among-requires
+    slice-aggregate-option-at
+    cast-option-at
+    option-at-requires
     enum_told
     enum-known-n
-    cast-t11
+    cast-t10
     enum-told-2
-    add-t12
+    add-t11
     enum-told-3
     returns
     returns-2

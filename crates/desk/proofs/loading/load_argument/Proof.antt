@@ -35,7 +35,7 @@ returns c = record { fetched = Failed; fetches = tt; loads = (refl, refl) }
 named : (c : tie.After-known-told) → c.before.n.given.0.0 ≤ length c.before.before.before.before.name-at.new.1.1.1.0
 named c =
     let a = c.before.before.before.before in
-    subst (λ (x : Name). NameWithin a.name-at.new.1.1.1.0 x) c.before.n.given.1 a.name-at.ensures.0
+    subst (λ (x : Name). NameWithin a.name-at.new.1.1.1.0 x) c.before.n.given.1 a.name-at.ensures
 
 array-share-prefix-path : tie.Need-array-share-prefix-path
 array-share-prefix-path c = named c

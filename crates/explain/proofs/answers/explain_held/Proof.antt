@@ -17,13 +17,13 @@ enum-known-depths c = search rules
 enum_told : tie.Need-enum-told
 enum_told c = search rules
 
-refuse-depths-requires : tie.Need-refuse-depths-requires
-refuse-depths-requires c κs = search rules
+refuse-requires : tie.Need-refuse-requires
+refuse-requires c κs = search rules
 
 returns : tie.Need-returns
 returns c =
     let told = c.before in
-    look-unknown _ _ _ c.refuse-depths.ensures (sym told.before.before.of.ensures ∙ told.enum_told.given.1) _
+    look-unknown _ _ _ c.refuse.ensures (sym told.before.before.of.ensures ∙ told.enum_told.given.1) _
 
 look-requires : tie.Need-look-requires
 look-requires c κs = search rules
@@ -31,18 +31,21 @@ look-requires c κs = search rules
 enum-known-reason : tie.Need-enum-known-reason
 enum-known-reason c = search rules
 
-refuse-pixel-requires : tie.Need-refuse-pixel-requires
-refuse-pixel-requires c κs = search rules
+refuse-requires-2 : tie.Need-refuse-requires-2
+refuse-requires-2 c κs = search rules
 
 enum-known-codes : tie.Need-enum-known-codes
 enum-known-codes c = search rules
 
-show-requires : tie.Need-show-requires
-show-requires c κs =
-    let codes = c.before in
+show-pixel-requires : tie.Need-show-pixel-requires
+show-pixel-requires c κs = search rules
+
+show-look-requires : tie.Need-show-look-requires
+show-look-requires c κs =
+    let codes = c.before.before.before in
     let look = codes.before.before in
     let depths = look.before.before in
-    (depths.before.before.before.before.requires, seen look.look.ensures codes.codes.given.1 depths.depths.given.0.0 (sym depths.before.before.of.ensures ∙ depths.depths.given.1))
+    seen look.look.ensures codes.codes.given.1 depths.depths.given.0.0 (sym depths.before.before.of.ensures ∙ depths.depths.given.1)
 
 done-if-requires : tie.Need-done-if-requires
 done-if-requires c κs = search rules
@@ -51,14 +54,14 @@ returns-2 : tie.Need-returns-2
 unfolding looked_as
 returns-2 c =
     let reason = c.before.before in
-    ends-refused looked_as (looks-is reason.before.before.look.ensures) c.refuse-pixel.ensures (ap looked_as reason.reason.given.1)
+    ends-refused looked_as (looks-is reason.before.before.look.ensures) c.refuse2.ensures (ap looked_as reason.reason.given.1)
 
 returns-3 : tie.Need-returns-3
 unfolding looked_as
 returns-3 c =
-    let shown = c.before in
-    let codes = shown.before.before in
-    ends-shown looked_as (looks-is codes.before.before.look.ensures) shown.show.result c.done-if.result c.done-if.ensures (ap looked_as codes.codes.given.1)
+    let joined = c.before in
+    let codes = joined.before.before.before in
+    ends-shown looked_as (looks-is codes.before.before.look.ensures) joined.if1.written c.done-if.result c.done-if.ensures (ap looked_as codes.codes.given.1)
 
 pub explain-held-spec : {M : Type 1} → statement M
 explain-held-spec =
@@ -67,13 +70,14 @@ explain-held-spec =
     of-requires
     enum-known-depths
     enum_told
-    refuse-depths-requires
+    refuse-requires
     returns
     look-requires
     enum-known-reason
-    refuse-pixel-requires
+    refuse-requires-2
     enum-known-codes
-    show-requires
+    show-pixel-requires
+    show-look-requires
     done-if-requires
     returns-2
     returns-3)

@@ -18,13 +18,13 @@ enum-known-depths c = search rules
 enum_told : tie.Need-enum-told
 enum_told c = search rules
 
-refuse-depths-requires : tie.Need-refuse-depths-requires
-refuse-depths-requires c κs = search rules
+refuse-requires : tie.Need-refuse-requires
+refuse-requires c κs = search rules
 
 returns : tie.Need-returns
 returns c =
     let told = c.before in
-    line-unknown _ _ _ c.refuse-depths.ensures (sym told.before.before.of.ensures ∙ told.enum_told.given.1) _
+    line-unknown _ _ _ c.refuse.ensures (sym told.before.before.of.ensures ∙ told.enum_told.given.1) _
 
 second-half-requires : tie.Need-second-half-requires
 second-half-requires c κs = search rules
@@ -40,12 +40,12 @@ refuse-line-requires c κs =
 enum-known-codes : tie.Need-enum-known-codes
 enum-known-codes c = search rules
 
-show-requires : tie.Need-show-requires
-show-requires c κs =
+show-look-requires : tie.Need-show-look-requires
+show-look-requires c κs =
     let codes = c.before in
     let given = codes.before.before in
     let depths = given.before.before in
-    (depths.before.before.before.before.requires, line-seen given.second-half.ensures codes.codes.given.1 depths.depths.given.0.0 (sym depths.before.before.of.ensures ∙ depths.depths.given.1))
+    line-seen given.second-half.ensures codes.codes.given.1 depths.depths.given.0.0 (sym depths.before.before.of.ensures ∙ depths.depths.given.1)
 
 done-if-requires : tie.Need-done-if-requires
 done-if-requires c κs = search rules
@@ -61,7 +61,7 @@ unfolding given_as
 returns-3 c =
     let shown = c.before in
     let codes = shown.before.before in
-    ends-shown given_as (gives-is codes.before.before.second-half.ensures) shown.show.result c.done-if.result c.done-if.ensures (ap given_as codes.codes.given.1)
+    ends-shown given_as (gives-is codes.before.before.second-half.ensures) shown.show-look.result c.done-if.result c.done-if.ensures (ap given_as codes.codes.given.1)
 
 pub explain-line-spec : {M : Type 1} → statement M
 explain-line-spec =
@@ -70,13 +70,13 @@ explain-line-spec =
     of-requires
     enum-known-depths
     enum_told
-    refuse-depths-requires
+    refuse-requires
     returns
     second-half-requires
     enum-known-reason
     refuse-line-requires
     enum-known-codes
-    show-requires
+    show-look-requires
     done-if-requires
     returns-2
     returns-3)

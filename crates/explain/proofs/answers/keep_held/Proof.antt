@@ -13,8 +13,8 @@ first-half-requires c κs = search rules
 enum-known-reason : tie.Need-enum-known-reason
 enum-known-reason c = search rules
 
-refuse-pixel-requires : tie.Need-refuse-pixel-requires
-refuse-pixel-requires c κs = search rules
+refuse-requires : tie.Need-refuse-requires
+refuse-requires c κs = search rules
 
 enum-known-shares : tie.Need-enum-known-shares
 enum-known-shares c = search rules
@@ -29,7 +29,7 @@ returns : tie.Need-returns
 unfolding kept_as
 returns c =
     let reason = c.before.before in
-    ends-refused kept_as (finds-is reason.before.before.first-half.ensures) c.refuse-pixel.ensures (ap kept_as reason.reason.given.1)
+    ends-refused kept_as (finds-is reason.before.before.first-half.ensures) c.refuse.ensures (ap kept_as reason.reason.given.1)
 
 returns-2 : tie.Need-returns-2
 unfolding kept_as
@@ -44,7 +44,7 @@ keep-held-spec =
     (tie.spec
     first-half-requires
     enum-known-reason
-    refuse-pixel-requires
+    refuse-requires
     enum-known-shares
     show-line-requires
     done-if-requires

@@ -4,8 +4,7 @@ use Rattle.rules.specs.Units.{raw_m}
 use Rattle.rules.specs.Looking.Interpolation.{den_of, row_code}
 use Rattle.halves.specs.Listed.{listed}
 use Rattle.explain.specs.Spans.{span_of}
-use Rattle.explain.proofs.Spanning.{listed-stand, four-shown}
-use Rattle.placing.proofs.Sums.{den-there}
+use Rattle.explain.proofs.Spanning.{listed-stand, four-shown, den-there}
 use borrow.Author.Rules.{rules}
 use Rattle.explain.proofs.rows.span_shown.Statement.{statement}
 use Rattle.explain.proofs.rows.span_shown.Tie as tie
@@ -27,7 +26,7 @@ returns c =
     let d = s.args.d in
     let table = s.args.table.now in
     let den = den_of d (raw_m s.args.depths) s.args.c in
-    c.Span-of.ensures den (den-there s.requires.summed s.args.c)
+    c.Span-of.ensures den (den-there s.requires s.args.c)
     ∙ ap (λ m. span_of (row_code m den table s.args.c) m (listed four.four-of.result)) read.greatest.ensures
     ∙ four-shown s.requires s.args.c four.four-of.result four.four-of.ensures
 

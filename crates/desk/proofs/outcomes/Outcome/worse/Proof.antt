@@ -2,9 +2,13 @@
 use mathlib.Core.Path.{refl}
 use borrow.Author.Tests.{lt-ltb, le-ltb}
 use Rattle.desk.specs.Outcomes.{worse_of}
+use native.Mathlib.Omega.{arith}
 use borrow.Author.Rules.{rules}
 use Rattle.desk.proofs.outcomes.Outcome.worse.Statement.{statement}
 use Rattle.desk.proofs.outcomes.Outcome.worse.Tie as tie
+use Rattle.desk.proofs.outcomes.Outcome.worse.Reads as reads
+use Rattle.desk.proofs.outcomes.Outcome.worse.Lts as lts
+use Rattle.desk.proofs.outcomes.Outcome.status.Reads as status-reads
 
 status-requires : tie.Need-status-requires
 status-requires c κs = search rules
