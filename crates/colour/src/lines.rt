@@ -10,7 +10,7 @@ use crate::shares::pair_of;
 use rules::Colour;
 
 // What of a plan one colour is a matter of.
-#[derive(Drop)]
+#[derive(Clone, Copy)]
 pub struct Line {
     pub colour: Colour,
     pub cells: usize,

@@ -8,7 +8,7 @@ use crate::plan::Axis;
 use whole::{Whole, lesser};
 
 // The index i and the fraction f of one colour's code.
-#[derive(Drop)]
+#[derive(Clone, Copy)]
 pub struct Place {
     pub index: usize,
     pub fraction: u64,

@@ -13,7 +13,7 @@ use rules::{Colour, Depths, Description, Domain, Kind, TenMillionths, Thousandth
 use whole::{Divisor, Whole};
 
 // One colour's axis.
-#[derive(Drop)]
+#[derive(Clone, Copy)]
 pub struct Axis {
     // One unit of the colour's domain is so many parts of its span: 1000 where the span is in thousandths.
     pub each: u64,
@@ -31,7 +31,7 @@ pub struct Axis {
     pub stride: usize,
 }
 
-#[derive(Drop)]
+#[derive(Clone, Copy)]
 pub struct Plan {
     pub kind: Kind,
     // N − 1, from one row to the next along an axis.

@@ -6,7 +6,7 @@ use rules::Depths;
 use whole::common_divisor;
 
 // p / q.
-#[derive(Drop)]
+#[derive(Clone, Copy)]
 pub struct Ratio {
     pub top: u64,
     pub bottom: u64,

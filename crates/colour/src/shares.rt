@@ -24,7 +24,7 @@ fn share_of(row: usize, weight: u64) -> Share
 // ---- 1D
 
 // The two rows of a colour.
-#[derive(Drop)]
+#[derive(Clone, Copy)]
 pub struct Pair {
     pub low: Share,
     pub high: Share,
@@ -74,7 +74,7 @@ pub fn line(plan: Plan, pixel: Codes) -> Shares
 // ---- 3D
 
 // A step along one axis: the index that it starts from, its fraction, and the rows that one index up is.
-#[derive(Drop)]
+#[derive(Clone, Copy)]
 pub struct Step {
     pub index: usize,
     pub fraction: u64,
@@ -159,7 +159,7 @@ fn path_along(start: usize, den: u64, red: Step, green: Step, blue: Step) -> Sha
 }
 
 // The three steps of a pixel, with the one D of their fractions.
-#[derive(Drop)]
+#[derive(Clone, Copy)]
 pub struct Steps {
     pub den: u64,
     pub red: Step,

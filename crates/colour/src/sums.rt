@@ -10,7 +10,7 @@ use rules::{Colour, Kind, Share, Shares, TenMillionths};
 use whole::Whole;
 
 // A sum of weight times sample for each colour.
-#[derive(Drop)]
+#[derive(Clone, Copy)]
 pub struct Sums {
     pub red: Whole,
     pub green: Whole,

@@ -4,7 +4,7 @@ ghost use Rattle.command.specs.Verbs.{verb_of, asks_help};
 
 use text::is_named;
 
-#[derive(Drop)]
+#[derive(Clone, Copy)]
 pub enum Verb {
     Report,
     Explain,

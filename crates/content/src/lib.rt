@@ -21,7 +21,7 @@ use text::{Word, next_word, title_of};
 // ---- three numbers
 
 // Three words that are numbers, or not.
-#[derive(Drop)]
+#[derive(Clone, Copy)]
 pub enum ThreeFound {
     Found(Three),
     NotThree,
@@ -60,7 +60,7 @@ fn three_formed(first: Number, second: Number, third: Number) -> ThreeFound
 }
 
 // What a word says as a number, and where the word ends.
-#[derive(Drop)]
+#[derive(Clone, Copy)]
 enum NextNumber {
     ANumber(Number, usize),
     Nothing,
@@ -103,13 +103,13 @@ fn three_numbers(l: &[u8], from: usize, places: usize, limit: u64) -> ThreeFound
 // ---- their values
 
 // Three values in the units that were asked for, or why there are none.
-#[derive(Drop)]
+#[derive(Clone, Copy)]
 enum Values {
     All(Triple),
     Fault(Refusal),
 }
 
-#[derive(Drop)]
+#[derive(Clone, Copy)]
 struct Triple {
     x: i64,
     y: i64,
@@ -117,7 +117,7 @@ struct Triple {
 }
 
 // Why a number is refused: for its form, beyond the limit, or no multiple of the unit.
-#[derive(Drop)]
+#[derive(Clone, Copy)]
 struct Complaints {
     unformed: Refusal,
     beyond: Refusal,
@@ -171,7 +171,7 @@ fn values_on(l: &[u8], from: usize, places: usize, limit: u64, complaints: Compl
 // ---- bounds and samples
 
 // Which of the bounds a line gives.
-#[derive(Drop)]
+#[derive(Clone, Copy)]
 enum Side {
     Lower,
     Upper,
@@ -212,7 +212,7 @@ fn bounds_on(side: Side, l: &[u8], from: usize) -> Content
 }
 
 // A row, or why there is none.
-#[derive(Drop)]
+#[derive(Clone, Copy)]
 pub enum RowFound {
     ARow(Row),
     NoRow(Refusal),

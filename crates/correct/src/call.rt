@@ -6,13 +6,13 @@ use desk::{Last, option_at};
 use rules::Depth;
 
 // Whether the files IN and OUT are named, and the maxval that is wanted of the output.
-#[derive(Drop)]
+#[derive(Clone, Copy)]
 pub struct Call {
     pub named: bool,
     pub wanted: Last,
 }
 
-#[derive(Drop)]
+#[derive(Clone, Copy)]
 pub enum Asked {
     For(Call),
     Unclear,

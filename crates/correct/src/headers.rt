@@ -13,7 +13,7 @@ use ppm::{Fault, Frame, Header, header_of, put_header};
 
 // What came of reading a header: it was read, as far as it goes; it does not end within the space that there is for it; there is not one byte of it; or
 // the system could not read.
-#[derive(Drop)]
+#[derive(Clone, Copy)]
 pub enum Heading {
     Read(Header),
     TooLong,

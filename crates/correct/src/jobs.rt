@@ -7,13 +7,13 @@ use ppm::{Frame, Scale, ScaleFound, scale_of};
 use rules::Depths;
 
 // What maxval says of the codes, of the picture and of the output.
-#[derive(Drop)]
+#[derive(Clone, Copy)]
 pub struct Scales {
     pub raw: Scale,
     pub corrected: Scale,
 }
 
-#[derive(Drop)]
+#[derive(Clone, Copy)]
 pub struct Job {
     pub frame: Frame,
     pub maxval: u64,
@@ -21,7 +21,7 @@ pub struct Job {
 }
 
 // Ready, or which maxval is no depth's: the picture's or the output's.
-#[derive(Drop)]
+#[derive(Clone, Copy)]
 pub enum JobFound {
     Ready(Job),
     PictureUnknown,

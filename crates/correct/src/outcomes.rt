@@ -7,7 +7,7 @@ use desk::Outcome;
 
 // What became of a picture: all of it is written; there is none, since the input ends where its header would begin; its header or a maxval is wrong, and
 // nothing of it is written; it stops at a pixel, and what stands before that is written; or the system could not read or write.
-#[derive(Drop)]
+#[derive(Clone, Copy)]
 pub enum Fate {
     Whole,
     Missing,
@@ -17,7 +17,7 @@ pub enum Fate {
 }
 
 // How many pictures were written whole, and what became of the next.
-#[derive(Drop)]
+#[derive(Clone, Copy)]
 pub struct Story {
     pub whole: u64,
     pub last: Fate,

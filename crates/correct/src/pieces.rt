@@ -14,7 +14,7 @@ use ppm::{Excess, bytes_from, codes_from, count_within, excess_at};
 use rules::Colour;
 
 // What became of the pixels: all are written, or the pixel at which it stopped.
-#[derive(Drop)]
+#[derive(Clone, Copy)]
 pub enum Passed {
     Whole,
     Cut(u64),
@@ -28,7 +28,7 @@ pub enum Passed {
 }
 
 // How many pixels of a piece were corrected, how many bytes those are, and the code that is too great after them, if there is one.
-#[derive(Drop)]
+#[derive(Clone, Copy)]
 struct Piece {
     pixels: usize,
     bytes: usize,

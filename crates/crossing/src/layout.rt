@@ -64,7 +64,7 @@ pub fn eleven_of(d: Description) -> [i64; 11]
 
 // ---- and back
 
-#[derive(Drop)]
+#[derive(Clone, Copy)]
 pub enum DescriptionFound {
     Known(Description),
     Unknown,
@@ -209,7 +209,7 @@ pub fn shares_in(rows: &[u32; 6], weights: &[i64; 6]) -> Shares
 
 // ---- a colour as a number
 
-#[derive(Drop)]
+#[derive(Clone, Copy)]
 pub enum ColourFound {
     Known(Colour),
     Unknown,

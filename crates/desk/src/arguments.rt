@@ -7,7 +7,7 @@ use numbers::{is_digits, spelt};
 use text::is_named;
 
 // What an argument says: a number up to the limit, a greater one, or none.
-#[derive(Drop)]
+#[derive(Clone, Copy)]
 pub enum Argument {
     Number(u64),
     TooGreat,
@@ -47,7 +47,7 @@ pub fn is_word_at(place: usize, word: &[u8]) -> bool {
 }
 
 // What stands last on the command line: nothing more, an option's number up to the limit or a greater one, or what is not understood.
-#[derive(Drop)]
+#[derive(Clone, Copy)]
 pub enum Last {
     Nothing,
     Number(u64),

@@ -11,7 +11,7 @@ use rules::{Description, Read, Refusal};
 
 // The description of the table and how many bytes its file has; or, once it was said why on standard error, that the file is refused, or that none
 // could be read.
-#[derive(Drop)]
+#[derive(Clone, Copy)]
 pub enum Loaded {
     Table {
         description: Description,
@@ -22,14 +22,14 @@ pub enum Loaded {
 }
 
 // What came of reading a descriptor until the space is full or the input ends.
-#[derive(Drop)]
+#[derive(Clone, Copy)]
 pub enum Filled {
     Bytes(usize),
     Failed,
 }
 
 // What came of reading a file, or a descriptor, to its end.
-#[derive(Drop)]
+#[derive(Clone, Copy)]
 pub enum Fetched {
     Bytes(usize),
     TooLong,

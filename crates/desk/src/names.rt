@@ -5,7 +5,7 @@ use crate::printing::write;
 use libc::STDERR_FILENO;
 
 // How many bytes of the lent space a name has; or, once that was said on standard error, that there is none that a file can have.
-#[derive(Drop)]
+#[derive(Clone, Copy)]
 pub enum Name {
     Bytes(usize),
     Unusable,

@@ -6,7 +6,7 @@ ghost use Rattle.desk.specs.declared.outcomes.Outcome.TheVariants.{Failed};
 use crate::failures::say_unwritten;
 
 // Done; refused, for what the file or the picture says; or failed, by a call that is not understood or by the system.
-#[derive(Drop)]
+#[derive(Clone, Copy)]
 pub enum Outcome {
     Done,
     Refused,

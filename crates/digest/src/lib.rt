@@ -16,7 +16,7 @@ use padding::{count_last_blocks, last_bytes};
 pub use text::put_digest;
 
 // Eight words: H0 to H7 of a checksum, which are a to h while a block is worked in.
-#[derive(Drop)]
+#[derive(Clone, Copy)]
 pub struct Digest {
     pub a: u32,
     pub b: u32,

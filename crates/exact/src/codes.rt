@@ -6,7 +6,7 @@ use crate::floor::rounded_down;
 use whole::{Whole, common_divisor};
 
 // whole + rest / unit.
-#[derive(Drop)]
+#[derive(Clone, Copy)]
 pub struct InCodes {
     pub whole: Whole,
     pub rest: u64,

@@ -3,7 +3,7 @@ ghost use Rattle.std.specs.Prelude.{◌≤◌, ◌<◌};
 ghost use Rattle.exact.specs.Decimals.{LongDivision};
 
 // So many digits after the point, as one number, and whether more would follow.
-#[derive(Drop)]
+#[derive(Clone, Copy)]
 pub struct Places {
     pub digits: u64,
     pub count: usize,

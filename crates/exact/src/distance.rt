@@ -6,7 +6,7 @@ use crate::codes::InCodes;
 use whole::Whole;
 
 // whole + rest / unit, over the unit of the exact value.
-#[derive(Drop)]
+#[derive(Clone, Copy)]
 pub struct Distance {
     pub whole: u64,
     pub rest: u64,

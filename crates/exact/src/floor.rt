@@ -4,7 +4,7 @@ ghost use Rattle.exact.specs.Values.{RoundedDown};
 
 use whole::Whole;
 
-#[derive(Drop)]
+#[derive(Clone, Copy)]
 pub struct Floor {
     pub quotient: Whole,
     pub rest: u64,

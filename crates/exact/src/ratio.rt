@@ -4,7 +4,7 @@ ghost use Rattle.exact.specs.Values.{LowestTerms};
 
 use whole::{Whole, common_divisor};
 
-#[derive(Drop)]
+#[derive(Clone, Copy)]
 pub struct Ratio {
     pub top: Whole,
     pub bottom: u64,

@@ -5,7 +5,7 @@ ghost use Rattle.exact.specs.Values.{settled_as};
 use crate::codes::InCodes;
 use whole::Whole;
 
-#[derive(Drop)]
+#[derive(Clone, Copy)]
 pub enum Settled {
     // The exact value is the code.
     Exactly,

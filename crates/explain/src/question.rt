@@ -7,14 +7,14 @@ use given::{Given, MOST, MOST_ROW, Weight, corrected_width, value_at, weight_at}
 use rules::{Bits, Codes, Share, Shares};
 
 // A pixel, or that one of the codes is greater than any depth has.
-#[derive(Drop)]
+#[derive(Clone, Copy)]
 pub enum Pixel {
     Held(Codes),
     Beyond,
 }
 
 // What made a pixel's codes; the line of a pixel, with its rows and weights; or what codes such a line gives.
-#[derive(Drop)]
+#[derive(Clone, Copy)]
 pub enum Question {
     Pixel { bits: Bits, pixel: Pixel },
     LineOf { raw: u32, pixel: Pixel },
@@ -22,20 +22,20 @@ pub enum Question {
 }
 
 // What the arguments ask, or nothing that can be understood.
-#[derive(Drop)]
+#[derive(Clone, Copy)]
 pub enum Asked {
     Plainly(Question),
     Unclear,
 }
 
 // What two arguments give, and what twelve do.
-#[derive(Drop)]
+#[derive(Clone, Copy)]
 enum ShareGiven {
     Both(Share),
     Unclear,
 }
 
-#[derive(Drop)]
+#[derive(Clone, Copy)]
 enum SharesGiven {
     All(Shares),
     Unclear,

@@ -12,7 +12,7 @@ use rules::{Colour, Depths, Description, Share, Shares};
 use whole::{greater_code, lesser_code};
 
 // The least and the greatest of some codes.
-#[derive(Drop)]
+#[derive(Clone, Copy)]
 pub struct Span {
     pub least: u16,
     pub greatest: u16,

@@ -5,7 +5,7 @@ ghost use Rattle.facts.specs.Told.{Parted};
 use exact::Ratio;
 
 // whole + rest / bottom.
-#[derive(Drop)]
+#[derive(Clone, Copy)]
 pub struct Parts {
     pub whole: u64,
     pub rest: u64,

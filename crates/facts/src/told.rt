@@ -11,7 +11,7 @@ use placing::total_of;
 use rules::{Colour, Depths, Description, Shares};
 use whole::Whole;
 
-#[derive(Drop)]
+#[derive(Clone, Copy)]
 pub struct Facts {
     // S.
     pub sum: Whole,

@@ -13,7 +13,7 @@ use Rattle.rules.specs.Descriptions.{same, span, rows, could_be_read}
 use Rattle.rules.specs.Reading.Numerals.{digits, spell, signed}
 use Rattle.rules.specs.Looking.Interpolation.{den_of}
 use Rattle.rules.specs.Looking.{used, judged_for, judged_all, codes_by, second_half}
-use Rattle.rules.specs.Looking.Judging.{◌andThen◌, share_judged, each_judged, sum_judged, judged}
+use Rattle.rules.specs.Looking.Judging.{◌and_then◌, share_judged, each_judged, sum_judged, judged}
 use Rattle.rules.specs.Demands.{Each, Weighable}
 use Rattle.rules.specs.declared.Bits.{Bits}
 use Rattle.rules.specs.declared.Colour.{Colour}

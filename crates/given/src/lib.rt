@@ -21,13 +21,13 @@ pub const MOST_ROW: u32 = 16_777_215;
 // The greatest that weights can add up to: 65,535 codes in a domain of 10,000 thousandths.
 const MOST_WEIGHT: u64 = 655_350_000;
 
-#[derive(Drop)]
+#[derive(Clone, Copy)]
 pub enum Given {
     Value(u32),
     NoNumber,
 }
 
-#[derive(Drop)]
+#[derive(Clone, Copy)]
 pub enum Weight {
     Value(i64),
     NoNumber,

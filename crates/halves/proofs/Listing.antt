@@ -16,7 +16,7 @@ use Rattle.whole.proofs.Held.{true-by, false-by}
 use Rattle.rules.specs.Descriptions.{same}
 use Rattle.rules.specs.Looking.{used}
 use Rattle.rules.specs.Looking.Interpolation.{share}
-use Rattle.rules.specs.Looking.Judging.{◌andThen◌, share_judged, each_judged, sum_of, sum_judged, judged}
+use Rattle.rules.specs.Looking.Judging.{◌and_then◌, share_judged, each_judged, sum_of, sum_judged, judged}
 use Rattle.rules.specs.declared.Colour.{Colour}
 use Rattle.rules.specs.declared.Colour.TheVariants.{Red, Green, Blue}
 use Rattle.rules.specs.declared.Judged.{Judged}

@@ -6,7 +6,7 @@ ghost use Rattle.halves.specs.Listed.{listed, four_of};
 use rules::{Colour, Kind, Share, Shares};
 
 // A colour's rows and weights: in 1D two, and two that carry nothing.
-#[derive(Drop)]
+#[derive(Clone, Copy)]
 pub struct Four {
     pub first: Share,
     pub second: Share,

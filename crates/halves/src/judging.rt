@@ -2,7 +2,7 @@
 ghost use Rattle.std.specs.Prelude.{◌≡◌, suc, min, ◌≤◌};
 ghost use Rattle.whole.specs.Integers.{up};
 ghost use Rattle.rules.specs.Looking.{judged_for, judged_all};
-ghost use Rattle.rules.specs.Looking.Judging.{◌andThen◌, share_judged, each_judged, sum_judged, judged};
+ghost use Rattle.rules.specs.Looking.Judging.{◌and_then◌, share_judged, each_judged, sum_judged, judged};
 ghost use Rattle.colour.specs.Limits.{den_limit};
 ghost use Rattle.colour.specs.Plans.{Readable};
 ghost use Rattle.halves.specs.Listed.{listed, NotNegative};

@@ -13,7 +13,7 @@ use judge::could_be_read;
 use rules::{Aim, Bits, Depths, DepthsFound, Description, Inverse, Kind, Refusal};
 
 // What a search has come to.
-#[derive(Drop)]
+#[derive(Clone, Copy)]
 pub struct Found {
     // The nearest of the codes tried, the lowest if several.
     pub nearest: u16,

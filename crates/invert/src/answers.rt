@@ -15,7 +15,7 @@ use rules::{
     Aim, Bits, Codes, Colour, Depths, DepthsFound, Description, Inverse, Kind, Look, Refusal,
 };
 
-#[derive(Drop)]
+#[derive(Clone, Copy)]
 pub enum Said {
     // A raw code that is corrected to the wanted one.
     Hit {

@@ -4,7 +4,7 @@ use given::{Given, MOST, corrected_width, value_at};
 use rules::{Bits, Colour};
 
 // Which raw code gives the wanted one. A code past 65,535 is one that no depth has, and a tolerance past it allows every code.
-#[derive(Drop)]
+#[derive(Clone, Copy)]
 pub struct Question {
     pub bits: Bits,
     pub colour: Colour,
@@ -13,13 +13,13 @@ pub struct Question {
 }
 
 // What the arguments ask, or nothing that can be understood.
-#[derive(Drop)]
+#[derive(Clone, Copy)]
 pub enum Asked {
     Plainly(Question),
     Unclear,
 }
 
-#[derive(Drop)]
+#[derive(Clone, Copy)]
 enum ColourGiven {
     Named(Colour),
     Unclear,

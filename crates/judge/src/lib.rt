@@ -45,7 +45,7 @@ pub fn count_rows(kind: Kind, n: usize) -> usize
 // ---- a domain by itself
 
 // The rules on one domain.
-#[derive(Drop)]
+#[derive(Clone, Copy)]
 pub enum Rule {
     Within,
     Ordered,

@@ -17,14 +17,14 @@ use colour::{Axis, Plan};
 use rules::{Codes, Colour, Depths};
 use whole::{Reciprocal, WideReciprocal};
 
-#[derive(Drop)]
+#[derive(Clone, Copy)]
 pub struct Lanes {
     pub red: Lane,
     pub green: Lane,
     pub blue: Lane,
 }
 
-#[derive(Drop)]
+#[derive(Clone, Copy)]
 pub struct Cube {
     pub lanes: Lanes,
     // The three strides together.
@@ -42,7 +42,7 @@ pub struct Cube {
 }
 
 // Near: p is 1, as at equal depths, and the unit's shorter reciprocal is exact. Far: the wide one is.
-#[derive(Drop)]
+#[derive(Clone, Copy)]
 pub enum CubeFound {
     Near(Cube),
     Far(Cube),
@@ -84,7 +84,7 @@ fn lane_in(axis: Axis, g: u64, m: u16, cells: usize) -> LaneFound
     lane_along(parts, m, cells, places as u32)
 }
 
-#[derive(Drop)]
+#[derive(Clone, Copy)]
 enum LanesFound {
     All(Lanes),
     Beyond,

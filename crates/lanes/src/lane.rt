@@ -3,7 +3,7 @@
 ghost use Rattle.std.specs.Prelude.{◌≤◌, ◌<◌};
 ghost use Rattle.lanes.specs.Lanes.{RunsIf};
 
-#[derive(Drop)]
+#[derive(Clone, Copy)]
 pub struct Lane {
     // So much further is the spot of the next code.
     pub times: u32,
@@ -13,7 +13,7 @@ pub struct Lane {
     pub stride: u32,
 }
 
-#[derive(Drop)]
+#[derive(Clone, Copy)]
 pub enum LaneFound {
     Runs(Lane),
     Beyond,

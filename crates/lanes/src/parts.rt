@@ -8,7 +8,7 @@ use colour::{Axis, Plan};
 use rules::TenMillionths;
 use whole::{Divisor, Whole, common_divisor};
 
-#[derive(Drop)]
+#[derive(Clone, Copy)]
 pub enum AxisFound {
     In(Axis),
     Beyond,

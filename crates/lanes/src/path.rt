@@ -11,13 +11,13 @@ use rules::{Colour, TenMillionths};
 use whole::{Whole, greater, lesser};
 
 // A row by the place of its first number, with its weight.
-#[derive(Drop)]
+#[derive(Clone, Copy)]
 pub struct Corner {
     pub place: usize,
     pub weight: Whole,
 }
 
-#[derive(Drop)]
+#[derive(Clone, Copy)]
 pub struct Path {
     pub first: Corner,
     pub second: Corner,

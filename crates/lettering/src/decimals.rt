@@ -12,7 +12,7 @@ use rules::TenMillionths;
 use whole::Whole;
 
 // What stands after a point: so many digits, the last ones of a number.
-#[derive(Drop)]
+#[derive(Clone, Copy)]
 struct Fraction {
     digits: u64,
     places: usize,

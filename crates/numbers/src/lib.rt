@@ -60,13 +60,13 @@ pub fn spelt(s: &[u8], m: u64, limit: u64) -> u64
 // ---- the grammar
 
 // Where an exponent's digits start in its text, to the end of which they go, and whether its sign is a minus.
-#[derive(Drop)]
+#[derive(Clone, Copy)]
 struct PowerParts {
     down: bool,
     start: usize,
 }
 
-#[derive(Drop)]
+#[derive(Clone, Copy)]
 enum PowerFound {
     Power(PowerParts),
     NoPower,
@@ -74,7 +74,7 @@ enum PowerFound {
 
 // Where the parts of a number stand in its word: whole digits up to the point's place, digits after it up to an end, and those of the exponent
 // from its start to the end of the word.
-#[derive(Drop)]
+#[derive(Clone, Copy)]
 struct Parts {
     negative: bool,
     whole: usize,
@@ -85,7 +85,7 @@ struct Parts {
     power: usize,
 }
 
-#[derive(Drop)]
+#[derive(Clone, Copy)]
 enum NumeralFound {
     Stands(Parts),
     NoNumber,

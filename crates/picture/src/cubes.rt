@@ -20,7 +20,7 @@ fn block_end(at: usize, len: usize) -> usize
 }
 
 // Where a pixel begins, and its three keys.
-#[derive(Drop)]
+#[derive(Clone, Copy)]
 struct Spot {
     start: u64,
     red: u64,

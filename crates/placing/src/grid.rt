@@ -6,7 +6,7 @@ ghost use Rattle.placing.specs.Grids.{StandsAt};
 use rules::Kind;
 
 // The index of a row along each axis.
-#[derive(Drop)]
+#[derive(Clone, Copy)]
 pub struct Grid {
     pub red: usize,
     pub green: usize,

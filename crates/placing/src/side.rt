@@ -9,7 +9,7 @@ use rules::{Domain, Thousandths};
 use whole::Whole;
 
 // Below and above are beyond a bound; a code that lies on one was not moved.
-#[derive(Drop)]
+#[derive(Clone, Copy)]
 pub enum Side {
     Below,
     Within,

@@ -6,7 +6,7 @@ ghost use Rattle.plain.specs.Shapes.{Spelt};
 
 use scan::is_digit;
 
-#[derive(Drop)]
+#[derive(Clone, Copy)]
 pub struct Digits {
     pub value: u64,
     pub next: usize,

@@ -40,7 +40,7 @@ fn row_end(s: &[u8], at: usize, red: &mut i64, green: &mut i64, blue: &mut i64) 
 }
 
 // How many rows there are, and the place past them.
-#[derive(Drop)]
+#[derive(Clone, Copy)]
 pub struct Run {
     pub rows: usize,
     pub at: usize,

@@ -12,7 +12,7 @@ use text::form_of;
 
 // The first byte that is not permitted; the first word; the parameters of a keyword; N; a number of a domain; a number of
 // a row, by its form or its value; the end of the file; or a row's line, and the end of a file that has none.
-#[derive(Drop)]
+#[derive(Clone, Copy)]
 pub enum Aim {
     Byte,
     FirstWord,

@@ -10,7 +10,7 @@ use rules::{Content, Item, Size};
 use text::{Cursor, Step, form_of};
 
 // The first size that a file gives, or that it gives none.
-#[derive(Drop)]
+#[derive(Clone, Copy)]
 pub enum SizeFound {
     Given(Size),
     NotGiven,

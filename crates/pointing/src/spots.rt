@@ -5,7 +5,7 @@ ghost use Rattle.pointing.specs.Pointing.{rest_from, word_spot, byte_spot};
 use scan::{ByteKind, run_end, run_length};
 
 // A part of a line or of a file: so many bytes from a place on.
-#[derive(Drop)]
+#[derive(Clone, Copy)]
 pub struct Spot {
     pub place: usize,
     pub length: usize,

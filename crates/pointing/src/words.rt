@@ -11,7 +11,7 @@ use numbers::{is_digits, number_of};
 use rules::{Number, TenMillionths, Thousandths};
 
 // What a word has to be: digits alone; a number by its form, or also within the limits, of a domain or of a row.
-#[derive(Drop)]
+#[derive(Clone, Copy)]
 pub enum Wanted {
     Digits,
     BoundForm,

@@ -5,13 +5,13 @@ ghost use Rattle.ppm.specs.Scales.{scale_of};
 use rules::{Depth, DepthFound};
 
 // The depth whose greatest code a maxval is, and whether a code is two bytes.
-#[derive(Drop)]
+#[derive(Clone, Copy)]
 pub struct Scale {
     pub depth: Depth,
     pub wide: bool,
 }
 
-#[derive(Drop)]
+#[derive(Clone, Copy)]
 pub enum ScaleFound {
     Known(Scale),
     Unknown,

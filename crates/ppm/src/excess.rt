@@ -4,7 +4,7 @@ ghost use Rattle.ppm.specs.Excess.{colour_at, excess_at};
 
 use rules::Colour;
 
-#[derive(Drop)]
+#[derive(Clone, Copy)]
 pub enum Excess {
     Nothing,
     Above { colour: Colour, code: u16 },

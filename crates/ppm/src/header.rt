@@ -10,7 +10,7 @@ use rules::Depth;
 use scan::{ByteKind, run_end};
 
 // The numbers of a header, in their order.
-#[derive(Drop)]
+#[derive(Clone, Copy)]
 pub enum Part {
     Width,
     Height,
@@ -18,7 +18,7 @@ pub enum Part {
 }
 
 // What is wrong with a header; the bytes that end early may be only the first of the header's.
-#[derive(Drop)]
+#[derive(Clone, Copy)]
 pub enum Fault {
     NotP6(Kind),
     EndsEarly,
@@ -27,7 +27,7 @@ pub enum Fault {
 }
 
 // What a header says, and the place where the pixels begin.
-#[derive(Drop)]
+#[derive(Clone, Copy)]
 pub struct Frame {
     pub width: u64,
     pub height: u64,
@@ -35,20 +35,20 @@ pub struct Frame {
     pub pixels: usize,
 }
 
-#[derive(Drop)]
+#[derive(Clone, Copy)]
 pub enum Header {
     Stands(Frame),
     Wrong(Fault),
 }
 
 // A number of the header, and the place after the whitespace byte that ends it.
-#[derive(Drop)]
+#[derive(Clone, Copy)]
 struct Count {
     value: u64,
     next: usize,
 }
 
-#[derive(Drop)]
+#[derive(Clone, Copy)]
 enum Field {
     Says(Count),
     Lacks(Fault),

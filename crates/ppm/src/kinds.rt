@@ -3,7 +3,7 @@ ghost use Rattle.std.specs.Prelude.{◌≡◌, ◌≤◌, length};
 ghost use Rattle.ppm.specs.Kinds.{four_are, netpbm_kind, jpeg_or_other, kind_of};
 
 // The pictures of netpbm are numbered from P1 to P7; a P6 that stands here has no whitespace after it.
-#[derive(Drop)]
+#[derive(Clone, Copy)]
 pub enum Kind {
     PlainBitmap,
     PlainGreys,

@@ -11,7 +11,7 @@ use rules::Content;
 use text::{Checked, byte_fault, form_of};
 
 // Whether a line passes, and the state after it; a line that is refused leaves the state as it was.
-#[derive(Drop)]
+#[derive(Clone, Copy)]
 pub struct Judged {
     pub checked: Checked,
     pub after: State,

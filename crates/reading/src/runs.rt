@@ -7,7 +7,7 @@ use text::Cursor;
 
 // How many lines go by before plain rows are looked for again, and how long the last such pause was. A line that starts no plain row is most often
 // followed by others like it: each time none is found the pause is longer, so that a file of other rows is read as fast as if none were looked for.
-#[derive(Drop)]
+#[derive(Clone, Copy)]
 pub struct Pause {
     pub left: usize,
     pub last: usize,

@@ -10,7 +10,7 @@ use judge::count_rows;
 use rules::{Bounds, Description, Domain, Item, Keyword, Kind, Size, Thousandths, Title};
 
 // What was given, the defaults of what was not, and how many data lines there were.
-#[derive(Drop)]
+#[derive(Clone, Copy)]
 pub struct State {
     pub titled: bool,
     pub title: Title,

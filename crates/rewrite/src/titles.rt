@@ -6,14 +6,14 @@ use desk::is_word_at;
 use rules::{Description, Title};
 
 // The old title, if any; the one that is given; or none.
-#[derive(Drop)]
+#[derive(Clone, Copy)]
 pub enum Wanted {
     Kept,
     New,
     Nothing,
 }
 
-#[derive(Drop)]
+#[derive(Clone, Copy)]
 pub enum Asked {
     For(Wanted),
     Unclear,

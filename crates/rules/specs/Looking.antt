@@ -4,7 +4,7 @@ use Rattle.std.specs.Prelude.{ℕ, Bool, cond, ◌&&◌, List, [], ◌∷◌, �
 use Rattle.rules.specs.Units.{depth_of, depths_of, raw_m, corrected_m}
 use Rattle.rules.specs.Descriptions.{rows, could_be_read}
 use Rattle.rules.specs.Looking.Interpolation.{share, den_of, pair_at, pair, path, code_by}
-use Rattle.rules.specs.Looking.Judging.{◌andThen◌, judged}
+use Rattle.rules.specs.Looking.Judging.{◌and_then◌, judged}
 use Rattle.rules.specs.declared.Codes.{Codes}
 use Rattle.rules.specs.declared.Colour.{Colour}
 use Rattle.rules.specs.declared.Colour.TheVariants.{Red, Green, Blue}

@@ -8,7 +8,7 @@ ghost use Rattle.rules.specs.Units.{depth_of, depth_with, depths_of};
 // ---- units and depths
 
 // A domain bound, in thousandths.
-#[derive(Drop)]
+#[derive(Clone, Copy)]
 pub struct Thousandths(pub i64);
 
 impl Thousandths {
@@ -27,7 +27,7 @@ impl Thousandths {
 }
 
 // A sample, in ten-millionths.
-#[derive(Drop)]
+#[derive(Clone, Copy)]
 pub struct TenMillionths(pub i64);
 
 impl TenMillionths {
@@ -46,13 +46,13 @@ impl TenMillionths {
 }
 
 // A depth: its width in bits, and its greatest code M. Only the constructors make one, so it is one of the four that are known.
-#[derive(Drop)]
+#[derive(Clone, Copy)]
 pub struct Depth {
     bits: u32,
     greatest: u16,
 }
 
-#[derive(Drop)]
+#[derive(Clone, Copy)]
 pub enum DepthFound {
     Known(Depth),
     Unknown,
@@ -126,20 +126,20 @@ impl Depth {
 }
 
 // The widths in bits that are asked for: of raw and of corrected codes.
-#[derive(Drop)]
+#[derive(Clone, Copy)]
 pub struct Bits {
     pub raw: u32,
     pub corrected: u32,
 }
 
 // The depths of raw and of corrected codes.
-#[derive(Drop)]
+#[derive(Clone, Copy)]
 pub struct Depths {
     pub raw: Depth,
     pub corrected: Depth,
 }
 
-#[derive(Drop)]
+#[derive(Clone, Copy)]
 pub enum DepthsFound {
     Both(Depths),
     NotBoth,
@@ -162,14 +162,14 @@ impl Depths {
 
 // ---- a table's description
 
-#[derive(Drop)]
+#[derive(Clone, Copy)]
 pub enum Colour {
     Red,
     Green,
     Blue,
 }
 
-#[derive(Drop)]
+#[derive(Clone, Copy)]
 pub enum Kind {
     OneD,
     ThreeD,
@@ -186,28 +186,28 @@ impl Kind {
 }
 
 // What a size line gives.
-#[derive(Drop)]
+#[derive(Clone, Copy)]
 pub struct Size {
     pub kind: Kind,
     pub n: usize,
 }
 
 // One colour's domain.
-#[derive(Drop)]
+#[derive(Clone, Copy)]
 pub struct Domain {
     pub lower: Thousandths,
     pub upper: Thousandths,
 }
 
 // Whether there is a title, its first byte's place in the file, counted from 0, and its length.
-#[derive(Drop)]
+#[derive(Clone, Copy)]
 pub struct Title {
     pub there: bool,
     pub place: usize,
     pub length: usize,
 }
 
-#[derive(Drop)]
+#[derive(Clone, Copy)]
 pub struct Description {
     pub kind: Kind,
     pub n: usize,
@@ -220,7 +220,7 @@ pub struct Description {
 // ---- what words and lines give
 
 // What a word says as a number, in units, within a limit.
-#[derive(Drop)]
+#[derive(Clone, Copy)]
 pub enum Number {
     Value(i64),
     Malformed,
@@ -229,7 +229,7 @@ pub enum Number {
 }
 
 // What three words say as numbers.
-#[derive(Drop)]
+#[derive(Clone, Copy)]
 pub struct Three {
     pub first: Number,
     pub second: Number,
@@ -237,7 +237,7 @@ pub struct Three {
 }
 
 // The three numbers of a DOMAIN_MIN or DOMAIN_MAX line.
-#[derive(Drop)]
+#[derive(Clone, Copy)]
 pub struct Bounds {
     pub red: Thousandths,
     pub green: Thousandths,
@@ -245,7 +245,7 @@ pub struct Bounds {
 }
 
 // The three numbers of a data line.
-#[derive(Drop)]
+#[derive(Clone, Copy)]
 pub struct Row {
     pub red: TenMillionths,
     pub green: TenMillionths,
@@ -253,7 +253,7 @@ pub struct Row {
 }
 
 // A keyword; the two size words count as one.
-#[derive(Drop)]
+#[derive(Clone, Copy)]
 pub enum Keyword {
     ATitle,
     ALower,
@@ -262,7 +262,7 @@ pub enum Keyword {
 }
 
 // The form of a line: empty or a comment, by its keyword, data, or none of these.
-#[derive(Drop)]
+#[derive(Clone, Copy)]
 pub enum Form {
     Idle,
     Keyed(Keyword),
@@ -271,7 +271,7 @@ pub enum Form {
 }
 
 // What a line gives: nothing (empty, or a comment), a title, lower or upper bounds, a size, or a row.
-#[derive(Drop)]
+#[derive(Clone, Copy)]
 pub enum Item {
     Nothing,
     OfTitle(Title),
@@ -282,7 +282,7 @@ pub enum Item {
 }
 
 // An item, or why there is none.
-#[derive(Drop)]
+#[derive(Clone, Copy)]
 pub enum Content {
     Says(Item),
     Wrong(Refusal),
@@ -291,7 +291,7 @@ pub enum Content {
 // ---- pixels, rows and weights
 
 // One code of each colour: a pixel, and its answer.
-#[derive(Drop)]
+#[derive(Clone, Copy)]
 pub struct Codes {
     pub red: u16,
     pub green: u16,
@@ -299,14 +299,14 @@ pub struct Codes {
 }
 
 // A row of the table, and the weight that it carries.
-#[derive(Drop)]
+#[derive(Clone, Copy)]
 pub struct Share {
     pub row: usize,
     pub weight: i64,
 }
 
 // Six rows and weights: in 1D two for each colour, in 3D four for the pixel. Two are left there: zeros where they are answered, and of no account where they are given.
-#[derive(Drop)]
+#[derive(Clone, Copy)]
 pub struct Shares {
     pub first: Share,
     pub second: Share,
@@ -317,7 +317,7 @@ pub struct Shares {
 }
 
 // What six rows and weights are found to be, where anybody may have written them.
-#[derive(Drop)]
+#[derive(Clone, Copy)]
 pub enum Judged {
     Fit,
     RowBeyond,
@@ -326,7 +326,7 @@ pub enum Judged {
 }
 
 // What an inverse is to come to: in one colour a wanted corrected code, within so many codes.
-#[derive(Drop)]
+#[derive(Clone, Copy)]
 pub struct Aim {
     pub colour: Colour,
     pub wanted: u16,
@@ -336,7 +336,7 @@ pub struct Aim {
 // ---- answers
 
 // Why a call refuses, in the order of the papers' numbers.
-#[derive(Drop)]
+#[derive(Clone, Copy)]
 pub enum Refusal {
     LineTooLong,
     ByteNotPermitted,
@@ -370,6 +370,7 @@ pub enum Refusal {
 
 impl Refusal {
     // The number of document 01's table, and of the requests that add to it.
+    #[tactic(auto, unfolding(crate::specs::Answers::refusal_number))]
     pub fn number(self) -> u32
         ensures { result ≡ refusal_number self }
     {
@@ -407,42 +408,42 @@ impl Refusal {
 }
 
 // What reading answers.
-#[derive(Drop)]
+#[derive(Clone, Copy)]
 pub enum Read {
     Accepted(Description),
     Refused { reason: Refusal, line: usize },
 }
 
 // What look answers.
-#[derive(Drop)]
+#[derive(Clone, Copy)]
 pub enum Look {
     Accepted { codes: Codes, shares: Shares },
     Refused(Refusal),
 }
 
 // What the first half of a look answers: the six rows and weights of a pixel.
-#[derive(Drop)]
+#[derive(Clone, Copy)]
 pub enum FirstHalf {
     Accepted(Shares),
     Refused(Refusal),
 }
 
 // What the second half answers: the codes of six rows and weights.
-#[derive(Drop)]
+#[derive(Clone, Copy)]
 pub enum SecondHalf {
     Accepted(Codes),
     Refused(Refusal),
 }
 
 // What picture answers; the corrected codes stand in the lent output.
-#[derive(Drop)]
+#[derive(Clone, Copy)]
 pub enum Picture {
     Accepted,
     Refused(Refusal),
 }
 
 // What writing answers: the length of the text, which stands in the lent bytes.
-#[derive(Drop)]
+#[derive(Clone, Copy)]
 pub enum Write {
     Accepted(usize),
     Refused(Refusal),
@@ -450,7 +451,7 @@ pub enum Write {
 
 // What the inverse answers: a raw code, and how many codes were tried. That no code comes within the tolerance is known once they all are, and is said with
 // that count; the refusals before it have tried none.
-#[derive(Drop)]
+#[derive(Clone, Copy)]
 pub enum Inverse {
     Accepted { code: u16, count: u64 },
     Refused { reason: Refusal, count: u64 },

@@ -7,7 +7,7 @@ ghost use Rattle.scan.specs.Kinds.{kind_of};
 ghost use Rattle.scan.specs.RunEnds.{run_end};
 
 // The kinds of bytes that runs are made of.
-#[derive(Drop)]
+#[derive(Clone, Copy)]
 pub enum ByteKind {
     InLine,
     Permitted,

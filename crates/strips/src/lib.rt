@@ -11,7 +11,7 @@ use lanes::{AxisFound, Lane, LaneFound, WHOLE, common_in, lane_along, parted};
 use rules::Colour;
 use whole::{Reciprocal, Whole};
 
-#[derive(Drop)]
+#[derive(Clone, Copy)]
 pub struct Strip {
     pub colour: Colour,
     pub cells: usize,
@@ -27,14 +27,14 @@ pub struct Strip {
     pub most: u16,
 }
 
-#[derive(Drop)]
+#[derive(Clone, Copy)]
 pub enum StripFound {
     Laid(Strip),
     Beyond,
 }
 
 // The slope and the base of a cell.
-#[derive(Drop)]
+#[derive(Clone, Copy)]
 pub struct Piece {
     pub slope: Whole,
     pub base: Whole,

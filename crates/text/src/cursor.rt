@@ -5,14 +5,14 @@ ghost use Rattle.text.specs.LinesFrom.{step_at};
 use scan::{ByteKind, run_end};
 
 // A place in a file and the number of its line.
-#[derive(Drop)]
+#[derive(Clone, Copy)]
 pub struct Cursor {
     pub at: usize,
     pub line: usize,
 }
 
 // The line at a cursor, with the cursor past it, or the end of the file.
-#[derive(Drop)]
+#[derive(Clone, Copy)]
 pub enum Step {
     Line {
         start: usize,

@@ -16,7 +16,7 @@ const LUT_1D_SIZE: [u8; 11] = *b"LUT_1D_SIZE";
 
 const LUT_3D_SIZE: [u8; 11] = *b"LUT_3D_SIZE";
 
-#[derive(Drop)]
+#[derive(Clone, Copy)]
 pub enum KeywordFound {
     Known(Keyword),
     Unknown,

@@ -14,7 +14,7 @@ use scan::{ByteKind, is_number_byte};
 // A line has at most so many bytes.
 const LINE_LIMIT: usize = 250;
 
-#[derive(Drop)]
+#[derive(Clone, Copy)]
 pub enum Checked {
     Passed,
     Refused(Refusal),

@@ -5,7 +5,7 @@ ghost use Rattle.text.specs.WordsFrom.{word_at};
 use scan::{ByteKind, run_end};
 
 // Where a word starts and ends, or none is left.
-#[derive(Drop)]
+#[derive(Clone, Copy)]
 pub enum Word {
     At { start: usize, end: usize },
     Nothing,

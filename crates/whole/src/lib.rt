@@ -17,7 +17,7 @@ mod order;
 mod product;
 mod reciprocal;
 
-#[derive(Drop)]
+#[derive(Clone, Copy)]
 pub struct Whole(pub i64);
 
 impl Whole {

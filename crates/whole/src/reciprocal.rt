@@ -6,7 +6,7 @@ ghost use Rattle.whole.specs.Reciprocals.{divisor_of, Dividable, reciprocal_of, 
 use crate::product::upper_half;
 
 // The number, and how often it goes into 2^63.
-#[derive(Drop)]
+#[derive(Clone, Copy)]
 pub struct Divisor {
     pub by: u64,
     pub reciprocal: u64,
@@ -36,7 +36,7 @@ impl Divisor {
 }
 
 // A number, and 2^64 over it, rounded up: the upper half of one product is the quotient, as long as what rounding up adds does not come to a whole.
-#[derive(Drop)]
+#[derive(Clone, Copy)]
 pub struct Reciprocal {
     pub by: u64,
     pub times: u64,
@@ -78,7 +78,7 @@ impl Reciprocal {
 }
 
 // A number above 2^23, and 2^87 over it, rounded down, and 1: the upper half of one product, without its last 23 bits, is the quotient.
-#[derive(Drop)]
+#[derive(Clone, Copy)]
 pub struct WideReciprocal {
     pub by: u64,
     pub times: u64,

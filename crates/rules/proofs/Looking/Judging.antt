@@ -13,7 +13,7 @@ use Rattle.whole.proofs.Held.{passed, failed, false-by}
 use Rattle.rules.specs.Descriptions.{same, rows}
 use Rattle.rules.specs.Looking.Interpolation.{den_of, weighed}
 use Rattle.rules.specs.Looking.{used, judged_for, judged_all}
-use Rattle.rules.specs.Looking.Judging.{◌andThen◌, share_judged, each_judged, sum_of, sum_judged, judged}
+use Rattle.rules.specs.Looking.Judging.{◌and_then◌, share_judged, each_judged, sum_of, sum_judged, judged}
 use Rattle.rules.specs.Demands.{Each, Weighable, Some, here, there, Unfit, row, weight, sum}
 use Rattle.rules.specs.declared.Colour.{Colour}
 use Rattle.rules.specs.declared.Colour.TheVariants.{Red, Green, Blue}
@@ -140,10 +140,12 @@ module _ (count : ℕ) where
     unfit-not-fit u e = by u (fit-weighable den ss e)
       where
         no_row : (ss : List Share) → Some (λ s. count ≤ s.row) ss → Each (λ s. s.row < count) ss → ⊥
+        no_row [] p r = elim p [ ]
         no_row (s ∷ ss) (here p) r = omega (arith, p, r.0)
         no_row (s ∷ ss) (there p) r = no_row ss p r.1
 
         no-weight : (ss : List Share) → Some (λ s. s.weight <ℤ pos 0) ss → Each (λ s. pos 0 ≤ℤ s.weight) ss → ⊥
+        no-weight [] p w = elim p [ ]
         no-weight (s ∷ ss) (here p) w = clash_ℤ p w.0
         no-weight (s ∷ ss) (there p) w = no-weight ss p w.1
 

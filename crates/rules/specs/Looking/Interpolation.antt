@@ -74,8 +74,8 @@ abbrev pub 3rd : Order → Colour
 3rd bgr = Red
 
 -- as the chart compares two fractions
-infix 50 ◌atLeast◌ ◌above◌
-abbrev pub ◌atLeast◌ : ℕ → ℕ → Bool
+infix 50 ◌at_least◌ ◌above◌
+abbrev pub ◌at_least◌ : ℕ → ℕ → Bool
 x at_least y = leb y x
 
 abbrev pub ◌above◌ : ℕ → ℕ → Bool

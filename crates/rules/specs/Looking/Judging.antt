@@ -7,8 +7,8 @@ use Rattle.rules.specs.declared.Judged.TheVariants.{Fit, RowBeyond, NegativeWeig
 use Rattle.rules.specs.declared.Share.{Share}
 
 -- what is found first
-infixr 40 ◌andThen◌
-abbrev pub ◌andThen◌ : Judged → Judged → Judged
+infixr 40 ◌and_then◌
+abbrev pub ◌and_then◌ : Judged → Judged → Judged
 Fit and_then next = next
 RowBeyond and_then next = RowBeyond
 NegativeWeight and_then next = NegativeWeight

@@ -8,7 +8,7 @@ use lib.IntN.{ℤ}
 use Rattle.rules.specs.Units.{depths_of, raw_m, corrected_m}
 use Rattle.rules.specs.Descriptions.{rows, could_be_read}
 use Rattle.rules.specs.Looking.Interpolation.{den_of, code_by}
-use Rattle.rules.specs.Looking.Judging.{◌andThen◌, judged}
+use Rattle.rules.specs.Looking.Judging.{◌and_then◌, judged}
 use Rattle.rules.specs.Looking.{used, code_of, codes_by, judged_for, judged_all, codes_if, codes_at, second_half}
 use Rattle.rules.specs.declared.Bits.{Bits}
 use Rattle.rules.specs.declared.Colour.{Colour}

@@ -1,6 +1,6 @@
 -- Each by itself, and what is found first.
 use mathlib.Core.Path.{sym, ap₂, ◌∙◌}
-use Rattle.rules.specs.Looking.Judging.{◌andThen◌, each_judged}
+use Rattle.rules.specs.Looking.Judging.{◌and_then◌, each_judged}
 use Rattle.halves.proofs.Listing.{last_then}
 use borrow.Author.Rules.{rules}
 use Rattle.halves.proofs.judging.each_judged.Statement.{statement}
@@ -34,11 +34,11 @@ returns c =
     let one = two.before in
     let four = one.before in
     c.and-then3.ensures
-    ∙ ap₂ ◌andThen◌ four.before.before.before.share-judged.ensures
+    ∙ ap₂ ◌and_then◌ four.before.before.before.share-judged.ensures
     (two.and-then2.ensures
-    ∙ ap₂ ◌andThen◌ four.before.before.share-judged2.ensures
+    ∙ ap₂ ◌and_then◌ four.before.before.share-judged2.ensures
     (one.and_then.ensures
-    ∙ ap₂ ◌andThen◌ four.before.share-judged3.ensures (four.share-judged4.ensures ∙ sym (last_then _))))
+    ∙ ap₂ ◌and_then◌ four.before.share-judged3.ensures (four.share-judged4.ensures ∙ sym (last_then _))))
 
 pub each-judged-spec : {M : Type 1} → statement M
 each-judged-spec =

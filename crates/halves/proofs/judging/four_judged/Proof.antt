@@ -1,6 +1,6 @@
 -- The sum is asked for only where no weight is negative.
 use mathlib.Core.Path.{◌≡◌, sym, ap, ◌∙◌}
-use Rattle.rules.specs.Looking.Judging.{◌andThen◌, sum_judged, judged}
+use Rattle.rules.specs.Looking.Judging.{◌and_then◌, sum_judged, judged}
 use Rattle.rules.specs.declared.Judged.{Judged}
 use Rattle.rules.specs.declared.Judged.TheVariants.{Fit, RowBeyond, NegativeWeight, WrongSum}
 use Rattle.rules.proofs.Looking.Judging.{fit-not-negative}

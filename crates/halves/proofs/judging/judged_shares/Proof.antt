@@ -1,7 +1,7 @@
 -- Red, green, blue.
 use mathlib.Core.Path.{ap₂, ◌∙◌}
 use Rattle.rules.specs.Looking.{judged_all}
-use Rattle.rules.specs.Looking.Judging.{◌andThen◌}
+use Rattle.rules.specs.Looking.Judging.{◌and_then◌}
 use borrow.Author.Rules.{rules}
 use Rattle.halves.proofs.judging.judged_shares.Statement.{statement}
 use Rattle.halves.proofs.judging.judged_shares.Tie as tie
@@ -27,8 +27,8 @@ returns c =
     let later = c.before in
     let blue = later.before in
     c.and-then2.ensures
-    ∙ ap₂ ◌andThen◌ blue.before.before.colour-judged.ensures
-    (later.and_then.ensures ∙ ap₂ ◌andThen◌ blue.before.colour-judged2.ensures blue.colour-judged3.ensures)
+    ∙ ap₂ ◌and_then◌ blue.before.before.colour-judged.ensures
+    (later.and_then.ensures ∙ ap₂ ◌and_then◌ blue.before.colour-judged2.ensures blue.colour-judged3.ensures)
 
 pub judged-shares-spec : {M : Type 1} → statement M
 judged-shares-spec =
