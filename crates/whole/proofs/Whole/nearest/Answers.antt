@@ -1,9 +1,6 @@
 use mathlib.Core.Path.{ap, ◌∙◌}
 use Prim.Native.Nat.{min}
-use native.Mathlib.Omega.{arith}
-use borrow.Author.Rules.{rules}
 use Rattle.whole.specs.Nearest.{rounded, code}
-use Rattle.whole.proofs.Halves.{split}
 use Rattle.whole.proofs.Whole.nearest.Goals as goal
 
 pub returns : goal.returns

@@ -1,7 +1,5 @@
-use mathlib.Core.Path.{◌≡◌, refl, sym, ap, ◌∙◌}
-use native.Mathlib.Nat.{mod-lt}
+use mathlib.Core.Path.{◌≡◌, sym, ap, ◌∙◌}
 use native.Mathlib.Omega.{arith}
-use borrow.Author.Rules.{rules}
 use Rattle.whole.specs.Divisors.{gcd}
 use Rattle.whole.proofs.Divisors.{gcd-step, gcd-end}
 use Rattle.whole.proofs.divisor.common_divisor.Goals as goal

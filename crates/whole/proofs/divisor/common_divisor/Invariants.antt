@@ -1,9 +1,5 @@
-use mathlib.Core.Path.{◌≡◌, refl, sym, ap, ◌∙◌}
-use native.Mathlib.Nat.{mod-lt}
-use native.Mathlib.Omega.{arith}
-use borrow.Author.Rules.{rules}
+use mathlib.Core.Path.{◌≡◌}
 use Rattle.whole.specs.Divisors.{gcd}
-use Rattle.whole.proofs.Divisors.{gcd-step, gcd-end}
 use Rattle.whole.proofs.divisor.common_divisor.Given as goal
 
 -- The invariant: the divisor sought is that of the two numbers now. The measure is the second, of which less is left at every step.

@@ -1,5 +1,4 @@
-use native.Mathlib.Omega.{arith}
-use Rattle.whole.proofs.Reciprocals.{product-fits, not_more, guess-right, guess-short}
+use Rattle.whole.proofs.Reciprocals.{not_more, guess-right, guess-short}
 use Rattle.whole.proofs.reciprocal.Divisor.quotient.Goals as goal
 
 pub overflow_sub-rest : goal.overflow_sub-rest

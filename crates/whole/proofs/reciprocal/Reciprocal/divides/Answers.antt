@@ -1,9 +1,6 @@
-use mathlib.Core.Path.{ap, ◌∙◌, sym}
-use Prim.Native.Nat.{◌*◌, ◌/◌}
-use native.Mathlib.Nat.{mod-lt}
+use mathlib.Core.Path.{ap, ◌∙◌}
+use Prim.Native.Nat.{◌/◌}
 use native.Mathlib.Omega.{arith}
-use borrow.Author.Rules.{rules}
-use borrow.Author.Tests.{le-leb}
 use lib.Dec.{leb}
 use Rattle.whole.specs.Reciprocals.{excess}
 use Rattle.whole.proofs.Reciprocals.{excess-computed, product-tested}

@@ -1,5 +1,4 @@
 use mathlib.Core.Path.{◌∙◌}
-use borrow.Author.Rules.{rules}
 use Rattle.whole.proofs.Reciprocals.{divided}
 use Rattle.whole.proofs.reciprocal.Reciprocal.quotient.Goals as goal
 

@@ -1,10 +1,8 @@
-use Prim.Native.Nat.{ℕ, ◌+◌, ◌*◌, ◌/◌, ◌%◌, ◌≤◌, ◌<◌}
+use Prim.Native.Nat.{ℕ, ◌+◌}
 use mathlib.Core.Path.{ap}
-use native.Mathlib.Nat as NatL
 use native.Mathlib.Omega.{arith}
-use borrow.Author.Rules.{rules}
 use Rattle.whole.specs.declared.reciprocal.WideReciprocal.{WideReciprocal}
-use Rattle.whole.proofs.Reciprocals.{wide-computed, wide_fits}
+use Rattle.whole.proofs.Reciprocals.{wide-computed}
 use Rattle.whole.proofs.reciprocal.WideReciprocal.of.Goals as goal
 
 abbrev made : ℕ → ℕ → WideReciprocal

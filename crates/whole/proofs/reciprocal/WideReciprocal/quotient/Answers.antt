@@ -1,6 +1,5 @@
 use Prim.Native.Nat.{◌/◌}
 use mathlib.Core.Path.{ap, ◌∙◌}
-use borrow.Author.Rules.{rules}
 use Rattle.whole.proofs.Reciprocals.{wide-divided}
 use Rattle.whole.proofs.reciprocal.WideReciprocal.quotient.Goals as goal
 

@@ -1,0 +1,18 @@
+use mathlib.Core.Path.{sym, ◌∙◌}
+use borrow.Author.Rules.{rules}
+use Rattle.rules.specs.Descriptions.{agree}
+use Rattle.judge.proofs.agree.Goals as goal
+
+pub returns-then-one_domain : goal.returns-then-one_domain
+unfolding agree
+returns-then-one_domain c = let asked = c.before in rw (asked.before.in-ThreeD.is, sym asked.one_domain.ensures ∙ c.if-one_domain.true)
+
+pub returns-in-OneD : goal.returns-in-OneD
+unfolding agree
+returns-in-OneD c = rw c.in-OneD.is
+
+pub returns-else-one_domain : goal.returns-else-one_domain
+unfolding agree
+returns-else-one_domain c =
+    let asked = c.before.before in
+    rw (asked.before.in-ThreeD.is, sym asked.one_domain.ensures ∙ c.before.if-one_domain.false) c.domains_keep.ensures
