@@ -11,7 +11,6 @@ use lib.Dec.{eqb, leb}
 use lib.IntN.{ℤ}
 use lib.ListN.{length}
 use Rattle.rules.specs.Units.{place_limit}
-use Rattle.rules.specs.Descriptions.{rows}
 use Rattle.rules.specs.Reading.{check, read, table_after}
 use Rattle.rules.specs.Reading.Lines.{lines_of}
 use Rattle.rules.specs.Reading.Contents.{content_of}

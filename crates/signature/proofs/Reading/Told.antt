@@ -10,7 +10,6 @@ use native.Mathlib.Omega.{arith}
 use borrow.Author.Tests.{eqb-true, lt-ltb, ltb-true}
 use lib.Dec.{ltb}
 use lib.ListN.{length}
-use Rattle.rules.specs.Descriptions.{rows}
 use Rattle.rules.specs.Reading.{onward}
 use Rattle.rules.specs.Reading.Contents.{content_of, form_of}
 use Rattle.rules.specs.Reading.Judge.{Fault, State, Verdict, add, given, go, order_fault, refuse, start, together}

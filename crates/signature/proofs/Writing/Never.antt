@@ -19,7 +19,7 @@ use Rattle.rules.proofs.Decimals.{no_fraction, some-fraction}
 use Rattle.rules.proofs.Picturing.Checks.{every-at}
 use Rattle.rules.proofs.Reading.Numbers.{digit-no-sign, digit-range, digits-parts, of-exact}
 use Rattle.rules.proofs.Reading.Runs.{append-every, every_append, starts-append, starts_other}
-use Rattle.signature.proofs.Decimals.{decimal-digits, decimals-read, is_below, no-zero-last, numeral, places-digits, places-some, rest, whole}
+use Rattle.signature.proofs.Decimals.{decimal-digits, decimals-read, is_below, no-zero-last, places-digits, places-some, rest, whole}
 use Rattle.signature.proofs.Writing.Fewest.{none_or_some, some-digits}
 
 -- a minus stands only before a number below 0
