@@ -1,5 +1,4 @@
 use mathlib.Core.Path.{sym, ◌∙◌}
-use borrow.Author.Rules.{rules}
 use Rattle.rules.specs.Descriptions.{agree}
 use Rattle.judge.proofs.agree.Goals as goal
 

@@ -1,5 +1,4 @@
 use mathlib.Core.Path.{sym, ◌∙◌}
-use borrow.Author.Rules.{rules}
 use Rattle.rules.specs.Descriptions.{bounds_fit}
 use Rattle.judge.proofs.bounds_fit.Goals as goal
 

@@ -1,15 +1,13 @@
 use mathlib.Core.Path.{◌≡◌, sym, ap, ◌∙◌}
 use mathlib.Core.Bool.{true}
-use Prim.Native.Nat.{◌*◌, ◌≤◌}
+use Prim.Native.Nat.{◌*◌}
 use native.Mathlib.Omega.{arith}
-use borrow.Author.Rules.{rules}
-use borrow.Author.Tests.{le-leb, not-true, not-false}
+use borrow.Author.Tests.{le-leb}
 use lib.ListN.{length, take}
-use lib.Seq.{length-take-le}
-use Rattle.rules.specs.Units.{in_range, row_limit}
+use Rattle.rules.specs.Units.{in_range}
 use Rattle.rules.specs.Descriptions.{rows, every_colour, bounds_fit, ordered, narrow, agree, roomy, samples_fit, could_be_read}
 use Rattle.rules.specs.declared.Description.{Description}
-use Rattle.rules.proofs.Sound.{range-rows-most, too_short}
+use Rattle.rules.proofs.Sound.{too_short}
 use Rattle.judge.proofs.could_be_read.Goals as goal
 use Rattle.judge.proofs.could_be_read.Lts as lts
 use Rattle.judge.proofs.could_be_read.Reads as reads
@@ -97,12 +95,15 @@ returns-then-table-numbers c = sym (too_short (d5 c.before.before) _ (omega (ari
 pub returns : goal.returns
 unfolding could_be_read roomy
 returns c =
-    let e6 = c.before.before in
-    let e5 = e6.before.before in
-    let e4 = e5.before.before in
-    let e3 = e4.before.before in
-    let e2 = e3.before.before in
-    let table = e2.before.before.before.before.args.table.now in
-    let count = e6.before.count_rows-numbers.ensures in
-    rw (ranged e2.before.before, within e2, in_order e3, narrow-enough e4, agreed e5, le-leb (3 * rows (d5 e5)) (length table) (omega (arith, count, e6.if-table-numbers.false)))
+    let d = c.args.d in
+    let table = c.args.table.now in
+    let count = c.count_rows-numbers.ensures in
+    rw (
+      sym c.in_range.ensures ∙ c.if-not-in_range.false,
+      sym c.domains_keep.ensures ∙ c.if-not-domains_keep.false,
+      sym c.domains_keep-2.ensures ∙ c.if-not-domains_keep-2.false,
+      sym c.domains_keep-3.ensures ∙ c.if-not-domains_keep-3.false,
+      sym c.agree.ensures ∙ c.if-not-agree.false,
+      le-leb (3 * rows d) (length table) (omega (arith, count, c.if-table-numbers.false)),
+    )
     (c.samples_fit.ensures ∙ ap (λ k. samples_fit (take (3 * k) table)) count)

@@ -1,5 +1,4 @@
 use mathlib.Core.Path.{sym, ◌∙◌}
-use borrow.Author.Rules.{rules}
 use Rattle.rules.specs.Descriptions.{one_domain}
 use Rattle.judge.proofs.one_domain.Goals as goal
 

@@ -1,5 +1,4 @@
 use mathlib.Core.Path.{sym, ◌∙◌}
-use borrow.Author.Rules.{rules}
 use Rattle.rules.specs.Descriptions.{whole_bounds}
 use Rattle.judge.proofs.whole_bounds.Goals as goal
 
