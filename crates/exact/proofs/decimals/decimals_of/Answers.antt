@@ -1,0 +1,28 @@
+use Prim.Native.Nat.{ℕ, ◌+◌, ◌*◌, ◌/◌, ◌≤◌, ◌<◌}
+use native.Mathlib.Omega.{arith}
+use Rattle.exact.proofs.Dividing.{Dividing, next, digits-most}
+use Rattle.exact.proofs.decimals.decimals_of.Goals as goal
+
+-- the digits after one more, which fit
+after-most : {rest unit most now digits count : ℕ} → rest < unit → most ≤ 15 → Dividing rest unit most now digits count → 0 < now →
+    count < most → digits * 10 + now * 10 / unit < 1_000_000_000_000_000
+after-most less few so here more = digits-most less (next less so here more) few
+
+pub overflow_mul-digits : goal.overflow_mul-digits
+overflow_mul-digits c = record {
+  fits = omega (
+    arith,
+    after-most c.requires.rest_lt_unit c.requires.most_bound c.loop-left.invariant c.loop-left-test.true (omega (arith, c.loop-left.invariant.within)),
+  );
+}
+
+pub overflow_add-digits : goal.overflow_add-digits
+overflow_add-digits c = record {
+  fits = omega (
+    arith,
+    after-most c.requires.rest_lt_unit c.requires.most_bound c.loop-left.invariant c.loop-left-test.true (omega (arith, c.loop-left.invariant.within)),
+  );
+}
+
+pub loop-left-preserved : goal.loop-left-preserved
+loop-left-preserved c = next c.requires.rest_lt_unit c.loop-left.invariant c.loop-left-test.true (omega (arith, c.loop-left.invariant.within))
