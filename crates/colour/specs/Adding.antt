@@ -1,6 +1,5 @@
 -- Sums of weight times sample, as rows are added to them one by one.
 use Rattle.std.specs.Prelude.{ℕ, ◌+◌, ◌*◌, ◌≤◌, ◌<◌, ◌≡◌, List, [], ◌∷◌, ℤ, pos, nat_abs, ◌+ℤ◌, ◌*ℤ◌, length, get_or}
-use Rattle.whole.specs.Nearest.{weights}
 use Rattle.whole.specs.Reciprocals.{divisor_of}
 use Rattle.rules.specs.Units.{sample_limit, colour_place, sample_at}
 use Rattle.rules.specs.Looking.Interpolation.{total, denominator}

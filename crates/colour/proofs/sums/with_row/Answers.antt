@@ -1,0 +1,12 @@
+use Rattle.rules.specs.declared.Colour.TheVariants.{Red, Green, Blue}
+use Rattle.colour.proofs.sums.with_row.Goals as goal
+
+-- Each colour's number with that colour's sum.
+pub with_number-requires : goal.with_number-requires
+with_number-requires c = let s = c.before.before.before in record { room = s.requires.room Red; row_at = s.requires.row_at }
+
+pub with_number-requires-2 : goal.with_number-requires-2
+with_number-requires-2 c = let s = c.before.before.before.before in record { room = s.requires.room Green; row_at = s.requires.row_at }
+
+pub with_number-requires-3 : goal.with_number-requires-3
+with_number-requires-3 c = let s = c.before.before.before.before.before in record { room = s.requires.room Blue; row_at = s.requires.row_at }
