@@ -1,12 +1,8 @@
 -- A colour's rows and weights as the code keeps them, and how they are judged.
 use Prim.Native.Nat.{ℕ, suc, min, ◌+◌, ◌≤◌, ◌<◌}
-use mathlib.Core.Path.{◌≡◌, refl, ap, ap₂, sym, subst, ◌∙◌}
+use mathlib.Core.Path.{◌≡◌, refl, ap, ap₂, sym, ◌∙◌}
 use mathlib.Core.Bool.{Bool, true, false, cond}
-use mathlib.Core.Logic.{⊎_elim}
-use mathlib.Core.List.{[], ◌∷◌}
 use borrow.Author.Tests.{lt-ltb, le-ltb}
-use denote.Enum.Declared.{tag_of}
-use types.Run.{OneOf}
 use lib.IntN.{pos, nat_abs}
 use lib.Signed.{lt_z, ◌≤ℤ◌}
 use native.Mathlib.Omega.{arith}
@@ -25,7 +21,6 @@ use Rattle.rules.specs.declared.Kind.{Kind}
 use Rattle.rules.specs.declared.Kind.TheVariants.{OneD, ThreeD}
 use Rattle.rules.specs.declared.Share.{Share}
 use Rattle.rules.specs.declared.Shares.{Shares}
-use Rattle.rules.specs.contracts.Judged.{the_type}
 use Rattle.rules.proofs.Sound.{same_number, number_same}
 use Rattle.colour.specs.Adding.{carried}
 use Rattle.colour.proofs.Weighing.{carried-is}
@@ -66,11 +61,6 @@ last_then Fit = refl
 last_then RowBeyond = refl
 last_then NegativeWeight = refl
 last_then WrongSum = refl
-
--- one of the three others is not fit
-pub not-fit : (j : Judged) → OneOf (1 ∷ 2 ∷ 3 ∷ []) (tag_of the_type j) → j ≡ Fit → ⊥
-not-fit j h e =
-    ⊎_elim (λ k. omega arith) (⊎_elim (λ k. omega arith) (λ k. omega arith)) (subst (λ j. OneOf (1 ∷ 2 ∷ 3 ∷ []) (tag_of the_type j)) e h)
 
 -- ---- the sum
 
