@@ -1,7 +1,6 @@
 -- The laws that the functions' proofs stand on.
 
--- three numbers: by the places of their words, and by their values
+-- three numbers, by the places of their words
 pub mod ThreeWords
-pub mod InOrder
 -- N, kept at one past its greatest
 pub mod Sizes
