@@ -52,7 +52,7 @@ pub(crate) fn words() {
 // A table whose last line is a comment of 250 bytes, or of 251.
 fn long_comment() {
     let mut file = [b'x'; 277];
-    bytes::copy(b"LUT_1D_SIZE 2\n0 0 0\n1 1 1\n#", &mut file);
+    file[..27].copy_from_slice(b"LUT_1D_SIZE 2\n0 0 0\n1 1 1\n#");
     into_six(b"line-250", &file[..276]);
     into_six(b"line-251", &file);
     file[276] = b'\r';

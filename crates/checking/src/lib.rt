@@ -11,10 +11,9 @@ ghost use Rattle.desk.specs.Outcomes.{outcome_of, EndsAs};
 ghost use Rattle.checking.specs.Verdicts.{EndsBy};
 
 use desk::{
-    Fetched, Name, Outcome, fetch_file, name_at, outcome_of, say, write_domains, write_refused,
-    write_size, write_title,
+    Fetched, Host, Name, Outcome, argument_count, fetch_file, name_at, outcome_of, say,
+    write_domains, write_refused, write_size, write_title,
 };
-use libc::{STDERR_FILENO, STDOUT_FILENO};
 use reading::check;
 use rules::{Description, Read};
 pub use words::help;
@@ -22,75 +21,75 @@ pub use words::help;
 const PROGRAM: [u8; 15] = *b"erythmoda check";
 
 // As `accepted: 3D, N = 2, 8 rows, domain 0 to 1, title "smoke"`.
-fn show_accepted(file: &[u8], d: Description) -> bool
+fn show_accepted(host: &mut Host, file: &[u8], d: Description) -> bool
     requires { Tellable file.now d }
 {
     let kind = d.kind;
     let title = d.title;
-    say(b"accepted: ")
-        && write_size(STDOUT_FILENO, kind, d.n)
-        && say(b", ")
-        && write_domains(STDOUT_FILENO, d)
-        && say(b", ")
-        && write_title(STDOUT_FILENO, file, title)
+    say(host, b"accepted: ")
+        && write_size(&mut host.out, kind, d.n)
+        && say(host, b", ")
+        && write_domains(&mut host.out, d)
+        && say(host, b", ")
+        && write_title(&mut host.out, file, title)
 }
 
-fn show_answer(file: &[u8], answer: Read) -> bool
+fn show_answer(host: &mut Host, file: &[u8], answer: Read) -> bool
     requires { Checks file.now answer }
 {
     match answer {
-        Read::Accepted(d) => show_accepted(file, d),
-        Read::Refused { reason, line } => write_refused(STDOUT_FILENO, file, reason, line),
+        Read::Accepted(d) => show_accepted(host, file, d),
+        Read::Refused { reason, line } => write_refused(&mut host.out, file, reason, line),
     }
 }
 
 // The line of a file that was read whole: its name and what checking it answers.
-fn check_bytes(path: &[u8], file: &[u8]) -> Outcome
+fn check_bytes(host: &mut Host, path: &[u8], file: &[u8]) -> Outcome
     ensures { EndsAs (outcome_of (check file.now)) result }
 {
     let answer = check(file);
-    let written = say(path) && say(b": ") && show_answer(file, answer) && say(b"\n");
-    outcome_of(answer).if_written(written, &PROGRAM)
+    let written = say(host, path) && say(host, b": ") && show_answer(host, file, answer) && say(host, b"\n");
+    outcome_of(answer).if_written(host, written, &PROGRAM)
 }
 
 // Of what was fetched; that there was nothing has been said.
-fn check_fetched(path: &[u8], file: &[u8], fetched: Fetched) -> Outcome
+fn check_fetched(host: &mut Host, path: &[u8], file: &[u8], fetched: Fetched) -> Outcome
     requires { Fetches file.now fetched }
     ensures { EndsBy file.now fetched result }
 {
     match fetched {
-        Fetched::Bytes(n) => check_bytes(path, &file[..n]),
+        Fetched::Bytes(n) => check_bytes(host, path, &file[..n]),
         Fetched::TooLong => Outcome::Failed,
         Fetched::Failed => Outcome::Failed,
     }
 }
 
 // The file with this name.
-fn check_named(path: &[u8], file: &mut [u8]) -> Outcome {
-    let fetched = fetch_file(&PROGRAM, path, &mut *file);
-    check_fetched(path, file, fetched)
+fn check_named(host: &mut Host, path: &[u8], file: &mut [u8]) -> Outcome {
+    let fetched = fetch_file(host, &PROGRAM, path, &mut *file);
+    check_fetched(host, path, file, fetched)
 }
 
 // The file that an argument names.
-fn check_argument(place: usize, file: &mut [u8]) -> Outcome {
+fn check_argument(host: &mut Host, place: usize, file: &mut [u8]) -> Outcome {
     let mut path = io::buffer();
-    let Name::Bytes(n) = name_at(&PROGRAM, b"a table", place, &mut path) else {
+    let Name::Bytes(n) = name_at(host, &PROGRAM, b"a table", place, &mut path) else {
         return Outcome::Failed;
     };
-    check_named(&path[..n], file)
+    check_named(host, &path[..n], file)
 }
 
 // All that the arguments name, in lent space for a file; the worst end counts.
-pub fn check_files(file: &mut [u8]) -> Outcome {
-    let count = os::arg_count();
+pub fn check_files(host: &mut Host, file: &mut [u8]) -> Outcome {
+    let count = argument_count(host);
     if count < 3 {
-        help(STDERR_FILENO);
+        help(&mut host.err);
         return Outcome::Failed;
     }
     let mut worst = Outcome::Done;
     let mut place = 2;
     while place < count {
-        worst = worst.worse(check_argument(place, &mut *file));
+        worst = worst.worse(check_argument(host, place, &mut *file));
         place += 1;
     }
     worst

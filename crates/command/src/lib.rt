@@ -1,6 +1,7 @@
 // The command `erythmoda`: what its first argument asks for, done in memory that is lent to it, and the status that it ends with.
 #![tactic(auto)]
 
+mod room;
 mod verbs;
 mod words;
 
@@ -8,65 +9,67 @@ ghost use Rattle.command.specs.Statuses.{Ends};
 
 use checking::check_files;
 use correct::correct;
-use desk::{Outcome, report_input, write};
+use desk::{Host, Outcome, argument, argument_count, report_input, say_failed};
 use explain::answer;
 use invert::invert;
-use libc::{STDERR_FILENO, STDOUT_FILENO};
 use rewrite::rewrite;
+use room::{lend, room_for};
+use std::io::Error;
 use verbs::{Verb, asks_help, verb_of};
 
 // What the first argument asks for; none, or one that is longer than a path, asks for nothing known.
-fn verb_named() -> Verb {
+pub(crate) fn verb_named(host: &Host) -> Verb {
     let mut word = io::buffer();
-    let n = os::arg(1, &mut word);
+    let n = argument(host, 1, &mut word);
     verb_of(&word[..n])
 }
 
 // Whether the argument after the verb asks for help.
-fn help_wanted() -> bool {
+fn help_wanted(host: &Host) -> bool {
     let mut word = io::buffer();
-    let n = os::arg(2, &mut word);
+    let n = argument(host, 2, &mut word);
     asks_help(&word[..n])
 }
 
 // The verb's own help, or of no verb the command's, on standard output.
-fn show_help(verb: Verb) -> Outcome {
+fn show_help(host: &mut Host, verb: Verb) -> Outcome {
     let written = match verb {
-        Verb::Report => words::report_help(STDOUT_FILENO),
-        Verb::Explain => explain::help(STDOUT_FILENO),
-        Verb::Correct => correct::help(STDOUT_FILENO),
-        Verb::Rewrite => rewrite::help(STDOUT_FILENO),
-        Verb::Invert => invert::help(STDOUT_FILENO),
-        Verb::Check => checking::help(STDOUT_FILENO),
-        Verb::Help => words::help(STDOUT_FILENO),
-        Verb::Version => words::help(STDOUT_FILENO),
-        Verb::Unknown => words::help(STDOUT_FILENO),
+        Verb::Report => words::report_help(&mut host.out),
+        Verb::Explain => explain::help(&mut host.out),
+        Verb::Correct => correct::help(&mut host.out),
+        Verb::Rewrite => rewrite::help(&mut host.out),
+        Verb::Invert => invert::help(&mut host.out),
+        Verb::Check => checking::help(&mut host.out),
+        Verb::Help => words::help(&mut host.out),
+        Verb::Version => words::help(&mut host.out),
+        Verb::Unknown => words::help(&mut host.out),
     };
-    Outcome::Done.if_written(written, b"erythmoda")
+    Outcome::Done.if_written(host, written, b"erythmoda")
 }
 
-fn show_version() -> Outcome {
-    let written = words::version(STDOUT_FILENO);
-    Outcome::Done.if_written(written, b"erythmoda")
+fn show_version(host: &mut Host) -> Outcome {
+    let written = words::version(&mut host.out);
+    Outcome::Done.if_written(host, written, b"erythmoda")
 }
 
 // A call that is not understood.
-fn refuse_call() -> Outcome {
-    words::help(STDERR_FILENO);
+fn refuse_call(host: &mut Host) -> Outcome {
+    words::help(&mut host.err);
     Outcome::Failed
 }
 
 // It takes no argument.
-fn report() -> Outcome {
-    if os::arg_count() != 2 {
-        words::report_help(STDERR_FILENO);
+fn report(host: &mut Host) -> Outcome {
+    if argument_count(host) != 2 {
+        words::report_help(&mut host.err);
         return Outcome::Failed;
     }
-    report_input(b"erythmoda report")
+    report_input(host, b"erythmoda report")
 }
 
 // The verb's work.
 fn obey(
+    host: &mut Host,
     verb: Verb,
     file: &mut [u8],
     table: &mut [i64],
@@ -76,21 +79,21 @@ fn obey(
     text: &mut [u8],
 ) -> Outcome {
     match verb {
-        Verb::Report => report(),
-        Verb::Explain => answer(file, table),
-        Verb::Correct => correct(file, table, bytes, raw, corrected),
-        Verb::Rewrite => rewrite(file, table, text),
-        Verb::Invert => invert(file, table),
-        Verb::Check => check_files(file),
-        Verb::Help => show_help(verb),
-        Verb::Version => show_version(),
-        Verb::Unknown => refuse_call(),
+        Verb::Report => report(host),
+        Verb::Explain => answer(host, file, table),
+        Verb::Correct => correct(host, file, table, bytes, raw, corrected),
+        Verb::Rewrite => rewrite(host, file, table, text),
+        Verb::Invert => invert(host, file, table),
+        Verb::Check => check_files(host, file),
+        Verb::Help => show_help(host, verb),
+        Verb::Version => show_version(host),
+        Verb::Unknown => refuse_call(host),
     }
 }
 
 // Lent: space for a .cube file, its table, a piece of a picture as bytes, raw and corrected codes, and a file's new text. The answer is the status.
-#[unsafe(no_mangle)]
-pub extern "C" fn erythmoda_command(
+pub fn erythmoda_command(
+    host: &mut Host,
     file: &mut [u8],
     table: &mut [i64],
     bytes: &mut [u8],
@@ -100,9 +103,31 @@ pub extern "C" fn erythmoda_command(
 ) -> u32
     ensures { Ends result }
 {
-    let verb = verb_named();
-    if help_wanted() {
-        return show_help(verb).status();
+    let verb = verb_named(host);
+    if help_wanted(host) {
+        return show_help(host, verb).status();
     }
-    obey(verb, file, table, bytes, raw, corrected, text).status()
+    obey(host, verb, file, table, bytes, raw, corrected, text).status()
+}
+
+// The same, in memory of its own, as much as what the arguments name takes.
+pub fn run(host: &mut Host) -> u32
+    ensures { Ends result }
+{
+    let room = room_for(host);
+    match lend(host, room) {
+        Ok(mut lent) => erythmoda_command(
+            host,
+            &mut lent.file,
+            &mut lent.table,
+            &mut lent.bytes,
+            &mut lent.raw,
+            &mut lent.corrected,
+            &mut lent.text,
+        ),
+        Err(error) => {
+            say_failed(host, b"erythmoda: no memory", Some(Error::from(error)));
+            Outcome::Failed.status()
+        }
+    }
 }

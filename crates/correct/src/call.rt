@@ -2,7 +2,7 @@
 ghost use Rattle.std.specs.Prelude.{◌≡◌};
 ghost use Rattle.correct.specs.Calls.{begins_as_option};
 
-use desk::{Last, option_at};
+use desk::{Host, Last, argument, option_at};
 use rules::Depth;
 
 // Whether the files IN and OUT are named, and the maxval that is wanted of the output.
@@ -31,36 +31,36 @@ fn begins_as_option(word: &[u8]) -> bool
     word[1] == b'-'
 }
 
-fn is_option_at(place: usize) -> bool {
+fn is_option_at(host: &Host, place: usize) -> bool {
     let mut text = io::buffer();
-    let n = os::arg(place, &mut text);
+    let n = argument(host, place, &mut text);
     begins_as_option(&text[..n])
 }
 
 // Whether the arguments from the table's name on are three names.
-fn are_names() -> bool {
-    !is_option_at(2) && !is_option_at(3) && !is_option_at(4)
+fn are_names(host: &Host) -> bool {
+    !is_option_at(host, 2) && !is_option_at(host, 3) && !is_option_at(host, 4)
 }
 
 // What stands last, from a place on.
-fn maxval_at(place: usize) -> Last {
-    option_at(place, b"--maxval", Depth::BITS_16 as u64)
+fn maxval_at(host: &Host, place: usize) -> Last {
+    option_at(host, place, b"--maxval", Depth::BITS_16 as u64)
 }
 
 // After the table's name IN and OUT, or neither, and then perhaps the option. With them no name may look like an option.
-pub fn asked_for() -> Asked {
-    let unnamed = maxval_at(3);
+pub fn asked_for(host: &Host) -> Asked {
+    let unnamed = maxval_at(host, 3);
     let Last::Unclear = unnamed else {
         return Asked::For(Call {
             named: false,
             wanted: unnamed,
         });
     };
-    let wanted = maxval_at(5);
+    let wanted = maxval_at(host, 5);
     if let Last::Unclear = wanted {
         return Asked::Unclear;
     }
-    if !are_names() {
+    if !are_names(host) {
         return Asked::Unclear;
     }
     Asked::For(Call {

@@ -1,9 +1,10 @@
 // Where pictures come from and where they go.
+use desk::{Input, Output};
 
-// Two open descriptors, and whether they are of the files IN and OUT, or standard input and output.
-#[derive(Clone, Copy)]
+// What is read and what is written, and whether they are the files IN and OUT, or standard input and output.
+#[derive(Drop)]
 pub struct Ends {
-    pub from: i32,
-    pub to: i32,
+    pub from: Input,
+    pub to: Output,
     pub named: bool,
 }

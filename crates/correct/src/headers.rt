@@ -8,7 +8,7 @@ ghost use Rattle.correct.specs.Jobs.{Agrees};
 ghost use Rattle.correct.specs.Pieces.{most_pixels};
 
 use crate::jobs::Job;
-use desk::{Filled, fill};
+use desk::{Filled, Input, Output, fill};
 use ppm::{Fault, Frame, Header, header_of, put_header};
 
 // What came of reading a header: it was read, as far as it goes; it does not end within the space that there is for it; there is not one byte of it; or
@@ -47,12 +47,12 @@ fn ended_after(n: usize) -> Heading
 }
 
 // Byte by byte, so that no pixel is read with the header.
-fn read_into(from: i32, bytes: &mut [u8]) -> Heading
+fn read_into(from: &mut Input, bytes: &mut [u8]) -> Heading
     ensures { SizedHeading result }
 {
     let mut n = 0;
     while n < bytes.len() {
-        let Filled::Bytes(more) = fill(from, &mut bytes[n..n + 1]) else {
+        let Filled::Bytes(more) = fill(&mut *from, &mut bytes[n..n + 1]) else {
             return Heading::Unread;
         };
         if more == 0 {
@@ -68,7 +68,7 @@ fn read_into(from: i32, bytes: &mut [u8]) -> Heading
 }
 
 // The header of the next picture; it ends within 4,096 bytes.
-pub fn read(from: i32) -> Heading
+pub fn read(from: &mut Input) -> Heading
     ensures { SizedHeading result }
 {
     let mut bytes = io::buffer();
@@ -85,12 +85,12 @@ fn put_text(job: Job, text: &mut [u8]) -> usize
     put_header(text, frame.width, frame.height, job.maxval)
 }
 
-pub fn write(to: i32, job: Job) -> bool
+pub fn write(to: &mut Output, job: Job) -> bool
     requires { Agrees job }
 {
     let mut text = [0u8; 31];
     let n = put_text(job, &mut text);
-    io::write_all(to, &text[..n])
+    to.write(&text[..n])
 }
 
 pub fn pixels(frame: Frame) -> u64

@@ -15,7 +15,7 @@ use crate::outcomes::{Fate, Story, fate_of};
 use crate::pieces::pass_all;
 use crate::{headers, words};
 use colour::plan_of;
-use desk::Last;
+use desk::{Host, Last};
 use ppm::{Frame, Header};
 use rules::Description;
 
@@ -24,7 +24,8 @@ const MOST_PICTURES: u64 = 1_000_000_000_000_000_000;
 
 // A picture whose maxval and the output's are known: its header is written, and then its pixels.
 fn pass_job(
-    ends: Ends,
+    host: &mut Host,
+    ends: &mut Ends,
     number: u64,
     d: Description,
     table: &[i64],
@@ -38,19 +39,20 @@ fn pass_job(
     requires buffers { Buffers (length bytes.old) (length raw.old) (length corrected.old) }
     ensures { BecomesOf (Ready job) result }
 {
-    if !headers::write(ends.to, job) {
-        words::say_unwritten(ends, number);
+    if !headers::write(&mut ends.to, job) {
+        words::say_unwritten(host, ends, number);
         return Fate::Broken;
     }
     let plan = plan_of(d, depths_in(job.scales));
     let passed = pass_all(ends, plan, table, job, bytes, raw, corrected);
-    words::say_passed(ends, number, passed, job.frame);
+    words::say_passed(host, ends, number, passed, job.frame);
     fate_of(passed)
 }
 
 // A picture whose header stands; nothing is written before both depths are known, the picture's and the output's.
 fn pass_frame(
-    ends: Ends,
+    host: &mut Host,
+    ends: &mut Ends,
     number: u64,
     d: Description,
     table: &[i64],
@@ -67,20 +69,21 @@ fn pass_frame(
 {
     match job_of(frame, wanted) {
         JobFound::PictureUnknown => {
-            words::say_maxval(number, frame.maxval);
+            words::say_maxval(host, number, frame.maxval);
             Fate::Unfit
         }
         JobFound::OutputUnknown => {
-            words::say_wanted();
+            words::say_wanted(host);
             Fate::Unfit
         }
-        JobFound::Ready(job) => pass_job(ends, number, d, table, job, bytes, raw, corrected),
+        JobFound::Ready(job) => pass_job(host, ends, number, d, table, job, bytes, raw, corrected),
     }
 }
 
 // A picture of whose header this is known.
 fn pass_headed(
-    ends: Ends,
+    host: &mut Host,
+    ends: &mut Ends,
     number: u64,
     d: Description,
     table: &[i64],
@@ -101,7 +104,7 @@ fn pass_headed(
         Heading::TooLong => Fate::Unfit,
         Heading::Read(header) => match header {
             Header::Wrong(_) => Fate::Unfit,
-            Header::Stands(frame) => pass_frame(
+            Header::Stands(frame) => pass_frame(host, 
                 ends, number, d, table, frame, wanted, bytes, raw, corrected,
             ),
         },
@@ -110,7 +113,8 @@ fn pass_headed(
 
 // The next picture, which is the first, the second and so on by its number.
 fn pass_picture(
-    ends: Ends,
+    host: &mut Host,
+    ends: &mut Ends,
     number: u64,
     d: Description,
     table: &[i64],
@@ -122,16 +126,17 @@ fn pass_picture(
     requires table_value { could_be_read d table.now ≡ true }
     requires buffers { Buffers (length bytes.old) (length raw.old) (length corrected.old) }
 {
-    let heading = headers::read(ends.from);
-    words::say_heading(ends, number, heading);
-    pass_headed(
+    let heading = headers::read(&mut ends.from);
+    words::say_heading(host, ends, number, heading);
+    pass_headed(host, 
         ends, number, d, table, heading, wanted, bytes, raw, corrected,
     )
 }
 
 // All pictures, up to the end of the input or the first that is not whole.
 pub fn pass_pictures(
-    ends: Ends,
+    host: &mut Host,
+    ends: &mut Ends,
     d: Description,
     table: &[i64],
     wanted: Last,
@@ -144,7 +149,7 @@ pub fn pass_pictures(
 {
     let mut whole = 0;
     while whole < MOST_PICTURES {
-        let fate = pass_picture(
+        let fate = pass_picture(host, 
             ends,
             whole + 1,
             d,
@@ -159,7 +164,7 @@ pub fn pass_pictures(
         };
         whole += 1;
     }
-    words::say_uncounted();
+    words::say_uncounted(host);
     Story {
         whole,
         last: Fate::Whole,

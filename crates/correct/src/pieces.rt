@@ -121,7 +121,7 @@ fn passed_of(piece: Piece, first: u64, want: usize) -> Passed
 
 // One piece of so many pixels.
 fn pass_piece(
-    ends: Ends,
+    ends: &mut Ends,
     plan: Plan,
     table: &[i64],
     scales: Scales,
@@ -138,12 +138,12 @@ fn pass_piece(
 {
     let of_raw = scales.raw;
     let size = pixel_bytes(of_raw.wide);
-    let Filled::Bytes(got) = fill(ends.from, &mut bytes[..want * size]) else {
+    let Filled::Bytes(got) = fill(&mut ends.from, &mut bytes[..want * size]) else {
         return Passed::Unread(first);
     };
     let piece = correct_piece(plan, table, scales, &mut *bytes, got, raw, corrected);
     let made = piece.bytes;
-    if !io::write_all(ends.to, &bytes[..made]) {
+    if !ends.to.write(&bytes[..made]) {
         return Passed::Unwritten;
     }
     passed_of(piece, first, want)
@@ -162,7 +162,7 @@ fn next_piece(left: u64) -> usize
 
 // The pixels of a picture whose header is written.
 pub fn pass_all(
-    ends: Ends,
+    ends: &mut Ends,
     plan: Plan,
     table: &[i64],
     job: Job,
@@ -180,7 +180,7 @@ pub fn pass_all(
     while left > 0 {
         let want = next_piece(left);
         let passed = pass_piece(
-            ends,
+            &mut *ends,
             plan,
             table,
             job.scales,

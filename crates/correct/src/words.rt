@@ -4,312 +4,320 @@ ghost use Rattle.correct.specs.Pieces.{TrulyTold};
 use crate::ends::Ends;
 use crate::headers::Heading;
 use crate::pieces::Passed;
-use desk::{write, write_count};
-use libc::STDERR_FILENO;
+use desk::{Host, Output, say_failed, write, write_count};
 use ppm::{Fault, Frame, Header, Kind, Part};
 use rules::Colour;
 
 // ---- help
 
-fn help_on_work(fd: i32) -> bool {
+fn help_on_work(out: &mut Output) -> bool {
     write(
-        fd,
+        out,
         b"Corrects pictures by a .cube table: each code becomes the one nearest to the table's exact value.\n",
     ) && write(
-        fd,
+        out,
         b"Pictures are binary PPM (P6) with maxval 255, 1023, 4095 or 65535. Any number of them may follow one another, each of any\n",
     ) && write(
-        fd,
+        out,
         b"length; comments in their headers are left out. They come from the file IN and go to the file OUT, or from standard input to\n",
     ) && write(
-        fd,
+        out,
         b"standard output. OUT is written beside itself and takes its name when it is whole: where the work stops, no part of it is\n",
     ) && write(
-        fd,
+        out,
         b"left, and an OUT that was there stays as it was. On standard output the pixels before the one where a picture stops are\n",
     ) && write(
-        fd,
+        out,
         b"written. A line on standard error says what is wrong, and where.\n",
     )
 }
 
-fn help_on_arguments(fd: i32) -> bool {
-    write(fd, b"  TABLE            the name of a .cube file\n")
-        && write(fd, b"  IN               the name of a file of pictures\n")
+fn help_on_arguments(out: &mut Output) -> bool {
+    write(out, b"  TABLE            the name of a .cube file\n")
+        && write(out, b"  IN               the name of a file of pictures\n")
         && write(
-            fd,
+            out,
             b"  OUT              the name of the file to write; it may be IN, and is no link, device or pipe\n",
         )
         && write(
-            fd,
+            out,
             b"  --maxval MAXVAL  the maxval of every picture in the output, if it is another one: its codes are then of that depth\n",
         )
 }
 
-fn help_on_statuses(fd: i32) -> bool {
+fn help_on_statuses(out: &mut Output) -> bool {
     write(
-        fd,
+        out,
         b"status: 0 all pictures are corrected; 1 the table or a picture is refused, and nothing is left of an output; 2 a wrong call, the\n",
     ) && write(
-        fd,
+        out,
         b"system could not read or write, or a picture is wrong where part of the output was on standard output already\n",
     )
 }
 
-pub fn help(fd: i32) -> bool {
+pub fn help(out: &mut Output) -> bool {
     write(
-        fd,
+        out,
         b"usage: erythmoda correct TABLE [IN OUT] [--maxval MAXVAL]\n",
-    ) && help_on_work(fd)
-        && help_on_arguments(fd)
-        && help_on_statuses(fd)
-        && write(fd, b"example: erythmoda correct look.cube in.ppm out.ppm\n")
+    ) && help_on_work(out)
+        && help_on_arguments(out)
+        && help_on_statuses(out)
+        && write(out, b"example: erythmoda correct look.cube in.ppm out.ppm\n")
         && write(
-            fd,
+            out,
             b"example: erythmoda correct look.cube in.ppm deep.ppm --maxval 65535\n",
         )
         && write(
-            fd,
+            out,
             b"example: ffmpeg -i film.mov -f image2pipe -c:v ppm - | erythmoda correct look.cube > frames.ppm\n",
         )
 }
 
 // ---- how a line starts
 
-fn say(text: &[u8]) {
-    write(STDERR_FILENO, text);
+fn say(host: &mut Host, text: &[u8]) {
+    write(&mut host.err, text);
 }
 
 // A line of its own.
-fn say_line(text: &[u8]) {
-    say(b"erythmoda correct: ");
-    say(text);
-    say(b"\n");
+fn say_line(host: &mut Host, text: &[u8]) {
+    say(host, b"erythmoda correct: ");
+    say(host, text);
+    say(host, b"\n");
 }
 
-// As `erythmoda correct: cannot open IN: No such file or directory`. It is called just after the failure, whose words it asks for.
-pub fn say_failure(what: &[u8]) {
-    say(b"erythmoda correct: ");
-    os::fail(what);
+// As `erythmoda correct: cannot open IN: No such file or directory`, of the last call that was about a name.
+pub fn say_failure(host: &mut Host, what: &[u8]) {
+    say(host, b"erythmoda correct: ");
+    let failure = host.failure();
+    say_failed(host, what, failure);
+}
+
+// Of what was written to a file.
+pub fn say_unkept(host: &mut Host, what: &[u8], file: &Output) {
+    say(host, b"erythmoda correct: ");
+    say_failed(host, what, file.failure());
 }
 
 // From the second picture on its number is told, as `erythmoda correct: picture 2: `.
-fn say_start(number: u64) {
-    say(b"erythmoda correct: ");
+fn say_start(host: &mut Host, number: u64) {
+    say(host, b"erythmoda correct: ");
     if number > 1 {
-        say(b"picture ");
-        write_count(STDERR_FILENO, number);
-        say(b": ");
+        say(host, b"picture ");
+        write_count(&mut host.err, number);
+        say(host, b": ");
     }
 }
 
-fn fail_to_read(ends: Ends) {
+fn fail_to_read(host: &mut Host, ends: &Ends) {
+    let failure = ends.from.failure();
     if ends.named {
-        os::fail(b"cannot read IN");
+        say_failed(host, b"cannot read IN", failure);
     } else {
-        os::fail(b"cannot read standard input");
+        say_failed(host, b"cannot read standard input", failure);
     }
 }
 
-pub fn say_unwritten(ends: Ends, number: u64) {
-    say_start(number);
+pub fn say_unwritten(host: &mut Host, ends: &Ends, number: u64) {
+    say_start(host, number);
+    let failure = ends.to.failure();
     if ends.named {
-        os::fail(b"cannot write OUT");
+        say_failed(host, b"cannot write OUT", failure);
     } else {
-        os::fail(b"cannot write standard output");
+        say_failed(host, b"cannot write standard output", failure);
     }
 }
 
 // ---- names
 
-pub fn say_long(what: &[u8]) {
-    say(b"erythmoda correct: the name of ");
-    say(what);
-    say(b" is longer than 4,095 bytes\n");
+pub fn say_long(host: &mut Host, what: &[u8]) {
+    say(host, b"erythmoda correct: the name of ");
+    say(host, what);
+    say(host, b" is longer than 4,095 bytes\n");
 }
 
-pub fn say_empty_name(what: &[u8]) {
-    say(b"erythmoda correct: the name of ");
-    say(what);
-    say(b" is empty\n");
+pub fn say_empty_name(host: &mut Host, what: &[u8]) {
+    say(host, b"erythmoda correct: the name of ");
+    say(host, what);
+    say(host, b" is empty\n");
 }
 
-pub fn say_link() {
-    say_line(b"OUT is a link: name the file itself");
+pub fn say_link(host: &mut Host) {
+    say_line(host, b"OUT is a link: name the file itself");
 }
 
-pub fn say_no_file() {
-    say_line(b"OUT is a device or a pipe: leave IN and OUT out, and use standard output");
+pub fn say_no_file(host: &mut Host) {
+    say_line(host, b"OUT is a device or a pipe: leave IN and OUT out, and use standard output");
 }
 
 // ---- a header
 
-fn say_part(part: Part) {
-    say(b"the header's ");
+fn say_part(host: &mut Host, part: Part) {
+    say(host, b"the header's ");
     match part {
-        Part::Width => say(b"width"),
-        Part::Height => say(b"height"),
-        Part::Maxval => say(b"maxval"),
+        Part::Width => say(host, b"width"),
+        Part::Height => say(host, b"height"),
+        Part::Maxval => say(host, b"maxval"),
     }
 }
 
-fn say_most(part: Part) {
+fn say_most(host: &mut Host, part: Part) {
     match part {
-        Part::Width => say(b" is above 2147483647"),
-        Part::Height => say(b" is above 2147483647"),
-        Part::Maxval => say(b" is above 65535"),
+        Part::Width => say(host, b" is above 2147483647"),
+        Part::Height => say(host, b" is above 2147483647"),
+        Part::Maxval => say(host, b" is above 65535"),
     }
 }
 
 // What the bytes are, and what makes a P6 of them.
-fn say_kind(kind: Kind) {
+fn say_kind(host: &mut Host, kind: Kind) {
     match kind {
-        Kind::PlainBitmap => say(
+        Kind::PlainBitmap => say(host, 
             b"the picture is a P1, black and white in text: ppmtoppm < IN > OUT makes a P6 of it",
         ),
         Kind::PlainGreys => {
-            say(b"the picture is a P2, greys in text: ppmtoppm < IN > OUT makes a P6 of it")
+            say(host, b"the picture is a P2, greys in text: ppmtoppm < IN > OUT makes a P6 of it")
         }
         Kind::PlainPixels => {
-            say(b"the picture is a P3, colours in text: ppmtoppm < IN > OUT makes a P6 of it")
+            say(host, b"the picture is a P3, colours in text: ppmtoppm < IN > OUT makes a P6 of it")
         }
         Kind::Bitmap => {
-            say(b"the picture is a P4, black and white: ppmtoppm < IN > OUT makes a P6 of it")
+            say(host, b"the picture is a P4, black and white: ppmtoppm < IN > OUT makes a P6 of it")
         }
-        Kind::Greys => say(b"the picture is a P5, greys: ppmtoppm < IN > OUT makes a P6 of it"),
-        Kind::Unparted => say(b"the picture does not begin with P6 and whitespace"),
+        Kind::Greys => say(host, b"the picture is a P5, greys: ppmtoppm < IN > OUT makes a P6 of it"),
+        Kind::Unparted => say(host, b"the picture does not begin with P6 and whitespace"),
         Kind::Pam => {
-            say(b"the picture is a P7 (PAM): pamtopnm < IN | ppmtoppm > OUT makes a P6 of it")
+            say(host, b"the picture is a P7 (PAM): pamtopnm < IN | ppmtoppm > OUT makes a P6 of it")
         }
-        Kind::Png => say(b"the picture is a PNG: pngtopam IN | ppmtoppm > OUT makes a P6 of it"),
+        Kind::Png => say(host, b"the picture is a PNG: pngtopam IN | ppmtoppm > OUT makes a P6 of it"),
         Kind::Jpeg => {
-            say(b"the picture is a JPEG: jpegtopnm IN | ppmtoppm > OUT makes a P6 of it")
+            say(host, b"the picture is a JPEG: jpegtopnm IN | ppmtoppm > OUT makes a P6 of it")
         }
         Kind::Tiff => {
-            say(b"the picture is a TIFF: tifftopnm IN | ppmtoppm > OUT makes a P6 of it")
+            say(host, b"the picture is a TIFF: tifftopnm IN | ppmtoppm > OUT makes a P6 of it")
         }
-        Kind::Other => say(
+        Kind::Other => say(host, 
             b"the picture does not begin with P6 and whitespace: convert IN ppm:- > OUT (ImageMagick) makes a P6 of many kinds of files",
         ),
     }
 }
 
-fn say_fault(fault: Fault) {
+fn say_fault(host: &mut Host, fault: Fault) {
     match fault {
-        Fault::NotP6(kind) => say_kind(kind),
-        Fault::EndsEarly => say(b"the input ends in the picture's header"),
+        Fault::NotP6(kind) => say_kind(host, kind),
+        Fault::EndsEarly => say(host, b"the input ends in the picture's header"),
         Fault::Malformed(part) => {
-            say_part(part);
-            say(b" is not digits ended by whitespace");
+            say_part(host, part);
+            say(host, b" is not digits ended by whitespace");
         }
         Fault::Beyond(part) => {
-            say_part(part);
-            say_most(part);
+            say_part(host, part);
+            say_most(host, part);
         }
     }
 }
 
 // A header that does not stand; of one that does nothing is said.
-fn say_header(number: u64, header: Header) {
+fn say_header(host: &mut Host, number: u64, header: Header) {
     match header {
         Header::Stands(_) => {}
         Header::Wrong(fault) => {
-            say_start(number);
-            say_fault(fault);
-            say(b"\n");
+            say_start(host, number);
+            say_fault(host, fault);
+            say(host, b"\n");
         }
     }
 }
 
 // The input may end where a header would begin, but for the first.
-fn say_empty(number: u64) {
+fn say_empty(host: &mut Host, number: u64) {
     if number == 1 {
-        say_line(b"there is no picture: the input is empty");
+        say_line(host, b"there is no picture: the input is empty");
     }
 }
 
-pub fn say_heading(ends: Ends, number: u64, heading: Heading) {
+pub fn say_heading(host: &mut Host, ends: &Ends, number: u64, heading: Heading) {
     match heading {
-        Heading::Read(header) => say_header(number, header),
+        Heading::Read(header) => say_header(host, number, header),
         Heading::TooLong => {
-            say_start(number);
-            say(b"the header does not end within the first 4,096 bytes of the picture\n");
+            say_start(host, number);
+            say(host, b"the header does not end within the first 4,096 bytes of the picture\n");
         }
-        Heading::Empty => say_empty(number),
+        Heading::Empty => say_empty(host, number),
         Heading::Unread => {
-            say_start(number);
-            fail_to_read(ends);
+            say_start(host, number);
+            fail_to_read(host, ends);
         }
     }
 }
 
-pub fn say_maxval(number: u64, maxval: u64) {
-    say_start(number);
-    say(b"maxval ");
-    write_count(STDERR_FILENO, maxval);
-    say(b" is none of 255, 1023, 4095 and 65535\n");
+pub fn say_maxval(host: &mut Host, number: u64, maxval: u64) {
+    say_start(host, number);
+    say(host, b"maxval ");
+    write_count(&mut host.err, maxval);
+    say(host, b" is none of 255, 1023, 4095 and 65535\n");
 }
 
-pub fn say_wanted() {
-    say_line(b"the output's --maxval is none of 255, 1023, 4095 and 65535");
+pub fn say_wanted(host: &mut Host) {
+    say_line(host, b"the output's --maxval is none of 255, 1023, 4095 and 65535");
 }
 
 // ---- the pixels
 
 // As `erythmoda correct: stopped at pixel 7 (row 1, column 3): `, all counted from 0. A picture of width 0 has no pixel to stop at.
-fn say_place(number: u64, pixel: u64, width: u64) {
+fn say_place(host: &mut Host, number: u64, pixel: u64, width: u64) {
     if width == 0 {
         return;
     }
-    say_start(number);
-    say(b"stopped at pixel ");
-    write_count(STDERR_FILENO, pixel);
-    say(b" (row ");
-    write_count(STDERR_FILENO, pixel / width);
-    say(b", column ");
-    write_count(STDERR_FILENO, pixel % width);
-    say(b"): ");
+    say_start(host, number);
+    say(host, b"stopped at pixel ");
+    write_count(&mut host.err, pixel);
+    say(host, b" (row ");
+    write_count(&mut host.err, pixel / width);
+    say(host, b", column ");
+    write_count(&mut host.err, pixel % width);
+    say(host, b"): ");
 }
 
 // As `green is 1024, above 1023`.
-fn say_excess(colour: Colour, code: u16, maxval: u64) {
+fn say_excess(host: &mut Host, colour: Colour, code: u16, maxval: u64) {
     match colour {
-        Colour::Red => say(b"red is "),
-        Colour::Green => say(b"green is "),
-        Colour::Blue => say(b"blue is "),
+        Colour::Red => say(host, b"red is "),
+        Colour::Green => say(host, b"green is "),
+        Colour::Blue => say(host, b"blue is "),
     }
-    write_count(STDERR_FILENO, code as u64);
-    say(b", above ");
-    write_count(STDERR_FILENO, maxval);
-    say(b"\n");
+    write_count(&mut host.err, code as u64);
+    say(host, b", above ");
+    write_count(&mut host.err, maxval);
+    say(host, b"\n");
 }
 
 // A code that is told as above maxval is.
-pub fn say_passed(ends: Ends, number: u64, passed: Passed, frame: Frame)
+pub fn say_passed(host: &mut Host, ends: &Ends, number: u64, passed: Passed, frame: Frame)
     requires { TrulyTold frame.maxval passed }
 {
     match passed {
         Passed::Whole => {}
         Passed::Cut(pixel) => {
-            say_place(number, pixel, frame.width);
-            say(b"the picture ends there\n");
+            say_place(host, number, pixel, frame.width);
+            say(host, b"the picture ends there\n");
         }
         Passed::TooGreat {
             pixel,
             colour,
             code,
         } => {
-            say_place(number, pixel, frame.width);
-            say_excess(colour, code, frame.maxval);
+            say_place(host, number, pixel, frame.width);
+            say_excess(host, colour, code, frame.maxval);
         }
         Passed::Unread(pixel) => {
-            say_place(number, pixel, frame.width);
-            fail_to_read(ends);
+            say_place(host, number, pixel, frame.width);
+            fail_to_read(host, ends);
         }
-        Passed::Unwritten => say_unwritten(ends, number),
+        Passed::Unwritten => say_unwritten(host, ends, number),
     }
 }
 
-pub fn say_uncounted() {
-    say_line(b"there may be more than 1,000,000,000,000,000,000 pictures, and no more are read");
+pub fn say_uncounted(host: &mut Host) {
+    say_line(host, b"there may be more than 1,000,000,000,000,000,000 pictures, and no more are read");
 }

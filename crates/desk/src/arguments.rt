@@ -3,6 +3,7 @@ ghost use Rattle.std.specs.Prelude.{◌≡◌, ◌≤◌};
 ghost use Rattle.numbers.specs.Cuts.{most_limit};
 ghost use Rattle.desk.specs.Arguments.{argument_of, UpTo, OptionUpTo};
 
+use crate::host::{Host, argument, argument_count};
 use numbers::{is_digits, spelt};
 use text::is_named;
 
@@ -30,19 +31,19 @@ pub fn number_in(text: &[u8], most: u64) -> Argument
 }
 
 // The argument at a place of the command line; one that is missing, empty or longer than a path is no number.
-fn number_at(place: usize, most: u64) -> Argument
+fn number_at(host: &Host, place: usize, most: u64) -> Argument
     requires { most ≤ most_limit }
     ensures { UpTo most result }
 {
     let mut text = io::buffer();
-    let n = os::arg(place, &mut text);
+    let n = argument(host, place, &mut text);
     number_in(&text[..n], most)
 }
 
 // Whether the argument at a place is this word.
-pub fn is_word_at(place: usize, word: &[u8]) -> bool {
+pub fn is_word_at(host: &Host, place: usize, word: &[u8]) -> bool {
     let mut text = io::buffer();
-    let n = os::arg(place, &mut text);
+    let n = argument(host, place, &mut text);
     is_named(&text[..n], word)
 }
 
@@ -56,11 +57,11 @@ pub enum Last {
 }
 
 // From a place on: nothing, or the option of this name and its number.
-pub fn option_at(place: usize, name: &[u8], most: u64) -> Last
+pub fn option_at(host: &Host, place: usize, name: &[u8], most: u64) -> Last
     requires { most ≤ most_limit }
     ensures { OptionUpTo most result }
 {
-    let count = os::arg_count();
+    let count = argument_count(host);
     if count < place {
         return Last::Unclear;
     }
@@ -70,10 +71,10 @@ pub fn option_at(place: usize, name: &[u8], most: u64) -> Last
     if count - place != 2 {
         return Last::Unclear;
     }
-    if !is_word_at(place, name) {
+    if !is_word_at(host, place, name) {
         return Last::Unclear;
     }
-    match number_at(place + 1, most) {
+    match number_at(host, place + 1, most) {
         Argument::Number(n) => Last::Number(n),
         Argument::TooGreat => Last::TooGreat,
         Argument::NoNumber => Last::Unclear,

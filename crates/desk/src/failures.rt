@@ -1,18 +1,31 @@
 // What a system call's failure says, on standard error: the program, what it was about, and the system's own words.
+use crate::host::{Host, Input, say_failed};
 use crate::printing::write;
-use libc::STDERR_FILENO;
 
-// As `explain: cannot open a.cube: No such file or directory`. It is called just after the failure, whose words it asks for.
-pub fn say_failure(program: &[u8], what: &[u8], name: &[u8]) {
-    write(STDERR_FILENO, program);
-    write(STDERR_FILENO, what);
-    os::fail(name);
+fn say_start(host: &mut Host, program: &[u8], what: &[u8]) {
+    write(&mut host.err, program);
+    write(&mut host.err, what);
 }
 
-pub fn say_unread(program: &[u8]) {
-    say_failure(program, b": cannot read ", b"standard input");
+// As `explain: cannot open a.cube: No such file or directory`, of the last call that was about a name.
+pub fn say_failure(host: &mut Host, program: &[u8], what: &[u8], name: &[u8]) {
+    say_start(host, program, what);
+    let failure = host.failure();
+    say_failed(host, name, failure);
 }
 
-pub fn say_unwritten(program: &[u8]) {
-    say_failure(program, b": cannot write ", b"standard output");
+// Of an input, as it is called.
+pub fn say_unread_from(host: &mut Host, program: &[u8], name: &[u8], from: &Input) {
+    say_start(host, program, b": cannot read ");
+    say_failed(host, name, from.failure());
+}
+
+pub fn say_unread(host: &mut Host, program: &[u8], from: &Input) {
+    say_unread_from(host, program, b"standard input", from);
+}
+
+pub fn say_unwritten(host: &mut Host, program: &[u8]) {
+    say_start(host, program, b": cannot write ");
+    let failure = host.out.failure();
+    say_failed(host, b"standard output", failure);
 }

@@ -4,6 +4,7 @@
 mod arguments;
 mod cures;
 mod failures;
+mod host;
 mod loading;
 mod names;
 mod outcomes;
@@ -14,6 +15,10 @@ mod tables;
 
 pub use arguments::{Argument, Last, is_word_at, number_in, option_at};
 pub use failures::{say_unread, say_unwritten};
+pub use host::{
+    Extent, Host, Input, Output, argument, argument_count, create_output, extent_of, hold, is_link,
+    is_missing, is_no_file, is_taken, open_input, open_update, remove, rename, say_failed, word_at,
+};
 pub use loading::{Fetched, Filled, Loaded, fetch_file, fill, load_argument};
 pub use names::{Name, name_at};
 pub use outcomes::Outcome;

@@ -4,6 +4,7 @@ ghost use Rattle.desk.specs.Outcomes.{status_of, worse_of};
 ghost use Rattle.desk.specs.declared.outcomes.Outcome.TheVariants.{Failed};
 
 use crate::failures::say_unwritten;
+use crate::host::Host;
 
 // Done; refused, for what the file or the picture says; or failed, by a call that is not understood or by the system.
 #[derive(Clone, Copy)]
@@ -36,13 +37,13 @@ impl Outcome {
     }
 
     // This end, where all was written to standard output; else that is said, and the work has failed.
-    pub fn if_written(self, written: bool, program: &[u8]) -> Outcome
+    pub fn if_written(self, host: &mut Host, written: bool, program: &[u8]) -> Outcome
         ensures { result ≡ cond written self Failed }
     {
         if written {
             return self;
         }
-        say_unwritten(program);
+        say_unwritten(host, program);
         Outcome::Failed
     }
 }

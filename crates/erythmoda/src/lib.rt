@@ -1,4 +1,4 @@
-// The C boundary: what loggers link. Each call asks the proved call behind it and lays the answer out in lent memory.
+// The C boundary: what loggers link, by way of erythmoda_c. Each call asks the proved call behind it and lays the answer out in lent memory.
 #![tactic(auto)]
 
 ghost use Rattle.rules.specs.Units.{bits_of};
@@ -21,8 +21,7 @@ use rules::{
 use writing::write;
 
 // Reads a file into the lent table; the description as eleven numbers, and the line of a refusal.
-#[unsafe(no_mangle)]
-pub extern "C" fn erythmoda_read(
+pub fn erythmoda_read(
     file: &[u8],
     table: &mut [i64],
     description: &mut [i64; 11],
@@ -37,8 +36,7 @@ pub extern "C" fn erythmoda_read(
 }
 
 // Judges a file with no table; the description, the line of a refusal, and the places that a table needs.
-#[unsafe(no_mangle)]
-pub extern "C" fn erythmoda_check(
+pub fn erythmoda_check(
     file: &[u8],
     description: &mut [i64; 11],
     line: &mut u64,
@@ -64,8 +62,7 @@ fn look_in(description: &[i64; 11], table: &[i64], bits: Bits, pixel: Codes) -> 
 }
 
 // One pixel to three corrected codes, with the six rows and weights; the widths in bits are those of raw and of corrected codes.
-#[unsafe(no_mangle)]
-pub extern "C" fn erythmoda_look(
+pub fn erythmoda_look(
     description: &[i64; 11],
     table: &[i64],
     raw: u32,
@@ -97,8 +94,7 @@ fn rows_in(description: &[i64; 11], table: &[i64], raw: u32, pixel: Codes) -> Fi
 }
 
 // One pixel to six rows and weights: the first half of a look.
-#[unsafe(no_mangle)]
-pub extern "C" fn erythmoda_rows(
+pub fn erythmoda_rows(
     description: &[i64; 11],
     table: &[i64],
     raw: u32,
@@ -126,8 +122,7 @@ fn codes_in(description: &[i64; 11], table: &[i64], bits: Bits, shares: Shares) 
 }
 
 // Six rows and weights to three corrected codes: the second half of a look.
-#[unsafe(no_mangle)]
-pub extern "C" fn erythmoda_codes(
+pub fn erythmoda_codes(
     description: &[i64; 11],
     table: &[i64],
     raw: u32,
@@ -145,8 +140,7 @@ pub extern "C" fn erythmoda_codes(
 }
 
 // A run of pixels to corrected codes.
-#[unsafe(no_mangle)]
-pub extern "C" fn erythmoda_picture(
+pub fn erythmoda_picture(
     description: &[i64; 11],
     table: &[i64],
     raw: u32,
@@ -174,8 +168,7 @@ fn write_in(description: &[i64; 11], table: &[i64], title: &[u8], out: &mut [u8]
 }
 
 // A table as the bytes of a file, and their length.
-#[unsafe(no_mangle)]
-pub extern "C" fn erythmoda_write(
+pub fn erythmoda_write(
     description: &[i64; 11],
     table: &[i64],
     title: &[u8],
@@ -219,8 +212,7 @@ fn inverse_in(
 }
 
 // The raw code of a colour whose corrected code is nearest to a wanted one, and the count of codes tried. The colour is 0 for red, 1 for green, 2 for blue.
-#[unsafe(no_mangle)]
-pub extern "C" fn erythmoda_inverse(
+pub fn erythmoda_inverse(
     description: &[i64; 11],
     table: &[i64],
     raw: u32,

@@ -10,87 +10,86 @@ ghost use Rattle.explain.specs.Questions.{looked_as, kept_as, given_as, held_as,
 use crate::kept::show_line;
 use crate::question::{Pixel, Question};
 use crate::show::{show_look, show_pixel};
-use desk::{Outcome, say_refusal, write};
+use desk::{Host, Outcome, say_refusal, write};
 use halves::{first_half, judged_shares, look, second_half};
-use libc::STDERR_FILENO;
 use rules::{
     Bits, Codes, Depths, DepthsFound, Description, FirstHalf, Judged, Look, Refusal, SecondHalf,
     Shares,
 };
 
-fn refuse(reason: Refusal) -> Outcome
+fn refuse(host: &mut Host, reason: Refusal) -> Outcome
     ensures { result ≡ Refused }
 {
-    say_refusal(b"erythmoda explain", reason);
+    say_refusal(host, b"erythmoda explain", reason);
     Outcome::Refused
 }
 
 // What is shown is done with, unless it could not be written.
-fn done_if(written: bool) -> Outcome
+fn done_if(host: &mut Host, written: bool) -> Outcome
     ensures { result ≡ cond written Done Failed }
 {
-    Outcome::Done.if_written(written, b"erythmoda explain")
+    Outcome::Done.if_written(host, written, b"erythmoda explain")
 }
 
 // A code that no depth has: 20 comes before 23.
-fn refuse_beyond(bits: Bits) -> Outcome
+fn refuse_beyond(host: &mut Host, bits: Bits) -> Outcome
     ensures { result ≡ Refused }
 {
     match Depths::of(bits) {
-        DepthsFound::Both(_) => refuse(Refusal::CodeTooGreat),
-        DepthsFound::NotBoth => refuse(Refusal::DepthUnknown),
+        DepthsFound::Both(_) => refuse(host, Refusal::CodeTooGreat),
+        DepthsFound::NotBoth => refuse(host, Refusal::DepthUnknown),
     }
 }
 
 // ---- what made a pixel's codes
 
 // The look at a pixel of 16-bit codes, explained or refused.
-fn explain_held(d: Description, file: &[u8], table: &[i64], bits: Bits, raw: Codes) -> Outcome
+fn explain_held(host: &mut Host, d: Description, file: &[u8], table: &[i64], bits: Bits, raw: Codes) -> Outcome
     ensures { EndsAs (looked_as (look d table.now bits raw)) result }
 {
     let DepthsFound::Both(depths) = Depths::of(bits) else {
-        return refuse(Refusal::DepthUnknown);
+        return refuse(host, Refusal::DepthUnknown);
     };
     match look(d, table, bits, raw) {
-        Look::Refused(reason) => refuse(reason),
+        Look::Refused(reason) => refuse(host, reason),
         Look::Accepted { codes, shares } => {
-            let written = show_pixel(raw, bits.raw)
-                && show_look(d, file, table, depths, codes, shares);
-            done_if(written)
+            let written = show_pixel(host, raw, bits.raw)
+                && show_look(host, d, file, table, depths, codes, shares);
+            done_if(host, written)
         }
     }
 }
 
-fn explain_pixel(d: Description, file: &[u8], table: &[i64], bits: Bits, pixel: Pixel) -> Outcome
+fn explain_pixel(host: &mut Host, d: Description, file: &[u8], table: &[i64], bits: Bits, pixel: Pixel) -> Outcome
     ensures { EndsAs (held_as (λ raw. looked_as (look d table.now bits raw)) pixel) result }
 {
     match pixel {
-        Pixel::Held(raw) => explain_held(d, file, table, bits, raw),
-        Pixel::Beyond => refuse_beyond(bits),
+        Pixel::Held(raw) => explain_held(host, d, file, table, bits, raw),
+        Pixel::Beyond => refuse_beyond(host, bits),
     }
 }
 
 // ---- a pixel's line
 
 // The first half of the look, printed or refused.
-fn keep_held(d: Description, table: &[i64], raw: u32, codes: Codes) -> Outcome
+fn keep_held(host: &mut Host, d: Description, table: &[i64], raw: u32, codes: Codes) -> Outcome
     ensures { EndsAs (kept_as (first_half d table.now raw codes)) result }
 {
     match first_half(d, table, raw, codes) {
-        FirstHalf::Refused(reason) => refuse(reason),
+        FirstHalf::Refused(reason) => refuse(host, reason),
         FirstHalf::Accepted(shares) => {
-            let written = show_line(raw, shares);
-            done_if(written)
+            let written = show_line(host, raw, shares);
+            done_if(host, written)
         }
     }
 }
 
-fn keep_pixel(d: Description, table: &[i64], raw: u32, pixel: Pixel) -> Outcome
+fn keep_pixel(host: &mut Host, d: Description, table: &[i64], raw: u32, pixel: Pixel) -> Outcome
     ensures { EndsAs (held_as (λ codes. kept_as (first_half d table.now raw codes)) pixel) result }
 {
     match pixel {
-        Pixel::Held(codes) => keep_held(d, table, raw, codes),
-        Pixel::Beyond => refuse_beyond(Bits {
+        Pixel::Held(codes) => keep_held(host, d, table, raw, codes),
+        Pixel::Beyond => refuse_beyond(host, Bits {
             raw,
             corrected: raw,
         }),
@@ -99,60 +98,60 @@ fn keep_pixel(d: Description, table: &[i64], raw: u32, pixel: Pixel) -> Outcome
 
 // ---- the codes of a line
 
-fn say_more(words: &[u8]) {
-    write(STDERR_FILENO, b"erythmoda explain: ");
-    write(STDERR_FILENO, words);
-    write(STDERR_FILENO, b"\n");
+fn say_more(host: &mut Host, words: &[u8]) {
+    write(&mut host.err, b"erythmoda explain: ");
+    write(&mut host.err, words);
+    write(&mut host.err, b"\n");
 }
 
 // Which of the conditions of 26 was found first.
-fn say_found(found: Judged) {
+fn say_found(host: &mut Host, found: Judged) {
     match found {
         Judged::Fit => {}
-        Judged::RowBeyond => say_more(b"a row number is not below the table's count of rows"),
-        Judged::NegativeWeight => say_more(b"a weight is negative"),
-        Judged::WrongSum => say_more(b"weights do not add up to their denominator"),
+        Judged::RowBeyond => say_more(host, b"a row number is not below the table's count of rows"),
+        Judged::NegativeWeight => say_more(host, b"a weight is negative"),
+        Judged::WrongSum => say_more(host, b"weights do not add up to their denominator"),
     }
 }
 
 // 26 with a line more; another refusal as always.
-fn refuse_line(d: Description, depths: Depths, shares: Shares, reason: Refusal) -> Outcome
+fn refuse_line(host: &mut Host, d: Description, depths: Depths, shares: Shares, reason: Refusal) -> Outcome
     requires { reason ≡ RowsOrWeightsWrong → Readable d }
     ensures { result ≡ Refused }
 {
-    let refused = refuse(reason);
+    let refused = refuse(host, reason);
     let Refusal::RowsOrWeightsWrong = reason else {
         return refused;
     };
     let raw = depths.raw;
-    say_found(judged_shares(d, raw.greatest(), shares));
+    say_found(host, judged_shares(d, raw.greatest(), shares));
     refused
 }
 
 // The second half of a look, explained or refused.
-fn explain_line(d: Description, file: &[u8], table: &[i64], bits: Bits, shares: Shares) -> Outcome
+fn explain_line(host: &mut Host, d: Description, file: &[u8], table: &[i64], bits: Bits, shares: Shares) -> Outcome
     ensures { EndsAs (given_as (second_half d table.now bits shares)) result }
 {
     let DepthsFound::Both(depths) = Depths::of(bits) else {
-        return refuse(Refusal::DepthUnknown);
+        return refuse(host, Refusal::DepthUnknown);
     };
     match second_half(d, table, bits, shares) {
-        SecondHalf::Refused(reason) => refuse_line(d, depths, shares, reason),
+        SecondHalf::Refused(reason) => refuse_line(host, d, depths, shares, reason),
         SecondHalf::Accepted(codes) => {
-            let written = show_look(d, file, table, depths, codes, shares);
-            done_if(written)
+            let written = show_look(host, d, file, table, depths, codes, shares);
+            done_if(host, written)
         }
     }
 }
 
 // ---- any of them. The table was loaded, so that the answer is never 24: then come 20, and 23 or 26
 
-pub fn explain(d: Description, file: &[u8], table: &[i64], question: Question) -> Outcome
+pub fn explain(host: &mut Host, d: Description, file: &[u8], table: &[i64], question: Question) -> Outcome
     ensures { EndsAs (asked_as d table.now question) result }
 {
     match question {
-        Question::Pixel { bits, pixel } => explain_pixel(d, file, table, bits, pixel),
-        Question::LineOf { raw, pixel } => keep_pixel(d, table, raw, pixel),
-        Question::Line { bits, shares } => explain_line(d, file, table, bits, shares),
+        Question::Pixel { bits, pixel } => explain_pixel(host, d, file, table, bits, pixel),
+        Question::LineOf { raw, pixel } => keep_pixel(host, d, table, raw, pixel),
+        Question::Line { bits, shares } => explain_line(host, d, file, table, bits, shares),
     }
 }

@@ -11,16 +11,15 @@ mod show;
 mod words;
 
 use answers::explain;
-use desk::{Loaded, Outcome, load_argument};
-use libc::STDERR_FILENO;
+use desk::{Host, Loaded, Outcome, load_argument};
 use question::{Asked, Question, read_arguments};
 pub use words::help;
 
 // A question, answered by the table that the argument after the verb names.
-fn answer_by(file: &mut [u8], table: &mut [i64], question: Question) -> Outcome {
-    match load_argument(b"erythmoda explain", 2, &mut *file, &mut *table) {
+fn answer_by(host: &mut Host, file: &mut [u8], table: &mut [i64], question: Question) -> Outcome {
+    match load_argument(host, b"erythmoda explain", 2, &mut *file, &mut *table) {
         Loaded::Table { description, bytes } => {
-            explain(description, &file[..bytes], table, question)
+            explain(host, description, &file[..bytes], table, question)
         }
         Loaded::Refused => Outcome::Refused,
         Loaded::Unread => Outcome::Failed,
@@ -28,10 +27,10 @@ fn answer_by(file: &mut [u8], table: &mut [i64], question: Question) -> Outcome 
 }
 
 // The question that the arguments ask, answered with lent space for the file and the table.
-pub fn answer(file: &mut [u8], table: &mut [i64]) -> Outcome {
-    let Asked::Plainly(question) = read_arguments() else {
-        help(STDERR_FILENO);
+pub fn answer(host: &mut Host, file: &mut [u8], table: &mut [i64]) -> Outcome {
+    let Asked::Plainly(question) = read_arguments(host) else {
+        help(&mut host.err);
         return Outcome::Failed;
     };
-    answer_by(file, table, question)
+    answer_by(host, file, table, question)
 }

@@ -2,7 +2,7 @@
 ghost use Rattle.std.specs.Prelude.{◌≡◌};
 ghost use Rattle.explain.specs.Questions.{pixel_asked};
 
-use desk::is_word_at;
+use desk::{Host, argument_count, is_word_at};
 use given::{Given, MOST, MOST_ROW, Weight, corrected_width, value_at, weight_at};
 use rules::{Bits, Codes, Share, Shares};
 
@@ -62,29 +62,29 @@ fn pixel_of(red: u32, green: u32, blue: u32) -> Pixel
 }
 
 // Whether the pixel's line is wanted, and nothing stands behind that.
-fn line_wanted() -> bool {
-    os::arg_count() == 8 && is_word_at(7, b"--line")
+fn line_wanted(host: &Host) -> bool {
+    argument_count(host) == 8 && is_word_at(host, 7, b"--line")
 }
 
 // Four numbers; then perhaps an option.
-fn read_pixel() -> Asked {
-    let Given::Value(raw) = value_at(3, MOST) else {
+fn read_pixel(host: &Host) -> Asked {
+    let Given::Value(raw) = value_at(host, 3, MOST) else {
         return Asked::Unclear;
     };
-    let Given::Value(red) = value_at(4, MOST) else {
+    let Given::Value(red) = value_at(host, 4, MOST) else {
         return Asked::Unclear;
     };
-    let Given::Value(green) = value_at(5, MOST) else {
+    let Given::Value(green) = value_at(host, 5, MOST) else {
         return Asked::Unclear;
     };
-    let Given::Value(blue) = value_at(6, MOST) else {
+    let Given::Value(blue) = value_at(host, 6, MOST) else {
         return Asked::Unclear;
     };
     let pixel = pixel_of(red, green, blue);
-    if line_wanted() {
+    if line_wanted(host) {
         return Asked::Plainly(Question::LineOf { raw, pixel });
     }
-    let Given::Value(corrected) = corrected_width(7, raw) else {
+    let Given::Value(corrected) = corrected_width(host, 7, raw) else {
         return Asked::Unclear;
     };
     let bits = Bits { raw, corrected };
@@ -92,11 +92,11 @@ fn read_pixel() -> Asked {
 }
 
 // A row and its weight, each at its place.
-fn share_at(row_place: usize, weight_place: usize) -> ShareGiven {
-    let Given::Value(row) = value_at(row_place, MOST_ROW) else {
+fn share_at(host: &Host, row_place: usize, weight_place: usize) -> ShareGiven {
+    let Given::Value(row) = value_at(host, row_place, MOST_ROW) else {
         return ShareGiven::Unclear;
     };
-    let Weight::Value(weight) = weight_at(weight_place) else {
+    let Weight::Value(weight) = weight_at(host, weight_place) else {
         return ShareGiven::Unclear;
     };
     ShareGiven::Both(Share {
@@ -106,23 +106,23 @@ fn share_at(row_place: usize, weight_place: usize) -> ShareGiven {
 }
 
 // Six rows, then their weights in the same order.
-fn shares_given() -> SharesGiven {
-    let ShareGiven::Both(first) = share_at(5, 11) else {
+fn shares_given(host: &Host) -> SharesGiven {
+    let ShareGiven::Both(first) = share_at(host, 5, 11) else {
         return SharesGiven::Unclear;
     };
-    let ShareGiven::Both(second) = share_at(6, 12) else {
+    let ShareGiven::Both(second) = share_at(host, 6, 12) else {
         return SharesGiven::Unclear;
     };
-    let ShareGiven::Both(third) = share_at(7, 13) else {
+    let ShareGiven::Both(third) = share_at(host, 7, 13) else {
         return SharesGiven::Unclear;
     };
-    let ShareGiven::Both(fourth) = share_at(8, 14) else {
+    let ShareGiven::Both(fourth) = share_at(host, 8, 14) else {
         return SharesGiven::Unclear;
     };
-    let ShareGiven::Both(fifth) = share_at(9, 15) else {
+    let ShareGiven::Both(fifth) = share_at(host, 9, 15) else {
         return SharesGiven::Unclear;
     };
-    let ShareGiven::Both(sixth) = share_at(10, 16) else {
+    let ShareGiven::Both(sixth) = share_at(host, 10, 16) else {
         return SharesGiven::Unclear;
     };
     SharesGiven::All(Shares {
@@ -136,23 +136,23 @@ fn shares_given() -> SharesGiven {
 }
 
 // The thirteen numbers of a line, behind the word that announces it; then perhaps the option.
-fn read_line() -> Asked {
-    let Given::Value(raw) = value_at(4, MOST) else {
+fn read_line(host: &Host) -> Asked {
+    let Given::Value(raw) = value_at(host, 4, MOST) else {
         return Asked::Unclear;
     };
-    let SharesGiven::All(shares) = shares_given() else {
+    let SharesGiven::All(shares) = shares_given(host) else {
         return Asked::Unclear;
     };
-    let Given::Value(corrected) = corrected_width(17, raw) else {
+    let Given::Value(corrected) = corrected_width(host, 17, raw) else {
         return Asked::Unclear;
     };
     let bits = Bits { raw, corrected };
     Asked::Plainly(Question::Line { bits, shares })
 }
 
-pub fn read_arguments() -> Asked {
-    if is_word_at(3, b"--line") {
-        return read_line();
+pub fn read_arguments(host: &Host) -> Asked {
+    if is_word_at(host, 3, b"--line") {
+        return read_line(host);
     }
-    read_pixel()
+    read_pixel(host)
 }

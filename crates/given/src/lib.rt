@@ -9,7 +9,7 @@ ghost use Rattle.desk.specs.Arguments.{argument_of};
 ghost use Rattle.given.specs.Written.{value_by, weight_by, weight_of};
 ghost use Rattle.given.specs.declared.Weight.TheVariants.{Value};
 
-use desk::{Argument, Last, number_in, option_at};
+use desk::{Argument, Host, Last, argument, number_in, option_at};
 use rules::Depth;
 
 // The greatest code of any depth. No depth has more bits either.
@@ -46,17 +46,17 @@ fn value_in(text: &[u8], most: u32) -> Given
 }
 
 // The argument at a place; one that is missing, empty or longer than a path is no number.
-pub fn value_at(place: usize, most: u32) -> Given
+pub fn value_at(host: &Host, place: usize, most: u32) -> Given
     requires { most < row_limit }
 {
     let mut text = io::buffer();
-    let n = os::arg(place, &mut text);
+    let n = argument(host, place, &mut text);
     value_in(&text[..n], most)
 }
 
 // The depth of the corrected codes: the raw one, where nothing more is given from a place on.
-pub fn corrected_width(place: usize, raw: u32) -> Given {
-    match option_at(place, b"--corrected-bits", MOST as u64) {
+pub fn corrected_width(host: &Host, place: usize, raw: u32) -> Given {
+    match option_at(host, place, b"--corrected-bits", MOST as u64) {
         Last::Nothing => Given::Value(raw),
         Last::Number(n) => Given::Value(n as u32),
         Last::TooGreat => Given::Value(MOST + 1),
@@ -100,8 +100,8 @@ fn weight_in(text: &[u8]) -> Weight
 }
 
 // The weight at a place; an argument that is missing, empty or longer than a path is none.
-pub fn weight_at(place: usize) -> Weight {
+pub fn weight_at(host: &Host, place: usize) -> Weight {
     let mut text = io::buffer();
-    let n = os::arg(place, &mut text);
+    let n = argument(host, place, &mut text);
     weight_in(&text[..n])
 }

@@ -10,37 +10,36 @@ ghost use Rattle.desk.specs.Outcomes.{EndsAs};
 ghost use Rattle.invert.specs.Saying.{said_of, end_of};
 
 use answers::find;
-use desk::{Loaded, Outcome, load_argument};
-use libc::STDERR_FILENO;
+use desk::{Host, Loaded, Outcome, load_argument};
 use question::{Asked, Question, read_arguments};
 use rules::Description;
 use show::{PROGRAM, show_said};
 pub use words::help;
 
 // A question, answered by a table that was loaded.
-fn answer(d: Description, table: &[i64], question: Question) -> Outcome
+fn answer(host: &mut Host, d: Description, table: &[i64], question: Question) -> Outcome
     ensures { EndsAs (end_of (said_of d table.now question)) result }
 {
-    show_said(question, find(d, table, question))
+    show_said(host, question, find(d, table, question))
 }
 
 // By the table that the argument after the verb names.
-fn answer_by(file: &mut [u8], table: &mut [i64], question: Question) -> Outcome {
-    match load_argument(&PROGRAM, 2, file, &mut *table) {
+fn answer_by(host: &mut Host, file: &mut [u8], table: &mut [i64], question: Question) -> Outcome {
+    match load_argument(host, &PROGRAM, 2, file, &mut *table) {
         Loaded::Table {
             description,
             bytes: _,
-        } => answer(description, table, question),
+        } => answer(host, description, table, question),
         Loaded::Refused => Outcome::Refused,
         Loaded::Unread => Outcome::Failed,
     }
 }
 
 // The question that the arguments ask, answered with lent space for the file and the table.
-pub fn invert(file: &mut [u8], table: &mut [i64]) -> Outcome {
-    let Asked::Plainly(question) = read_arguments() else {
-        help(STDERR_FILENO);
+pub fn invert(host: &mut Host, file: &mut [u8], table: &mut [i64]) -> Outcome {
+    let Asked::Plainly(question) = read_arguments(host) else {
+        help(&mut host.err);
         return Outcome::Failed;
     };
-    answer_by(file, table, question)
+    answer_by(host, file, table, question)
 }

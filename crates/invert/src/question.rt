@@ -1,5 +1,5 @@
 // The arguments after the verb and the table: a depth, a colour, a wanted code and a tolerance; then perhaps an option.
-use desk::is_word_at;
+use desk::{Host, is_word_at};
 use given::{Given, MOST, corrected_width, value_at};
 use rules::{Bits, Colour};
 
@@ -25,33 +25,33 @@ enum ColourGiven {
     Unclear,
 }
 
-fn colour_at(place: usize) -> ColourGiven {
-    if is_word_at(place, b"red") {
+fn colour_at(host: &Host, place: usize) -> ColourGiven {
+    if is_word_at(host, place, b"red") {
         return ColourGiven::Named(Colour::Red);
     }
-    if is_word_at(place, b"green") {
+    if is_word_at(host, place, b"green") {
         return ColourGiven::Named(Colour::Green);
     }
-    if is_word_at(place, b"blue") {
+    if is_word_at(host, place, b"blue") {
         return ColourGiven::Named(Colour::Blue);
     }
     ColourGiven::Unclear
 }
 
-pub fn read_arguments() -> Asked {
-    let Given::Value(raw) = value_at(3, MOST) else {
+pub fn read_arguments(host: &Host) -> Asked {
+    let Given::Value(raw) = value_at(host, 3, MOST) else {
         return Asked::Unclear;
     };
-    let ColourGiven::Named(colour) = colour_at(4) else {
+    let ColourGiven::Named(colour) = colour_at(host, 4) else {
         return Asked::Unclear;
     };
-    let Given::Value(wanted) = value_at(5, MOST) else {
+    let Given::Value(wanted) = value_at(host, 5, MOST) else {
         return Asked::Unclear;
     };
-    let Given::Value(tolerance) = value_at(6, MOST) else {
+    let Given::Value(tolerance) = value_at(host, 6, MOST) else {
         return Asked::Unclear;
     };
-    let Given::Value(corrected) = corrected_width(7, raw) else {
+    let Given::Value(corrected) = corrected_width(host, 7, raw) else {
         return Asked::Unclear;
     };
     Asked::Plainly(Question {

@@ -1,49 +1,49 @@
 // What the verb does and how it is called.
-use desk::write;
+use desk::{Output, write};
 
-pub fn help(fd: i32) -> bool {
-    usage(fd) && arguments(fd) && examples(fd)
+pub fn help(out: &mut Output) -> bool {
+    usage(out) && arguments(out) && examples(out)
 }
 
-fn usage(fd: i32) -> bool {
+fn usage(out: &mut Output) -> bool {
     write(
-        fd,
+        out,
         b"usage: erythmoda invert TABLE BITS COLOUR CODE TOLERANCE [--corrected-bits BITS]\n",
     ) && write(
-        fd,
+        out,
         b"Finds the raw code that a 1D .cube table corrects to a wanted code in one colour, or comes nearest to it, the lowest if several do.\n",
     ) && write(
-        fd,
+        out,
         b"Raw codes are tried from 0 up to the first exact hit; without one the whole range is searched, and where the nearest code is off by\n",
     ) && write(
-        fd,
+        out,
         b"more than TOLERANCE that is a refusal. The count of codes tried is said with the answer.\n",
     )
 }
 
-fn arguments(fd: i32) -> bool {
+fn arguments(out: &mut Output) -> bool {
     write(
-        fd,
+        out,
         b"  TABLE      the name of a .cube file, of a 1D table\n",
     ) && write(
-        fd,
+        out,
         b"  BITS       the depth of the raw codes: 8, 10, 12 or 16\n",
-    ) && write(fd, b"  COLOUR     red, green or blue\n")
-        && write(fd, b"  CODE       the wanted corrected code\n")
+    ) && write(out, b"  COLOUR     red, green or blue\n")
+        && write(out, b"  CODE       the wanted corrected code\n")
         && write(
-            fd,
+            out,
             b"  TOLERANCE  how many codes off it may be, 0 or more\n",
         )
         && write(
-            fd,
+            out,
             b"  --corrected-bits BITS  the depth of the corrected codes, if it is another one\n",
         )
 }
 
-fn examples(fd: i32) -> bool {
-    write(fd, b"example: erythmoda invert lamp.cube 8 red 128 0\n")
+fn examples(out: &mut Output) -> bool {
+    write(out, b"example: erythmoda invert lamp.cube 8 red 128 0\n")
         && write(
-            fd,
+            out,
             b"example: erythmoda invert lamp.cube 12 green 32768 16 --corrected-bits 16\n",
         )
 }

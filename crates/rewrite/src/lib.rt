@@ -7,8 +7,7 @@ mod words;
 ghost use Rattle.rules.specs.Writing.{title_bytes};
 ghost use Rattle.rewrite.specs.Anew.{Rewrites, TitleWithin, Printable};
 
-use desk::{Loaded, Outcome, load_argument, say, say_refusal};
-use libc::STDERR_FILENO;
+use desk::{Host, Loaded, Outcome, load_argument, say, say_refusal, word_at};
 use rules::{Description, Refusal, Write};
 use titles::{Wanted, marked, title_wanted};
 pub use words::help;
@@ -17,67 +16,66 @@ use writing::write;
 const PROGRAM: [u8; 17] = *b"erythmoda rewrite";
 
 // The text on standard output; or why there is none, on standard error.
-fn print(answer: Write, text: &[u8]) -> Outcome
+fn print(host: &mut Host, answer: Write, text: &[u8]) -> Outcome
     requires { Printable answer text.now }
 {
     match answer {
         Write::Accepted(length) => {
-            let written = say(&text[..length]);
-            Outcome::Done.if_written(written, &PROGRAM)
+            let written = say(host, &text[..length]);
+            Outcome::Done.if_written(host, written, &PROGRAM)
         }
         Write::Refused(reason) => {
-            say_refusal(&PROGRAM, reason);
+            say_refusal(host, &PROGRAM, reason);
             Outcome::Refused
         }
     }
 }
 
 // A table with this title, where the description marks one.
-fn write_anew(d: Description, table: &[i64], title: &[u8], text: &mut [u8]) -> Outcome
+fn write_anew(host: &mut Host, d: Description, table: &[i64], title: &[u8], text: &mut [u8]) -> Outcome
     ensures { Rewrites d table.now title.now text.old text.new }
 {
     let answer = write(d, table, title, &mut *text);
-    print(answer, text)
+    print(host, answer, text)
 }
 
 // With the title that its file has.
-fn keep_title(d: Description, file: &[u8], table: &[i64], text: &mut [u8]) -> Outcome
+fn keep_title(host: &mut Host, d: Description, file: &[u8], table: &[i64], text: &mut [u8]) -> Outcome
     requires { TitleWithin d file.now }
     ensures { Rewrites d table.now (title_bytes file.now d.title) text.old text.new }
 {
     let title = d.title;
     let first = title.place;
     let end = first + title.length;
-    write_anew(d, table, &file[first..end], text)
+    write_anew(host, d, table, &file[first..end], text)
 }
 
 // With the title that the last argument is; one too long for an argument's space is too long for a title.
-fn new_title(d: Description, table: &[i64], text: &mut [u8]) -> Outcome {
+fn new_title(host: &mut Host, d: Description, table: &[i64], text: &mut [u8]) -> Outcome {
     let mut title = io::buffer();
-    let n = os::arg(4, &mut title);
-    if os::errno() != 0 {
-        say_refusal(&PROGRAM, Refusal::TitleNotPlain);
+    let Some(n) = word_at(host, 4, &mut title) else {
+        say_refusal(host, &PROGRAM, Refusal::TitleNotPlain);
         return Outcome::Refused;
-    }
-    write_anew(marked(d, true), table, &title[..n], text)
+    };
+    write_anew(host, marked(d, true), table, &title[..n], text)
 }
 
 // With the title that is wanted.
-fn retitle(d: Description, file: &[u8], table: &[i64], wanted: Wanted, text: &mut [u8]) -> Outcome
+fn retitle(host: &mut Host, d: Description, file: &[u8], table: &[i64], wanted: Wanted, text: &mut [u8]) -> Outcome
     requires { TitleWithin d file.now }
 {
     match wanted {
-        Wanted::Kept => keep_title(d, file, table, text),
-        Wanted::New => new_title(d, table, text),
-        Wanted::Nothing => write_anew(marked(d, false), table, b"", text),
+        Wanted::Kept => keep_title(host, d, file, table, text),
+        Wanted::New => new_title(host, d, table, text),
+        Wanted::Nothing => write_anew(host, marked(d, false), table, b"", text),
     }
 }
 
 // The table that the argument after the verb names.
-fn rewrite_by(file: &mut [u8], table: &mut [i64], wanted: Wanted, text: &mut [u8]) -> Outcome {
-    match load_argument(&PROGRAM, 2, &mut *file, &mut *table) {
+fn rewrite_by(host: &mut Host, file: &mut [u8], table: &mut [i64], wanted: Wanted, text: &mut [u8]) -> Outcome {
+    match load_argument(host, &PROGRAM, 2, &mut *file, &mut *table) {
         Loaded::Table { description, bytes } => {
-            retitle(description, &file[..bytes], table, wanted, text)
+            retitle(host, description, &file[..bytes], table, wanted, text)
         }
         Loaded::Refused => Outcome::Refused,
         Loaded::Unread => Outcome::Failed,
@@ -85,11 +83,11 @@ fn rewrite_by(file: &mut [u8], table: &mut [i64], wanted: Wanted, text: &mut [u8
 }
 
 // What the arguments ask for, in lent space for the file, the table and the text.
-pub fn rewrite(file: &mut [u8], table: &mut [i64], text: &mut [u8]) -> Outcome {
-    let asked = title_wanted();
+pub fn rewrite(host: &mut Host, file: &mut [u8], table: &mut [i64], text: &mut [u8]) -> Outcome {
+    let asked = title_wanted(host);
     let titles::Asked::For(wanted) = asked else {
-        help(STDERR_FILENO);
+        help(&mut host.err);
         return Outcome::Failed;
     };
-    rewrite_by(file, table, wanted, text)
+    rewrite_by(host, file, table, wanted, text)
 }

@@ -2,7 +2,7 @@
 ghost use Rattle.std.specs.Prelude.{◌≡◌};
 ghost use Rattle.rewrite.specs.Anew.{marked};
 
-use desk::is_word_at;
+use desk::{Host, argument_count, is_word_at};
 use rules::{Description, Title};
 
 // The old title, if any; the one that is given; or none.
@@ -20,15 +20,15 @@ pub enum Asked {
 }
 
 // By what stands after the table's name.
-pub fn title_wanted() -> Asked {
-    let count = os::arg_count();
+pub fn title_wanted(host: &Host) -> Asked {
+    let count = argument_count(host);
     if count == 3 {
         return Asked::For(Wanted::Kept);
     }
-    if count == 4 && is_word_at(3, b"--no-title") {
+    if count == 4 && is_word_at(host, 3, b"--no-title") {
         return Asked::For(Wanted::Nothing);
     }
-    if count == 5 && is_word_at(3, b"--title") {
+    if count == 5 && is_word_at(host, 3, b"--title") {
         return Asked::For(Wanted::New);
     }
     Asked::Unclear

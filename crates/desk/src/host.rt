@@ -1,0 +1,476 @@
+// What a program at the desk runs on: its arguments, its files, the two streams that it writes, and why the system last failed.
+ghost use Rattle.std.specs.Prelude.{◌≤◌, IfSome, length};
+ghost use Rattle.std.specs.Io.{ReadsAtMost};
+
+use std::alloc::Global;
+use std::env::FillError;
+use std::fs::{File, OpenOptions};
+use std::io::{Read, Write};
+use std::rt::{Env, Files};
+use std::{fmt, fs, io, str};
+
+// What Linux calls a name that is no text (EILSEQ). Names are UTF-8 here.
+const NOT_TEXT: i32 = 84;
+
+// What it calls a file that cannot be brought to a disk, as a device or a pipe cannot (EINVAL).
+const NO_FILE: i32 = 22;
+
+// The longest of the system's words.
+const MOST_WORDS: usize = 256;
+
+// ---- where bytes come from
+
+#[derive(Drop)]
+enum Source {
+    Stream(io::Stdin),
+    Opened(File),
+    Held { bytes: Vec<u8>, at: usize },
+}
+
+// The next bytes of those that are held, as far as there is space.
+fn next_held(bytes: &[u8], at: &mut usize, space: &mut [u8]) -> usize
+    ensures { result ≤ length space.new }
+{
+    let from = *at;
+    if from >= bytes.len() {
+        return 0;
+    }
+    let rest = &bytes[from..];
+    let n = if rest.len() < space.len() {
+        rest.len()
+    } else {
+        space.len()
+    };
+    space[..n].copy_from_slice(&rest[..n]);
+    *at = from + n;
+    n
+}
+
+// Standard input, a file that is open to read, or bytes that were read before; and why the last reading failed, if it did.
+#[derive(Drop)]
+pub struct Input {
+    source: Source,
+    failure: Option<io::Error>,
+}
+
+impl Input {
+    pub fn standard(host: &Host) -> Input {
+        Input {
+            source: Source::Stream(host.rt.stdin()),
+            failure: None,
+        }
+    }
+
+    fn once(&mut self, space: &mut [u8]) -> io::Result<usize>
+        ensures { ReadsAtMost result space.new }
+    {
+        match &mut self.source {
+            Source::Stream(stream) => stream.read(space),
+            Source::Opened(file) => file.read(space),
+            Source::Held { bytes, at } => Ok(next_held(bytes, at, space)),
+        }
+    }
+
+    // How many bytes were read to the start of the space, 0 at the end of the input; or none, where it cannot be read.
+    pub fn read(&mut self, space: &mut [u8]) -> Option<usize>
+        ensures { IfSome result (λ n. n ≤ length space.new) }
+    {
+        match self.once(&mut *space) {
+            Ok(n) => Some(n),
+            Err(error) => {
+                self.failure = Some(error);
+                None
+            }
+        }
+    }
+
+    pub fn failure(&self) -> Option<io::Error> {
+        self.failure
+    }
+}
+
+// ---- where bytes go
+
+#[derive(Drop)]
+enum Sink {
+    Out(io::Stdout),
+    Err(io::Stderr),
+    Opened(File),
+}
+
+// Standard output, standard error or a file that is open to write, and why the last writing failed, if it did.
+#[derive(Drop)]
+pub struct Output {
+    sink: Sink,
+    failure: Option<io::Error>,
+}
+
+impl Output {
+    pub fn standard(host: &Host) -> Output {
+        Output::to(Sink::Out(host.rt.stdout()))
+    }
+
+    fn to(sink: Sink) -> Output {
+        Output {
+            sink,
+            failure: None,
+        }
+    }
+
+    fn put(&mut self, text: &[u8]) -> io::Result<()> {
+        match &mut self.sink {
+            Sink::Out(stream) => stream.write_all(text),
+            Sink::Err(stream) => stream.write_all(text),
+            Sink::Opened(file) => file.write_all(text),
+        }
+    }
+
+    fn keep(&mut self) -> io::Result<()> {
+        match &self.sink {
+            Sink::Out(_) => Ok(()),
+            Sink::Err(_) => Ok(()),
+            Sink::Opened(file) => file.sync_all(),
+        }
+    }
+
+    fn succeeds(&mut self, done: io::Result<()>) -> bool {
+        match done {
+            Ok(()) => true,
+            Err(error) => {
+                self.failure = Some(error);
+                false
+            }
+        }
+    }
+
+    // Whether all of the text was written.
+    pub fn write(&mut self, text: &[u8]) -> bool {
+        let done = self.put(text);
+        self.succeeds(done)
+    }
+
+    // Whether what was written to a file is on its disk.
+    pub fn sync(&mut self) -> bool {
+        let done = self.keep();
+        self.succeeds(done)
+    }
+
+    pub fn failure(&self) -> Option<io::Error> {
+        self.failure
+    }
+}
+
+// ---- the program's surroundings
+
+// The system, standard output and standard error, the bytes of a file that was read before it is asked for, and why the last call that is about a name
+// failed, if one did.
+#[derive(Drop)]
+pub struct Host {
+    rt: HostRuntime,
+    pub out: Output,
+    pub err: Output,
+    held: Option<Vec<u8>>,
+    failure: Option<io::Error>,
+}
+
+impl Host {
+    pub fn of(rt: HostRuntime) -> Host {
+        Host {
+            rt,
+            out: Output::to(Sink::Out(rt.stdout())),
+            err: Output::to(Sink::Err(rt.stderr())),
+            held: None,
+            failure: None,
+        }
+    }
+
+    pub fn failure(&self) -> Option<io::Error> {
+        self.failure
+    }
+
+    // What was asked of the system, if it succeeded.
+    fn got<T: Drop>(&mut self, done: io::Result<T>) -> Option<T> {
+        match done {
+            Ok(value) => Some(value),
+            Err(error) => {
+                self.failure = Some(error);
+                None
+            }
+        }
+    }
+}
+
+// ---- arguments
+
+// The argument at a place, put at the start of the space, and how many bytes it has.
+pub fn word_at(host: &Host, place: usize, space: &mut [u8]) -> Option<usize>
+    ensures { IfSome result (λ n. n ≤ length space.new) }
+{
+    match host.rt.arg(place, space) {
+        Ok(n) => Some(n),
+        Err(_) => None,
+    }
+}
+
+// The same, as if one that is missing, or longer than the space, were empty.
+pub fn argument(host: &Host, place: usize, space: &mut [u8]) -> usize
+    ensures { result ≤ length space.new }
+{
+    match word_at(host, place, space) {
+        Some(n) => n,
+        None => 0,
+    }
+}
+
+// Whether there is an argument at a place.
+fn is_there(host: &Host, place: usize) -> bool {
+    let mut space = [0u8; 1];
+    match host.rt.arg(place, &mut space) {
+        Ok(_) => true,
+        Err(FillError::TooLong) => true,
+        Err(FillError::NotPresent) => false,
+    }
+}
+
+// More arguments than this are not counted.
+const MOST_ARGUMENTS: usize = 1_000_000_000;
+
+// How many arguments there are, the program's name among them.
+pub fn argument_count(host: &Host) -> usize {
+    for place in 0..MOST_ARGUMENTS {
+        if !is_there(host, place) {
+            return place;
+        }
+    }
+    MOST_ARGUMENTS
+}
+
+// ---- files
+
+// A name as text, which the system's library asks for.
+fn text_of(path: &[u8]) -> io::Result<&str> {
+    match str::from_utf8(path) {
+        Ok(text) => Ok(text),
+        Err(_) => Err(io::Error::from_raw_os_error(NOT_TEXT)),
+    }
+}
+
+fn open(rt: HostRuntime, path: &[u8]) -> io::Result<File> {
+    File::open(&rt, text_of(path)?)
+}
+
+// The file with this name, open to read; or none, and the host has the reason. Where a file is held, the first that is asked for is that one.
+pub fn open_input(host: &mut Host, path: &[u8]) -> Option<Input> {
+    if let Some(bytes) = host.held.take() {
+        return Some(Input {
+            source: Source::Held { bytes, at: 0 },
+            failure: None,
+        });
+    }
+    let opened = open(host.rt, path);
+    let file = host.got(opened)?;
+    Some(Input {
+        source: Source::Opened(file),
+        failure: None,
+    })
+}
+
+// How much is read at once of a file that is held.
+const CHUNK: usize = 65_536;
+
+// All bytes of a file, or the first ones up to one past the most.
+fn bytes_of(rt: HostRuntime, path: &[u8], most: usize) -> io::Result<Vec<u8>> {
+    let mut file = open(rt, path)?;
+    let mut bytes = Vec::new(rt.alloc());
+    let mut chunk = [0u8; CHUNK];
+    for _ in 0..u64::MAX {
+        let n = file.read(&mut chunk)?;
+        if n == 0 {
+            return Ok(bytes);
+        }
+        bytes.extend_from_slice(&chunk[..n])?;
+        if bytes.len() > most {
+            return Ok(bytes);
+        }
+    }
+    Ok(bytes)
+}
+
+// Reads the file with this name before it is asked for, so that it can be seen how much space it takes. Where that fails, nothing is held, and whoever
+// asks for it learns why.
+pub fn hold(host: &mut Host, path: &[u8], most: usize) {
+    host.held = match bytes_of(host.rt, path, most) {
+        Ok(bytes) => Some(bytes),
+        Err(_) => None,
+    };
+}
+
+impl Host {
+    // The bytes that are held, if a file is.
+    pub fn held(&self) -> &[u8] {
+        match &self.held {
+            Some(bytes) => bytes.as_slice(),
+            None => &[],
+        }
+    }
+
+    pub fn alloc(&self) -> Global {
+        self.rt.alloc()
+    }
+}
+
+fn create(rt: HostRuntime, path: &[u8]) -> io::Result<File> {
+    File::create_new(&rt, text_of(path)?)
+}
+
+// A new file with this name, which no file has yet, open to write; or none, and the host has the reason.
+pub fn create_output(host: &mut Host, path: &[u8]) -> Option<Output> {
+    let created = create(host.rt, path);
+    let file = host.got(created)?;
+    Some(Output::to(Sink::Opened(file)))
+}
+
+fn update(rt: HostRuntime, path: &[u8]) -> io::Result<File> {
+    let mut how = OpenOptions::new();
+    how.read(true);
+    how.write(true);
+    how.open(&rt, text_of(path)?)
+}
+
+// The file with this name, open to read and to write, with its bytes as they are; or none, and the host has the reason.
+pub fn open_update(host: &mut Host, path: &[u8]) -> Option<Output> {
+    let opened = update(host.rt, path);
+    let file = host.got(opened)?;
+    Some(Output::to(Sink::Opened(file)))
+}
+
+fn leads_on(rt: HostRuntime, path: &[u8]) -> io::Result<bool> {
+    let about = fs::symlink_metadata(&rt, text_of(path)?)?;
+    Ok(about.is_symlink())
+}
+
+// Whether this name is that of a link.
+pub fn is_link(host: &Host, path: &[u8]) -> bool {
+    match leads_on(host.rt, path) {
+        Ok(leads) => leads,
+        Err(_) => false,
+    }
+}
+
+fn move_to(rt: HostRuntime, from: &[u8], to: &[u8]) -> io::Result<()> {
+    fs::rename(&rt, text_of(from)?, text_of(to)?)
+}
+
+// Whether the file with one name has the other now.
+pub fn rename(host: &mut Host, from: &[u8], to: &[u8]) -> bool {
+    let done = move_to(host.rt, from, to);
+    host.got(done).is_some()
+}
+
+fn take_away(rt: HostRuntime, path: &[u8]) -> io::Result<()> {
+    fs::remove_file(&rt, text_of(path)?)
+}
+
+// Whether the file with this name is gone.
+pub fn remove(host: &mut Host, path: &[u8]) -> bool {
+    let done = take_away(host.rt, path);
+    host.got(done).is_some()
+}
+
+// How much there is to read under a name: so many bytes of a plain file, nothing of a folder or where no file has the name, or what nobody knows.
+#[derive(Clone, Copy)]
+pub enum Extent {
+    Bytes(u64),
+    Nothing,
+    Unknown,
+}
+
+fn measured(rt: HostRuntime, path: &[u8]) -> io::Result<Extent> {
+    let about = fs::metadata(&rt, text_of(path)?)?;
+    if about.is_dir() {
+        return Ok(Extent::Nothing);
+    }
+    if about.is_file() && about.len() > 0 {
+        return Ok(Extent::Bytes(about.len()));
+    }
+    Ok(Extent::Unknown)
+}
+
+pub fn extent_of(host: &Host, path: &[u8]) -> Extent {
+    match measured(host.rt, path) {
+        Ok(found) => found,
+        Err(_) => Extent::Nothing,
+    }
+}
+
+// ---- what failed
+
+// Whether it failed since no file has the name.
+pub fn is_missing(failure: Option<io::Error>) -> bool {
+    match failure {
+        Some(error) => error.kind() == io::ErrorKind::NotFound,
+        None => false,
+    }
+}
+
+// Whether it failed since a file has the name.
+pub fn is_taken(failure: Option<io::Error>) -> bool {
+    match failure {
+        Some(error) => error.kind() == io::ErrorKind::AlreadyExists,
+        None => false,
+    }
+}
+
+// Whether it failed since what is open is no file, but a device or a pipe.
+pub fn is_no_file(failure: Option<io::Error>) -> bool {
+    match failure {
+        Some(error) => error.raw_os_error() == Some(NO_FILE),
+        None => false,
+    }
+}
+
+// The first piece that a failure is written in: the system's own words, without the number of the error.
+#[derive(Drop)]
+struct Words {
+    text: [u8; MOST_WORDS],
+    length: usize,
+}
+
+impl fmt::Write for Words {
+    fn write_str(&mut self, piece: &str) -> fmt::Result {
+        if self.length > 0 {
+            return Ok(());
+        }
+        let bytes = piece.as_bytes();
+        let n = if bytes.len() < MOST_WORDS {
+            bytes.len()
+        } else {
+            MOST_WORDS
+        };
+        self.text[..n].copy_from_slice(&bytes[..n]);
+        self.length = n;
+        Ok(())
+    }
+}
+
+// Those words, behind what failed, as a line on standard error.
+pub fn say_failed(host: &mut Host, what: &[u8], failure: Option<io::Error>) {
+    host.err.write(what);
+    host.err.write(b": ");
+    if let Some(error) = failure {
+        write_words(&mut host.err, error);
+    }
+    host.err.write(b"\n");
+}
+
+fn write_words(out: &mut Output, error: io::Error) {
+    let mut words = Words {
+        text: [0u8; MOST_WORDS],
+        length: 0,
+    };
+    let _ = fmt::Write::write_fmt(&mut words, format_args!("{error}"));
+    let n = words.length;
+    if n < MOST_WORDS {
+        out.write(&words.text[..n]);
+    }
+}
