@@ -20,6 +20,7 @@ mod fours;
 mod judging;
 
 // No code above M.
+#[tactic(auto, unfolding(rules::specs::Looking::within))]
 fn codes_within(m: u16, pixel: Codes) -> bool
     ensures { result ≡ within m pixel }
 {
