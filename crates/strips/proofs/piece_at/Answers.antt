@@ -1,10 +1,7 @@
--- Each number on the way is held in 64 bits: a sample is at most 10^10 and a step twice as much, D and the parts of all codes are at most 10^8, and half the unit
--- is below 2^61.
 use Prim.Native.Nat.{ℕ, ◌+◌, ◌*◌, ◌≤◌, ◌<◌}
 use mathlib.Core.Path.{◌≡◌, sym, ap, subst, ◌∙◌}
 use mathlib.Core.List.{List}
 use native.Mathlib.Omega.{arith}
-use borrow.Author.Rules.{rules}
 use lib.IntN.{ℤ, pos, nat_abs, ◌+ℤ◌, ◌-ℤ◌, ◌*ℤ◌}
 use lib.ListN.{length, get_or}
 use mir.Syntax.{w64}
@@ -14,11 +11,12 @@ use Rattle.rules.specs.Units.{sample_limit, colour_place, sample_at}
 use Rattle.strips.specs.Strips.{Stripped, slope_parts, base_parts, step_of}
 use Rattle.strips.specs.declared.Strip.{Strip}
 use Rattle.strips.proofs.Pieces.{place_inside, sample-most, den-most, codes-most, slope-parts-most, cell-most, half-small, start-most}
-use Rattle.strips.proofs.piece_at.Statement.{statement}
-use Rattle.strips.proofs.piece_at.Tie as tie
+use Rattle.strips.proofs.piece_at.Goals as goal
+use Rattle.strips.proofs.piece_at.Goals.{After-colour_place}
 
+-- Each number on the way is held in 64 bits: a sample is at most 10^10 and a step twice as much, D and the parts of all codes are at most 10^8, and half the unit
+-- is below 2^61.
 -- ---- sum, difference and product of 64 bits
-
 abbrev plus : ℕ → ℕ → ℕ
 plus x y = of_z w64 (to_z w64 x +ℤ to_z w64 y)
 
@@ -29,7 +27,6 @@ abbrev times : ℕ → ℕ → ℕ
 times x y = of_z w64 (to_z w64 x *ℤ to_z w64 y)
 
 -- ---- the numbers of a cell
-
 -- a cell of a strip, and where its colour stands in a row
 record Cell (strip : Strip) (table : List ℤ) (i place : ℕ) : Type 0 where
   stripped : Stripped strip table
@@ -102,126 +99,48 @@ module _ {strip : Strip} {table : List ℤ} {i place : ℕ} (q : Cell strip tabl
     both = add first further (omega arith)
 
 -- ---- the two places of the table
+cell : (c : After-colour_place) → Cell c.args.strip c.args.table.now c.args.i c.colour_place.result
+cell c = record { stripped = c.requires.stripped; below = c.requires.i_lt_cells; place_is = c.colour_place.ensures }
 
-cell : (c : tie.After-colour-place) → let b = c.before.before.before in Cell b.args.strip b.args.table.now b.args.i c.colour-place.result
-cell c = let b = c.before.before.before in record { stripped = b.requires.0; below = b.requires.1; place_is = c.colour-place.ensures }
+pub bounds-table-at : goal.bounds-table-at
+bounds-table-at c = lower-inside (cell c)
 
-mul_at : tie.Need-overflow-mul-at
-mul_at c = search rules
-
-colour-place-requires : tie.Need-colour-place-requires
-colour-place-requires c κs = search rules
-
-add_at : tie.Need-overflow-add-at
-add_at c = record { fits = omega (arith, lower-inside (cell c)) }
-
-mul-lower : tie.Need-overflow-mul-lower
-mul-lower c = record { fits = omega (arith, lower-inside (cell c)) }
-
-shared-slice-copy-out-lower : tie.Need-shared-slice-copy-out-lower
-shared-slice-copy-out-lower c = lower-inside (cell c)
-
-add_step : tie.Need-overflow-add-step
-add_step c = record { fits = omega (arith, upper-inside (cell c.before)) }
-
-mul-step : tie.Need-overflow-mul-step
-mul-step c = record { fits = omega (arith, upper-inside (cell c.before)) }
-
-shared-slice-copy-out-step : tie.Need-shared-slice-copy-out-step
-shared-slice-copy-out-step c = upper-inside (cell c.before)
+pub bounds-table-at-2 : goal.bounds-table-at-2
+bounds-table-at-2 c = upper-inside (cell (goal.at.bounds-table-at-2 c).After-colour_place)
 
 -- ---- the step and the slope
+pub overflow_sub-step : goal.overflow_sub-step
+overflow_sub-step c = let q = cell (goal.at.overflow_sub-step c).After-colour_place in sub-ok (upper q) (lower q) (omega arith)
 
-sub-step : tie.Need-overflow-sub-step
-sub-step c = let q = cell c.before.before in sub-ok (upper q) (lower q) (omega arith)
+pub overflow_mul-slope : goal.overflow_mul-slope
+overflow_mul-slope c = record { fits = omega (arith, (each (cell (goal.at.overflow_mul-slope c).After-colour_place)).within) }
 
-abbrev at-slope : tie.After-struct-known → tie.After-colour-place
-at-slope c = c.before.before.before
+pub overflow_cast-slope : goal.overflow_cast-slope
+overflow_cast-slope c = record { sfits = omega (arith, (each (cell (goal.at.overflow_cast-slope c).After-colour_place)).within) }
 
-mul-slope : tie.Need-overflow-mul-slope
-mul-slope c = record { fits = omega (arith, (each (cell (at-slope c))).within) }
-
-cast-slope : tie.Need-overflow-cast-slope
-cast-slope c = record { sfits = omega (arith, (each (cell (at-slope c))).within) }
-
-mul-slope-2 : tie.Need-overflow-mul-slope-2
-mul-slope-2 c = let q = cell (at-slope c) in mul_ok (each q) (step q) (omega arith)
+pub overflow_mul-slope-2 : goal.overflow_mul-slope-2
+overflow_mul-slope-2 c = let q = cell (goal.at.overflow_mul-slope-2 c).After-colour_place in mul_ok (each q) (step q) (omega arith)
 
 -- ---- the base
+pub overflow_sub-start : goal.overflow_sub-start
+overflow_sub-start c = let q = cell (goal.at.overflow_sub-start c).After-colour_place in sub-ok (from q c.size.ensures) (before q) (omega arith)
 
-abbrev at_base : tie.After-size → tie.After-colour-place
-at_base c = at-slope c.before
+pub overflow_mul-base : goal.overflow_mul-base
+overflow_mul-base c = let q = cell (goal.at.overflow_mul-base c).After-colour_place in mul_ok (wide q) (lower q) (omega arith)
 
-size-requires : tie.Need-size-requires
-size-requires c κs = search rules
+pub overflow_mul-base-2 : goal.overflow_mul-base-2
+overflow_mul-base-2 c = let q = cell (goal.at.overflow_mul-base-2 c).After-colour_place in mul_ok (start q c.size.ensures) (step q) (omega arith)
 
-mul-start : tie.Need-overflow-mul-start
-mul-start c = record { fits = omega (arith, from-most (cell (at_base c)) c.size.ensures) }
+pub overflow_add-base : goal.overflow_add-base
+overflow_add-base c = let q = cell (goal.at.overflow_add-base c).After-colour_place in add_ok (first q) (further q c.size.ensures) (omega arith)
 
-cast-start : tie.Need-overflow-cast-start
-cast-start c = record { sfits = omega (arith, from-most (cell (at_base c)) c.size.ensures) }
+pub overflow_add-base-2 : goal.overflow_add-base-2
+overflow_add-base-2 c = let q = cell (goal.at.overflow_add-base-2 c).After-colour_place in add_ok (both q c.size.ensures) (half q) (omega arith)
 
-mul-start-2 : tie.Need-overflow-mul-start-2
-mul-start-2 c = record { fits = omega (arith, (before (cell (at_base c.before))).within) }
-
-cast-start-2 : tie.Need-overflow-cast-start-2
-cast-start-2 c = record { sfits = omega (arith, (before (cell (at_base c.before))).within) }
-
-sub-start : tie.Need-overflow-sub-start
-sub-start c = let q = cell (at_base c.before) in sub-ok (from q c.before.size.ensures) (before q) (omega arith)
-
-cast-base : tie.Need-overflow-cast-base
-cast-base c = record { sfits = omega (arith, (wide (cell (at_base c.before.before))).within) }
-
-mul-base : tie.Need-overflow-mul-base
-mul-base c = let q = cell (at_base c.before.before) in mul_ok (wide q) (lower q) (omega arith)
-
-mul-base-2 : tie.Need-overflow-mul-base-2
-mul-base-2 c = let q = cell (at_base c.before.before) in mul_ok (start q c.before.before.size.ensures) (step q) (omega arith)
-
-add-base : tie.Need-overflow-add-base
-add-base c = let q = cell (at_base c.before.before) in add_ok (first q) (further q c.before.before.size.ensures) (omega arith)
-
-cast-base-2 : tie.Need-overflow-cast-base-2
-cast-base-2 c = record { sfits = omega (arith, (half (cell (at_base c.before.before.before))).within) }
-
-add-base-2 : tie.Need-overflow-add-base-2
-add-base-2 c = let q = cell (at_base c.before.before.before) in add_ok (both q c.before.before.before.size.ensures) (half q) (omega arith)
-
-returns : tie.Need-returns
+pub returns : goal.returns
 returns c =
-    let q = cell (at_base c.before.before.before) in
+    let q = cell (goal.at.returns c).After-colour_place in
     record {
       slope_is = (mul (each q) (step q) (omega arith)).reads;
-      base_is = (add (both q c.before.before.before.size.ensures) (half q) (omega arith)).reads;
+      base_is = (add (both q c.size.ensures) (half q) (omega arith)).reads;
     }
-
-pub piece-at-spec : {M : Type 1} → statement M
-piece-at-spec =
-    tie.close
-    (tie.spec
-    mul_at
-    colour-place-requires
-    add_at
-    mul-lower
-    shared-slice-copy-out-lower
-    add_step
-    mul-step
-    shared-slice-copy-out-step
-    sub-step
-    mul-slope
-    cast-slope
-    mul-slope-2
-    size-requires
-    mul-start
-    cast-start
-    mul-start-2
-    cast-start-2
-    sub-start
-    cast-base
-    mul-base
-    mul-base-2
-    add-base
-    cast-base-2
-    add-base-2
-    returns)

@@ -1,12 +1,9 @@
--- The lane leads to a cell of the strip, and the piece of the cell gives the sum over D and half a unit, held in 64 bits. Below 0 the code is 0, above the top it
--- is M, and in between the reciprocal gives it.
 use Prim.Native.Nat.{ℕ, ◌*◌, ◌/◌, ◌≤◌, ◌<◌}
 use mathlib.Core.Path.{◌≡◌, sym, ap, subst, ◌∙◌}
 use mathlib.Core.Bool.{true, false}
 use mathlib.Core.List.{List}
 use native.Mathlib.Nat as NatL
 use native.Mathlib.Omega.{arith}
-use borrow.Author.Rules.{rules}
 use lib.IntN.{ℤ, pos, nat_abs, ◌+ℤ◌, ◌*ℤ◌}
 use lib.ListN.{length, get_or}
 use lib.Signed.{lt_z}
@@ -14,18 +11,18 @@ use mir.Syntax.{w64}
 use mir.Val.{SFits, to_z, of_z}
 use Rattle.whole.specs.Integers.{up}
 use Rattle.whole.specs.Nearest.{code}
-use Rattle.whole.proofs.Held.{Held, abs-fits, of, cast, add, add_ok, negative, not_negative, as-u64-ok, as-u64}
+use Rattle.whole.proofs.Held.{Held, abs-fits, of, cast, add, add_ok, negative, not_negative, as-u64}
 use Rattle.whole.proofs.NearestLaws.{code-top}
 use Rattle.rules.specs.Looking.{line_code}
 use Rattle.lanes.specs.Lanes.{spot_of, index_by}
 use Rattle.strips.specs.Strips.{slope_of, base_of, StripAt}
 use Rattle.strips.specs.declared.Strip.{Strip}
 use Rattle.strips.proofs.Pieces as P
-use Rattle.strips.proofs.strip_code.Statement.{statement}
-use Rattle.strips.proofs.strip_code.Tie as tie
+use Rattle.strips.proofs.strip_code.Goals as goal
 
+-- The lane leads to a cell of the strip, and the piece of the cell gives the sum over D and half a unit, held in 64 bits. Below 0 the code is 0, above the top it
+-- is M, and in between the reciprocal gives it.
 -- ---- the sum of a code, and its own code
-
 module _ {strip : Strip} {table slopes bases : List ℤ} {c : ℕ} (s : StripAt strip table slopes bases c) where
   abbrev i : ℕ
   i = index_by strip.lane c
@@ -117,89 +114,35 @@ module _ {strip : Strip} {table slopes bases : List ℤ} {c : ℕ} (s : StripAt 
         ∙ P.moved_inside s.stripped sum_at (not_negative sum e) (subst (λ n. n ≤ strip.top) above-is h)
         ∙ sym own_is
 
--- ---- the cell
-
-cast-spot : tie.Need-overflow-cast-spot
-cast-spot c = search rules
-
-mul-spot : tie.Need-overflow-mul-spot
-mul-spot c = record { fits = omega (arith, product_most c.before.before.requires.1) }
-
-add-spot : tie.Need-overflow-add-spot
-add-spot c = record { fits = omega (arith, spot-most c.before.before.before.requires.1) }
-
-mul-n : tie.Need-overflow-mul-n
-mul-n c = record { fits = omega (arith, spot-most c.before.before.before.requires.1) }
-
-shared-slice-copy-out-n : tie.Need-shared-slice-copy-out-n
-shared-slice-copy-out-n c = in-slopes c.before.before.before.requires.1
+pub bounds-slopes-i : goal.bounds-slopes-i
+bounds-slopes-i c = in-slopes c.requires.1
 
 -- ---- the sum
+pub overflow_mul-n : goal.overflow_mul-n
+overflow_mul-n c = grown-ok c.requires.1
 
-abbrev begin : tie.After-n2 → tie.Start
-begin c = c.before.before.before.before.before
+pub bounds-bases-i : goal.bounds-bases-i
+bounds-bases-i c = in-bases c.requires.1
 
-cast-n : tie.Need-overflow-cast-n
-cast-n c = search rules
-
-mul-n-2 : tie.Need-overflow-mul-n-2
-mul-n-2 c = grown-ok c.before.before.before.before.requires.1
-
-mul-n-3 : tie.Need-overflow-mul-n-3
-mul-n-3 c = record { fits = omega (arith, spot-most c.before.before.before.before.requires.1) }
-
-shared-slice-copy-out-n-2 : tie.Need-shared-slice-copy-out-n-2
-shared-slice-copy-out-n-2 c = in-bases c.before.before.before.before.requires.1
-
-add-n : tie.Need-overflow-add-n
-add-n c = sum-ok (begin c).requires.1
+pub overflow_add-n : goal.overflow_add-n
+overflow_add-n c = sum-ok c.requires.1
 
 -- ---- its code
+pub returns-then-n-lt0 : goal.returns-then-n-lt0
+returns-then-n-lt0 c table s = below-0 s c.if-n-lt0.true
 
-returns : tie.Need-returns
-returns c table s = below-0 s c.if1.true
+pub returns-then-above-strip : goal.returns-then-above-strip
+returns-then-above-strip c table s = above-top s c.if-n-lt0.false c.if-above-strip.true
 
-cast-above : tie.Need-overflow-cast-above
-cast-above c = let h = sum (begin c.before).requires.1 in as-u64-ok h (omega arith) (not_negative h c.if1.false)
+pub quotient-requires : goal.quotient-requires
+quotient-requires c = P.divides-to-top c.requires.1.stripped _ c.if-above-strip.false
 
-returns-2 : tie.Need-returns-2
-returns-2 c table s = above-top s c.before.before.if1.false c.if2.true
+divided : (c : goal.After-quotient) (table : List ℤ) (s : StripAt c.args.strip table c.args.slopes.now c.args.bases.now c.args.code)
+    → c.quotient.result ≡ own s
+divided c table s = c.quotient.ensures ∙ inside-top s c.if-n-lt0.false c.if-above-strip.false
 
-quotient-requires : tie.Need-quotient-requires
-quotient-requires c κs =
-    let inside = c.before in
-    P.divides-to-top (begin inside.before.before.before).requires.1.stripped _ inside.if2.false
+pub overflow_cast-result : goal.overflow_cast-result
+overflow_cast-result c = record { fits = omega (arith, divided c c.requires.0 c.requires.1, own-most c.requires.1) }
 
-divided : (c : tie.After-quotient) (table : List ℤ)
-    → let a = (begin c.before.before.before.before.before).args in
-    (s : StripAt a.strip table a.slopes.now a.bases.now a.code) → c.quotient.result ≡ own s
-divided c table s = let inside = c.before.before in c.quotient.ensures ∙ inside-top s inside.before.before.if1.false inside.if2.false
-
-cast-result : tie.Need-overflow-cast-result
-cast-result c =
-    let p = (begin c.before.before.before.before.before).requires in
-    record { fits = omega (arith, divided c p.0 p.1, own-most p.1) }
-
-returns-3 : tie.Need-returns-3
-returns-3 c = divided c
-
-pub strip-code-spec : {M : Type 1} → statement M
-strip-code-spec =
-    tie.close
-    (tie.spec
-    cast-spot
-    mul-spot
-    add-spot
-    mul-n
-    shared-slice-copy-out-n
-    cast-n
-    mul-n-2
-    mul-n-3
-    shared-slice-copy-out-n-2
-    add-n
-    returns
-    cast-above
-    returns-2
-    quotient-requires
-    cast-result
-    returns-3)
+pub returns : goal.returns
+returns c = divided c
