@@ -7,7 +7,7 @@ use mathlib.Core.List.{List}
 use native.Mathlib.Omega.{arith}
 use lib.IntN.{ℤ, nat_abs, zero-*ℤ}
 use Rattle.rules.specs.Units.{depths_of, raw_m}
-use Rattle.rules.specs.Descriptions.{rows, could_be_read, Sound}
+use Rattle.rules.specs.Descriptions.{could_be_read, Sound}
 use Rattle.rules.specs.Looking.Interpolation.{den_of, total, denominator}
 use Rattle.rules.specs.Looking.{shown, used, judged_all}
 use Rattle.rules.specs.Answers.{look_number}
