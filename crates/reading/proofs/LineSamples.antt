@@ -1,11 +1,7 @@
 -- The samples of a line: the three numbers of a data line's row, and none of a line of any other form.
 use Prim.Native.Nat.{ℕ}
-use mathlib.Core.Path.{◌≡◌, refl, sym, ap, subst, ◌∙◌}
-use mathlib.Core.Logic.{⊎_elim}
+use mathlib.Core.Path.{◌≡◌, refl, sym, ap, ◌∙◌}
 use mathlib.Core.List.{List, [], ◌∷◌, append-nil, flatten, map}
-use native.Mathlib.Omega.{arith}
-use denote.Enum.Declared.{tag_of}
-use types.Run.{OneOf}
 use Rattle.rules.specs.Reading.Lines.{words_of}
 use Rattle.rules.specs.Reading.Items.{numbers_of, row_in}
 use Rattle.rules.specs.Reading.Grammar.{Line, gather, put}
@@ -17,7 +13,6 @@ use Rattle.rules.specs.declared.Item.{Item}
 use Rattle.rules.specs.declared.Item.TheVariants.{Nothing, OfTitle, OfLower, OfUpper, OfSize, OfRow}
 use Rattle.rules.specs.declared.Refusal.{Refusal}
 use Rattle.rules.specs.declared.Row.{Row}
-use Rattle.rules.specs.contracts.Form.{the_type}
 use Rattle.rules.proofs.Reading.Acceptance.{lines-samples}
 use Rattle.rules.proofs.Reading.OneLine.{found}
 use Rattle.rules.proofs.Reading.Order.{form_for}
@@ -25,10 +20,6 @@ use Rattle.content.specs.Found.{say_row}
 use Rattle.content.specs.declared.RowFound.{RowFound}
 use Rattle.content.specs.declared.RowFound.TheVariants.{ARow, NoRow}
 use Rattle.reading.specs.Tables.{LineKeeps}
-
--- a form that is not data, as the code's branch knows it: of any variant but the third
-abbrev pub NoData : Form → Type 0
-NoData f = OneOf (0 ∷ 1 ∷ 3 ∷ []) (tag_of the_type f)
 
 -- the samples of a line that gives an item are those of its row, if it is one
 item-samples : (p : ℕ) (l : List ℕ) (i : Item) → Line p l i → samples_in (content_of 0 l) ≡ flatten (map numbers_of (put (row_in i) []))
@@ -39,18 +30,19 @@ pub plain-samples : (l : List ℕ) (r : Row) → Line 0 l (OfRow r) → samples_
 unfolding flatten
 plain-samples l r h = item-samples 0 l (OfRow r) h
 
-no_row : (i : Item) → NoData (form_for i) → flatten (map numbers_of (put (row_in i) [])) ≡ []
+no_row : (i : Item) → (form_for i ≡ Data → ⊥) → flatten (map numbers_of (put (row_in i) [])) ≡ []
 unfolding flatten
 no_row Nothing h = refl
 no_row (OfTitle t) h = refl
 no_row (OfLower b) h = refl
 no_row (OfUpper b) h = refl
 no_row (OfSize s) h = refl
-no_row (OfRow r) h = absurd (⊎_elim (λ e. omega arith) (⊎_elim (λ e. omega arith) (λ e. omega arith)) h)
+no_row (OfRow r) h = absurd (h refl)
 
-pub no-samples : {l : List ℕ} → LineKeeps l → NoData (form_of l) → samples_in (content_of 0 l) ≡ []
+-- a line whose form is not data has none
+pub no-samples : {l : List ℕ} → LineKeeps l → (form_of l ≡ Data → ⊥) → samples_in (content_of 0 l) ≡ []
 no-samples {l} k h =
-    item-samples k.place l k.item k.line ∙ no_row k.item (subst NoData (found k.place l k.item k.line).form h)
+    item-samples k.place l k.item k.line ∙ no_row k.item (λ e. h ((found k.place l k.item k.line).form ∙ e))
 
 module _ (l : List ℕ) (answer : RowFound) (data-line : form_of l ≡ Data) (says : say_row answer ≡ samples_on (words_of l)) where
   data-samples : samples_in (content_of 0 l) ≡ samples_in (say_row answer)

@@ -1,17 +1,15 @@
--- 18 where rows are left to come; the definition asks the other way round, whether as many are there as the size has.
 use Prim.Native.Nat.{ℕ}
 use mathlib.Core.Path.{◌≡◌, refl, ap, ◌∙◌}
 use mathlib.Core.Bool.{Bool, true, false, cond}
 use mathlib.Core.Option.{none, some}
-use borrow.Author.Rules.{rules}
 use borrow.Author.Tests.{ltb-true, ltb-false, le-leb, lt-leb}
 use lib.Dec.{ltb, leb}
 use Rattle.rules.specs.Reading.Judge.{Fault, end_fault, first, head_fault, need}
 use Rattle.rules.specs.declared.Refusal.TheVariants.{TooFewRows}
 use Rattle.reading.specs.View.{view}
-use Rattle.reading.proofs.checks.end_fault.Statement.{statement}
-use Rattle.reading.proofs.checks.end_fault.Tie as tie
+use Rattle.reading.proofs.checks.end_fault.Goals as goal
 
+-- 18 where rows are left to come; the definition asks the other way round, whether as many are there as the size has.
 rows-needed : (n count : ℕ) → ◌≡◌ {A = Fault} (cond (ltb n count) (some TooFewRows) none) (need (leb count n) TooFewRows none)
 unfolding need
 rows-needed n count = by (ltb n count) refl
@@ -20,14 +18,8 @@ rows-needed n count = by (ltb n count) refl
     by true e = rw (lt-leb count n (ltb-true n count e))
     by false e = rw (le-leb count n (ltb-false n count e))
 
-by-rows-requires : tie.Need-by-rows-requires
-by-rows-requires c κs = search rules
-
-returns : tie.Need-returns
+pub returns : goal.returns
 unfolding end_fault
 returns c =
     let s = c.before in
     c.by_rows.ensures ∙ ap (first (head_fault s.args.places (view s.args.st))) (rows-needed s.args.st.rows _)
-
-pub end-fault-spec : {M : Type 1} → statement M
-end-fault-spec = tie.close (tie.spec by-rows-requires returns)
