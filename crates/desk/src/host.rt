@@ -276,7 +276,7 @@ pub fn open_input(host: &mut Host, path: &[u8]) -> Option<Input> {
 }
 
 // How much is read at once of a file that is held.
-const CHUNK: usize = 65_536;
+const CHUNK: usize = 16_384;
 
 // All bytes of a file, or the first ones up to one past the most.
 fn bytes_of(rt: HostRuntime, path: &[u8], most: usize) -> io::Result<Vec<u8>> {
