@@ -1,4 +1,4 @@
-// The exact value as a code, M.S / E, with what is left of the unit between two codes.
+// The exact value as a code, M·S / E, with what is left of the unit between two codes.
 ghost use Rattle.std.specs.Prelude.{◌≡◌, ◌+◌, ◌*◌, ◌≤◌, ◌<◌, nat_abs};
 ghost use Rattle.exact.specs.Values.{CodeValue};
 
@@ -13,7 +13,7 @@ pub struct InCodes {
     pub unit: u64,
 }
 
-// M.S does not fit 64 bits. But S is typeof.a.E + b with b from 0 to E, so that M.S / E is M·a + p·b / unit, p / unit being M / E.
+// M·S does not fit 64 bits. But S is a·E + b with b from 0 to E, so that M·S / E is M·a + p·b / unit, p / unit being M / E.
 pub fn in_codes(s: Whole, e: u64, p: u64, unit: u64, m: u16) -> InCodes
     requires s_bound { nat_abs s.0 < 9_223_372_036_854_775_808 }
     requires s_bound_2 { nat_abs s.0 ≤ 1000 * e }

@@ -19,7 +19,7 @@ pub struct Facts {
     pub over: u64,
     // S / E in lowest terms.
     pub lowest: Ratio,
-    // M.S / E.
+    // M·S / E.
     pub value: InCodes,
     // How the nearest code was settled.
     pub settled: Settled,

@@ -16,7 +16,7 @@ pub enum Side {
     Above,
 }
 
-// 1000·c − typeof.lo.M, as it is before it is moved.
+// 1000·c − lo·M, as it is before it is moved.
 fn from_lower(domain: Domain, m: u16, code: u16) -> Whole
     requires { nat_abs domain.lower.0 ≤ bound_limit }
     ensures { result.0 ≡ unmoved m domain code }
