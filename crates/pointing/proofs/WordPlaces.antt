@@ -8,7 +8,7 @@ use borrow.Author.Tests.{eq-eqb, eqb-true, ne_eqb, not-true}
 use lib.Dec.{eqb}
 use lib.ListN.{length, take, drop, length-append, length-drop, take-append-drop}
 use lib.Seq.{length-take-le, drop-drop, take-add, take_at}
-use Rattle.rules.specs.Reading.Lines.{blank, in_word, every, run, after, starts, on_first, words_of}
+use Rattle.rules.specs.Reading.Lines.{blank, in_word, every, run, starts, on_first, words_of}
 use Rattle.rules.proofs.Tests.{no_true, and_both}
 use Rattle.rules.proofs.Reading.Runs.{after-stops, run-every}
 use Rattle.scan.proofs.Runs.{drop-to-end, take-run}

@@ -57,6 +57,7 @@ fn sample_of(w: &[u8]) -> Number
 }
 
 // Whether a word is what is wanted.
+#[tactic(auto, unfolding(crate::specs::Pointing::right))]
 fn is_right(wanted: Wanted, w: &[u8]) -> bool
     requires { length w.now ≤ line_limit }
     ensures { result ≡ right wanted w.now }
