@@ -1,0 +1,45 @@
+use Prim.Native.Nat.{◌+◌, ◌<◌}
+use mathlib.Core.Path.{◌≡◌, ap, subst, ◌∙◌}
+use native.Mathlib.Omega.{arith}
+use Rattle.rules.specs.Answers.{codes_of}
+use Rattle.rules.specs.Memory.{spliced}
+use Rattle.picture.specs.Blocks.{FilledTo}
+use Rattle.picture.proofs.Blocking.{whole_there, spot-placed, spot-coded, start-near, one-passed}
+use Rattle.picture.proofs.cubes.far_block.Goals as goal
+
+pub spot_from-spot-requires-clause-j_bound : goal.spot_from-spot-requires-clause-j_bound
+spot_from-spot-requires-clause-j_bound c =
+    let here : c.args.at + c.loop-i.j < c.args.end = omega (arith, c.loop-i-test.true, c.loop-i.invariant.0) in
+    start-near c.requires c.loop-i.j c.loop-i.invariant.1.0 here
+
+pub far_codes-requires : goal.far_codes-requires
+far_codes-requires c =
+    let here : c.args.at + c.loop-i.j < c.args.end = omega (arith, c.loop-i-test.true, c.loop-i.invariant.0) in
+    spot-placed c.requires c.loop-i.j c.loop-i.invariant.1.0 here c.spot_from-spot.ensures
+
+pub loop-i-preserved : goal.loop-i-preserved
+loop-i-preserved c =
+    let at = c.args.at in
+    let j = c.loop-i.j in
+    let z = c.loop-i.invariant.1.0 in
+    let here : c.loop-i.i ≡ at + j = c.loop-i.invariant.0 in
+    let h : at + j < c.args.end = omega (arith, c.loop-i-test.true, here) in
+    let next : at + j + 3 ≡ at + (j + 3) = omega arith in (
+      omega (arith, here),
+      (
+        omega (arith, z),
+        (
+          omega (arith, here, whole_there c.requires j z h),
+          λ b.
+              subst (λ n. FilledTo b n c.write_pixel.new.dst) next
+              (one-passed b j z h (c.loop-i.invariant.1.1.1 b)
+              (spot-coded b j z h c.spot_from-spot.ensures c.far_codes.ensures)
+              (c.write_pixel.ensures ∙ ap (λ n. spliced c.loop-i.dst n (codes_of c.far_codes.result)) here)),
+        ),
+      ),
+    )
+
+pub returns : goal.returns
+returns c =
+    let reached : c.args.at + c.loop-i.j ≡ c.args.end = omega (arith, c.loop-i-test.false, c.loop-i.invariant.0, c.loop-i.invariant.1.1.0) in
+    λ b. subst (λ n. FilledTo b n c.loop-i.dst) reached (c.loop-i.invariant.1.1.1 b)
