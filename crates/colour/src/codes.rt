@@ -14,7 +14,7 @@ use crate::sums::{Sums, pair_sum};
 use rules::{Codes, Colour, Kind, Shares};
 use whole::{Whole, lesser};
 
-// The code nearest to M.S / (D·10,000,000), with the M of corrected codes. Whatever S is, the nearest code is that of S moved into 0 to D·10,000,000; p times
+// The code nearest to M·S / (D·10,000,000), with the M of corrected codes. Whatever S is, the nearest code is that of S moved into 0 to D·10,000,000; p times
 // that, over the unit, is as much, and fits 64 bits.
 fn code_of(p: u64, axis: Axis, sum: Whole) -> u16
     requires { (m : ℕ) × Codable p axis m }

@@ -14,7 +14,7 @@ pub struct Place {
     pub fraction: u64,
 }
 
-// 1000·c − typeof.lo.M, in thousandths or as many parts of a span as a unit has; moved to 0 if less.
+// 1000·c − lo·M, in thousandths or as many parts of a span as a unit has; moved to 0 if less.
 fn above_lower(each: u64, low: Whole, code: u16) -> u64
     requires each_le_each_limit { each ≤ each_limit }
     requires low_bound { nat_abs low.0 ≤ low_limit }
@@ -25,7 +25,7 @@ fn above_lower(each: u64, low: Whole, code: u16) -> u64
     a.above()
 }
 
-// p = a·(N−1), i the smaller of p div D and N−2, f = p − typeof.i.D.
+// p = a·(N−1), i the smaller of p div D and N−2, f = p − i·D.
 pub fn place_of(axis: Axis, cells: usize, code: u16) -> Place
     requires axis_fits { AxisFits axis }
     requires cells_fit { CellsFit cells }

@@ -23,7 +23,7 @@ pub struct Axis {
     pub den: u64,
     // D·10,000,000: an S so great is the value 1.
     pub full: u64,
-    // q·span·10,000,000, over which typeof.p.S is the corrected code, p / q being the ratio of the two M.
+    // q·span·10,000,000, over which p·S is the corrected code, p / q being the ratio of the two M.
     pub unit: u64,
     // Twice the unit, which the nearest code of every colour of every pixel is divided by.
     pub divisor: Divisor,

@@ -1,4 +1,4 @@
-// The two M in lowest terms. M.S does not fit 64 bits, but typeof.p.S does once S is moved into its range, p / q being the M of corrected codes over that of raw codes.
+// The two M in lowest terms. M·S does not fit 64 bits, but p·S does once S is moved into its range, p / q being the M of corrected codes over that of raw codes.
 ghost use Rattle.std.specs.Prelude.{◌≡◌};
 ghost use Rattle.colour.specs.Ratios.{ratio_of, InTerms};
 

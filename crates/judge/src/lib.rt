@@ -31,7 +31,7 @@ pub fn in_range(kind: Kind, n: usize) -> bool
     n <= greatest_n(kind)
 }
 
-// A 1D table has N rows, a 3D table N.N.N.
+// A 1D table has N rows, a 3D table N·N·N.
 pub fn count_rows(kind: Kind, n: usize) -> usize
     requires { in_range kind n ≡ true }
     ensures { result ≡ rows_of kind n }
