@@ -16,7 +16,7 @@ use Rattle.desk.specs.Loads.{Fetches, Loads, LoadsAll, LoadsOf, loaded_as}
 use Rattle.desk.specs.declared.loading.Fetched.{Fetched}
 use Rattle.desk.specs.declared.loading.Fetched.TheVariants.{Bytes, TooLong, Failed}
 use Rattle.desk.specs.declared.loading.Loaded.{Loaded}
-use Rattle.desk.specs.declared.loading.Loaded.TheVariants.{Table, Refused, Unread}
+use Rattle.desk.specs.declared.loading.Loaded.TheVariants.{Table, Unread}
 
 -- ---- what was fetched, by its case
 

@@ -83,7 +83,13 @@ fn say_too_long(host: &mut Host, program: &[u8], path: &[u8], most: usize) {
 }
 
 // The same, and where there is nothing to judge it is said.
-fn fetch_or_say(host: &mut Host, program: &[u8], path: &[u8], from: &mut Input, file: &mut [u8]) -> Fetched
+fn fetch_or_say(
+    host: &mut Host,
+    program: &[u8],
+    path: &[u8],
+    from: &mut Input,
+    file: &mut [u8],
+) -> Fetched
     ensures { Fetches file.new result }
 {
     let fetched = fetch(&mut *from, &mut *file);
@@ -107,7 +113,14 @@ pub fn fetch_file(host: &mut Host, program: &[u8], path: &[u8], file: &mut [u8])
 }
 
 // As `explain: a.cube: refused 5 on line 3: keyword repeated: "TITLE" is there a second time`.
-fn say_refused(host: &mut Host, program: &[u8], path: &[u8], file: &[u8], reason: Refusal, line: usize) {
+fn say_refused(
+    host: &mut Host,
+    program: &[u8],
+    path: &[u8],
+    file: &[u8],
+    reason: Refusal,
+    line: usize,
+) {
     write(&mut host.err, program);
     write(&mut host.err, b": ");
     write(&mut host.err, path);
@@ -117,7 +130,13 @@ fn say_refused(host: &mut Host, program: &[u8], path: &[u8], file: &[u8], reason
 }
 
 // The table of a file that was read whole.
-fn load_bytes(host: &mut Host, program: &[u8], path: &[u8], file: &[u8], table: &mut [i64]) -> Loaded
+fn load_bytes(
+    host: &mut Host,
+    program: &[u8],
+    path: &[u8],
+    file: &[u8],
+    table: &mut [i64],
+) -> Loaded
     ensures { LoadsAll file.now table.old result table.new }
 {
     match read(file, table) {
@@ -159,7 +178,13 @@ fn load(host: &mut Host, program: &[u8], path: &[u8], file: &mut [u8], table: &m
 }
 
 // The table that an argument names.
-pub fn load_argument(host: &mut Host, program: &[u8], place: usize, file: &mut [u8], table: &mut [i64]) -> Loaded
+pub fn load_argument(
+    host: &mut Host,
+    program: &[u8],
+    place: usize,
+    file: &mut [u8],
+    table: &mut [i64],
+) -> Loaded
     ensures { Loads file.new table.old result table.new }
 {
     let mut path = io::buffer();
