@@ -6,11 +6,11 @@ use mathlib.Core.List.{List, [], ◌∷◌, ◌++◌, append-nil}
 use native.Mathlib.Nat.{add-mul, add-zero, mul_assoc, mul_comm, mul-le-mul_right, mul-one, sub_self}
 use native.Mathlib.Omega.{arith}
 use mir.Syntax.{w64}
-use mir.Val.{SFits, of_z, to_z}
+use mir.Val.{of_z, to_z}
 use lib.IntN.{ℤ, pos, neg_ℤ, nat_abs, ◌-ℤ◌, ◌*ℤ◌, +ℤ_idl}
 use lib.ListN.{length, get_or, take, drop}
 use lib.Pow.{pow-add}
-use Rattle.whole.proofs.Held.{Held, cast, of, sub, sub-ok}
+use Rattle.whole.proofs.Held.{Held, cast, of, sub}
 use Rattle.rules.specs.Reading.Lines.{digit, every, number_byte}
 use Rattle.rules.specs.Reading.Numerals.{Mantissa, Numeral, Sign, absent, digits, minus, plain, pointed, signed, spell, under, unwritten}
 use Rattle.rules.proofs.Reading.Numbers.{digits_more, digits-parts, first-digit, number-digit, signed-abs, signed-times, spell-append}
@@ -170,10 +170,6 @@ zero_held = cast 0 0 (omega arith) (omega arith)
 module _ {s : List ℕ} {from to : ℕ} {v : ℤ} (n : UnsignedAt s from to v) where
   held : Held (of_z w64 v) v 10_000_000_000
   held = of v 10_000_000_000 (omega (arith, ap nat_abs n.value_so, n.within)) (omega arith)
-
-  -- a value that is read again may be taken from 0
-  pub negation-fits : SFits w64 (to_z w64 0 -ℤ to_z w64 (of_z w64 v))
-  negation-fits = sub-ok zero_held held (omega arith)
 
   -- a number without a sign
   pub unsigned-number : NumberAt s from to v

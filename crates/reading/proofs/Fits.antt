@@ -1,11 +1,10 @@
 -- What the reader's state keeps, kept by each thing that it takes in.
 use Prim.Native.Nat.{ℕ}
-use mathlib.Core.Path.{◌≡◌, refl, sym, subst}
-use mathlib.Core.Bool.{Bool, beq, true, false, true≢false}
-use native.Mathlib.Omega.{arith}
+use mathlib.Core.Path.{◌≡◌, refl, sym}
+use mathlib.Core.Bool.{Bool, true, false, true≢false}
 use Rattle.rules.specs.Units.{in_range}
 use Rattle.rules.specs.Descriptions.{lowest, highest, no_title, description, every_colour, bounds_fit}
-use Rattle.rules.specs.Reading.Judge.{given_or, no_size, describe, given, together}
+use Rattle.rules.specs.Reading.Judge.{given_or, no_size, describe, given}
 use Rattle.rules.specs.declared.Bounds.{Bounds}
 use Rattle.rules.specs.declared.Size.{Size}
 use Rattle.rules.specs.declared.Title.{Title}
@@ -13,20 +12,6 @@ use Rattle.rules.proofs.Tests.{both-and}
 use Rattle.rules.proofs.Sound.{within-bounds}
 use Rattle.reading.specs.View.{view, marked, BoundsWithin, Fit, RowsWelcome, counting}
 use Rattle.reading.specs.declared.state.State.{State}
-
--- nothing given
-pub fit-start : (lo hi : Bounds) → lo ≡ lowest → hi ≡ highest → Fit (record { titled = false; title = no_title; lowered = false; lower = lo; raised = false; upper = hi; sized = false; size = no_size; rows = 0 })
-fit-start lo hi e g = record {
-  no-title = λ _. refl;
-  no_lower = λ _. e;
-  no-upper = λ _. g;
-  no-size = λ _. refl;
-  lower_within = subst BoundsWithin (sym e) (record { red = omega arith; green = omega arith; blue = omega arith });
-  upper_within = subst BoundsWithin (sym g) (record { red = omega arith; green = omega arith; blue = omega arith });
-  size_within = λ t. absurd (true≢false (sym t));
-  after_size = λ h. absurd (omega arith);
-  few = omega arith;
-}
 
 module _ {st : State} (f : Fit st) where
   pub fit-title : (t : Title) → Fit (record { titled = true; title = t; lowered = st.lowered; lower = st.lower; raised = st.raised; upper = st.upper; sized = st.sized; size = st.size; rows = st.rows })
@@ -119,10 +104,3 @@ module _ {st : State} (f : Fit st) where
 pub given-marked : {A : Type 0} (there : Bool) (a : A) → given (marked there a) ≡ there
 given-marked true a = refl
 given-marked false a = refl
-
--- and so of two
-pub marked-together : {A : Type 0} (a b : Bool) (x y : A) → together (marked a x) (marked b y) ≡ beq a b
-marked-together true true x y = refl
-marked-together true false x y = refl
-marked-together false true x y = refl
-marked-together false false x y = refl

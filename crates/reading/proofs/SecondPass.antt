@@ -86,9 +86,6 @@ module _ {file : List ℕ} {old table : List ℤ} {c : Cursor} {at : ℕ} (f : F
   pub same_length : length table ≡ length old
   same_length = ap length f.so_far ∙ splice-length old 0 f.done done-fits
 
-  pub place-within : at ≤ length table
-  place-within = omega (arith, f.place, done-fits, same_length)
-
   module _ {from to line : ℕ} {next : Cursor} (found : LineFound file c from to line next) where
     abbrev text : List ℕ
     text = take (to - from) (drop from file)

@@ -36,6 +36,7 @@ fn domain_fault(d: Description, places: usize) -> Checked
 }
 
 // 9, 19, 10 to 13, where there was no data line yet.
+#[tactic(auto, unfolding(rules::specs::Reading::Judge::head_fault, rules::specs::Reading::Judge::given_fault, rules::specs::Reading::Judge::need))]
 fn head_fault(st: State, places: usize) -> Checked
     requires { Fit st }
     ensures { fault_of result ≡ head_fault places (view st) }
@@ -53,6 +54,7 @@ fn head_fault(st: State, places: usize) -> Checked
 }
 
 // A keyword: 4, 5.
+#[tactic(auto, unfolding(rules::specs::Reading::Judge::order_fault, rules::specs::Reading::Judge::need))]
 fn keyword_fault(st: State, k: Keyword) -> Checked
     ensures { (places : ℕ) → fault_of result ≡ order_fault places (view st) (Keyed k) }
 {
