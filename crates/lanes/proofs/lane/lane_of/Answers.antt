@@ -44,7 +44,9 @@ module _ (m cells den a b stride : ℕ) where
 pub returns : goal.returns
 returns c =
     let a = c.args in
-    let some : 0 < a.a = omega (arith, c.if-a-eq0.false) in (
-      runs-along a.m a.cells a.den a.a a.b a.stride c.requires.m_nonzero c.requires.den_nonzero some c.if-den-gt-MOST.false c.if-a-m.false c.if-times-ge-WHOLE.false c.if-m-short-ge-WHOLE.false,
+    let some : 0 < a.a = omega (arith, c.if-a-eq0.false) in
+    -- without the test's name, so that a wrong test is refused for what it says
+    let little : a.m * short_of a.den a.a + rest_of a.den a.b < 4_294_967_296 = omega arith in (
+      runs-along a.m a.cells a.den a.a a.b a.stride c.requires.m_nonzero c.requires.den_nonzero some c.if-den-gt-MOST.false c.if-a-m.false c.if-times-ge-WHOLE.false little,
       refl,
     )
