@@ -1,2 +1,0 @@
--- Laws that the proofs share.
-pub mod Found

@@ -1,0 +1,11 @@
+-- The rows that look of eleven numbers answers fit.
+use mathlib.Core.Path.{sym, ap, subst, ◌∙◌}
+use mathlib.Core.List.{map}
+use Rattle.rules.specs.declared.Share.{Share}
+use Rattle.rules.specs.Boundary.{RowsFit}
+use Rattle.rules.proofs.Boundary.Fits.{rows-fit-in}
+use Rattle.erythmoda.proofs.erythmoda_look.Goals as goal
+
+pub rows_laid-requires : goal.rows_laid-requires
+rows_laid-requires c =
+    subst RowsFit (sym (ap (map (λ (s : Share). s.row)) c.look_shares-shares.ensures ∙ c.look_in-answer.ensures.rows)) (rows-fit-in _ _ _ _)
