@@ -1,6 +1,6 @@
 -- What an accepted answer tells of its file, and that an answer ends as the file's own does.
 use Prim.Native.Nat.{ℕ}
-use mathlib.Core.Path.{◌≡◌, refl, sym, ap, ◌∙◌}
+use mathlib.Core.Path.{◌≡◌, refl, sym, ap}
 use mathlib.Core.List.{List}
 use Rattle.rules.specs.Units.{place_limit}
 use Rattle.rules.specs.Reading.{read, check}

@@ -48,7 +48,10 @@ fn check_bytes(host: &mut Host, path: &[u8], file: &[u8]) -> Outcome
     ensures { EndsAs (outcome_of (check file.now)) result }
 {
     let answer = check(file);
-    let written = say(host, path) && say(host, b": ") && show_answer(host, file, answer) && say(host, b"\n");
+    let written = say(host, path)
+        && say(host, b": ")
+        && show_answer(host, file, answer)
+        && say(host, b"\n");
     outcome_of(answer).if_written(host, written, &PROGRAM)
 }
 

@@ -44,7 +44,14 @@ fn refuse_beyond(host: &mut Host, bits: Bits) -> Outcome
 // ---- what made a pixel's codes
 
 // The look at a pixel of 16-bit codes, explained or refused.
-fn explain_held(host: &mut Host, d: Description, file: &[u8], table: &[i64], bits: Bits, raw: Codes) -> Outcome
+fn explain_held(
+    host: &mut Host,
+    d: Description,
+    file: &[u8],
+    table: &[i64],
+    bits: Bits,
+    raw: Codes,
+) -> Outcome
     ensures { EndsAs (looked_as (look d table.now bits raw)) result }
 {
     let DepthsFound::Both(depths) = Depths::of(bits) else {
@@ -60,7 +67,14 @@ fn explain_held(host: &mut Host, d: Description, file: &[u8], table: &[i64], bit
     }
 }
 
-fn explain_pixel(host: &mut Host, d: Description, file: &[u8], table: &[i64], bits: Bits, pixel: Pixel) -> Outcome
+fn explain_pixel(
+    host: &mut Host,
+    d: Description,
+    file: &[u8],
+    table: &[i64],
+    bits: Bits,
+    pixel: Pixel,
+) -> Outcome
     ensures { EndsAs (held_as (λ raw. looked_as (look d table.now bits raw)) pixel) result }
 {
     match pixel {
@@ -89,10 +103,13 @@ fn keep_pixel(host: &mut Host, d: Description, table: &[i64], raw: u32, pixel: P
 {
     match pixel {
         Pixel::Held(codes) => keep_held(host, d, table, raw, codes),
-        Pixel::Beyond => refuse_beyond(host, Bits {
-            raw,
-            corrected: raw,
-        }),
+        Pixel::Beyond => refuse_beyond(
+            host,
+            Bits {
+                raw,
+                corrected: raw,
+            },
+        ),
     }
 }
 
@@ -115,7 +132,13 @@ fn say_found(host: &mut Host, found: Judged) {
 }
 
 // 26 with a line more; another refusal as always.
-fn refuse_line(host: &mut Host, d: Description, depths: Depths, shares: Shares, reason: Refusal) -> Outcome
+fn refuse_line(
+    host: &mut Host,
+    d: Description,
+    depths: Depths,
+    shares: Shares,
+    reason: Refusal,
+) -> Outcome
     requires { reason ≡ RowsOrWeightsWrong → Readable d }
     ensures { result ≡ Refused }
 {
@@ -129,7 +152,14 @@ fn refuse_line(host: &mut Host, d: Description, depths: Depths, shares: Shares, 
 }
 
 // The second half of a look, explained or refused.
-fn explain_line(host: &mut Host, d: Description, file: &[u8], table: &[i64], bits: Bits, shares: Shares) -> Outcome
+fn explain_line(
+    host: &mut Host,
+    d: Description,
+    file: &[u8],
+    table: &[i64],
+    bits: Bits,
+    shares: Shares,
+) -> Outcome
     ensures { EndsAs (given_as (second_half d table.now bits shares)) result }
 {
     let DepthsFound::Both(depths) = Depths::of(bits) else {
@@ -146,7 +176,13 @@ fn explain_line(host: &mut Host, d: Description, file: &[u8], table: &[i64], bit
 
 // ---- any of them. The table was loaded, so that the answer is never 24: then come 20, and 23 or 26
 
-pub fn explain(host: &mut Host, d: Description, file: &[u8], table: &[i64], question: Question) -> Outcome
+pub fn explain(
+    host: &mut Host,
+    d: Description,
+    file: &[u8],
+    table: &[i64],
+    question: Question,
+) -> Outcome
     ensures { EndsAs (asked_as d table.now question) result }
 {
     match question {

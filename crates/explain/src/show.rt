@@ -25,7 +25,11 @@ fn show_table(host: &mut Host, kind: Kind, n: usize) -> bool
         Kind::OneD => say(host, b"table  1D, N = "),
         Kind::ThreeD => say(host, b"table  3D, N = "),
     };
-    named && say_number(host, n as u64) && say(host, b", ") && say_number(host, rows as u64) && say(host, b" rows\n")
+    named
+        && say_number(host, n as u64)
+        && say(host, b", ")
+        && say_number(host, rows as u64)
+        && say(host, b" rows\n")
 }
 
 fn show_codes(host: &mut Host, codes: Codes) -> bool {
@@ -67,7 +71,11 @@ fn show_samples(host: &mut Host, table: &[i64], row: usize) -> bool
     let red = table[at];
     let green = table[at + 1];
     let blue = table[at + 2];
-    show_sample(host, red) && say(host, b" ") && show_sample(host, green) && say(host, b" ") && show_sample(host, blue)
+    show_sample(host, red)
+        && say(host, b" ")
+        && show_sample(host, green)
+        && say(host, b" ")
+        && show_sample(host, blue)
 }
 
 // As `, weight 102000 of 255000, code 0`.
@@ -82,7 +90,15 @@ fn show_weight(host: &mut Host, weight: i64, den: u64, code: u16) -> bool {
 }
 
 // As `       row 4 on line 6: 0 0 0, weight 102000 of 255000, code 0`; nothing of a row that carries no weight.
-fn show_row(host: &mut Host, file: &[u8], table: &[i64], m: u16, c: Colour, den: u64, share: Share) -> bool
+fn show_row(
+    host: &mut Host,
+    file: &[u8],
+    table: &[i64],
+    m: u16,
+    c: Colour,
+    den: u64,
+    share: Share,
+) -> bool
     requires { RowAt table.now (3 * share.row) }
 {
     if !carries(share) {
@@ -91,7 +107,9 @@ fn show_row(host: &mut Host, file: &[u8], table: &[i64], m: u16, c: Colour, den:
     let row = share.row;
     let line = line_of(file, row);
     let code = row_code(table, m, c, row);
-    show_place(host, row, line) && show_samples(host, table, row) && show_weight(host, share.weight, den, code)
+    show_place(host, row, line)
+        && show_samples(host, table, row)
+        && show_weight(host, share.weight, den, code)
 }
 
 // As `red    51, its rows have codes from 0 to 255`.
@@ -142,7 +160,10 @@ fn show_corrected(host: &mut Host, codes: Codes, depths: Depths) -> bool {
     let corrected = depths.corrected;
     let width = corrected.bits();
     let same = width == raw.bits();
-    say(host, b"codes  ") && show_codes(host, codes) && (same || show_depth(host, width)) && say(host, b"\n")
+    say(host, b"codes  ")
+        && show_codes(host, codes)
+        && (same || show_depth(host, width))
+        && say(host, b"\n")
 }
 
 // Everything of an accepted look.

@@ -1,0 +1,15 @@
+use mathlib.Core.Path.{ap}
+use Rattle.rules.proofs.Answers.{finds-is}
+use Rattle.explain.specs.Questions.{kept_as}
+use Rattle.explain.proofs.Ends.{ends-refused, ends-shown}
+use Rattle.explain.proofs.answers.keep_held.Goals as goal
+
+pub returns-in-Refused : goal.returns-in-Refused
+unfolding kept_as
+returns-in-Refused c =
+    ends-refused kept_as (finds-is c.first_half.ensures) c.refuse.ensures (ap kept_as c.in-Refused.is)
+
+pub returns-in-Accepted : goal.returns-in-Accepted
+unfolding kept_as
+returns-in-Accepted c =
+    ends-shown kept_as (finds-is c.first_half.ensures) c.show_line-written.result c.done_if.result c.done_if.ensures (ap kept_as c.in-Accepted.is)
