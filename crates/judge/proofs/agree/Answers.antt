@@ -4,7 +4,7 @@ use Rattle.judge.proofs.agree.Goals as goal
 
 pub returns-then-one_domain : goal.returns-then-one_domain
 unfolding agree
-returns-then-one_domain c = let asked = c.before in rw (asked.before.in-ThreeD.is, sym asked.one_domain.ensures ∙ c.if-one_domain.true)
+returns-then-one_domain c = rw (c.in-ThreeD.is, sym c.one_domain.ensures ∙ c.if-one_domain.true)
 
 pub returns-in-OneD : goal.returns-in-OneD
 unfolding agree
@@ -12,6 +12,4 @@ returns-in-OneD c = rw c.in-OneD.is
 
 pub returns-else-one_domain : goal.returns-else-one_domain
 unfolding agree
-returns-else-one_domain c =
-    let asked = c.before.before in
-    rw (asked.before.in-ThreeD.is, sym asked.one_domain.ensures ∙ c.before.if-one_domain.false) c.domains_keep.ensures
+returns-else-one_domain c = rw (c.in-ThreeD.is, sym c.one_domain.ensures ∙ c.if-one_domain.false) c.domains_keep.ensures

@@ -4,8 +4,8 @@ use Rattle.judge.proofs.bounds_fit.Goals as goal
 
 pub returns-then-bound_fits : goal.returns-then-bound_fits
 unfolding bounds_fit
-returns-then-bound_fits c = rw (sym c.before.before.bound_fits.ensures ∙ c.before.if-bound_fits.true) c.bound_fits-then-bound_fits.ensures
+returns-then-bound_fits c = rw (sym c.bound_fits.ensures ∙ c.if-bound_fits.true) c.bound_fits-then-bound_fits.ensures
 
 pub returns : goal.returns
 unfolding bounds_fit
-returns c = rw (sym c.before.bound_fits.ensures ∙ c.if-bound_fits.false)
+returns c = rw (sym c.bound_fits.ensures ∙ c.if-bound_fits.false)

@@ -1,27 +1,25 @@
+use mathlib.Core.Path.{◌≡◌}
+use mathlib.Core.Bool.{true}
 use native.Mathlib.Omega.{arith}
 use mir.Syntax.{w64}
 use mir.Val.{of_z}
 use Rattle.whole.proofs.Held.{Held, of, sub, sub-ok}
-use Rattle.rules.specs.Descriptions.{narrow}
+use Rattle.rules.specs.Descriptions.{bounds_fit, narrow}
+use Rattle.rules.specs.declared.Domain.{Domain}
 use Rattle.rules.proofs.Sound.{bounds-within}
 use Rattle.judge.proofs.narrow.Goals as goal
-use Rattle.judge.proofs.narrow.Lts as lts
-use Rattle.judge.proofs.narrow.Reads as reads
-
-abbrev Start : Type 0
-Start = lts.Start reads.Pre reads.Post
 
 -- Both bounds are within 10,000, so their difference is an i64, and the test is the definition's.
-module _ (s : Start) where
-  lower : Held (of_z w64 s.args.dom.lower.0) s.args.dom.lower.0 10_000
-  lower = of _ 10_000 (bounds-within _ s.requires).0 (omega arith)
+module _ (dom : Domain) (fits : bounds_fit dom ≡ true) where
+  lower : Held (of_z w64 dom.lower.0) dom.lower.0 10_000
+  lower = of _ 10_000 (bounds-within _ fits).0 (omega arith)
 
-  upper : Held (of_z w64 s.args.dom.upper.0) s.args.dom.upper.0 10_000
-  upper = of _ 10_000 (bounds-within _ s.requires).1 (omega arith)
+  upper : Held (of_z w64 dom.upper.0) dom.upper.0 10_000
+  upper = of _ 10_000 (bounds-within _ fits).1 (omega arith)
 
 pub overflow_sub-result : goal.overflow_sub-result
-overflow_sub-result c = let s = c.before.before.before.before in sub-ok (upper s) (lower s) (omega arith)
+overflow_sub-result c = sub-ok (upper c.args.dom c.requires) (lower c.args.dom c.requires) (omega arith)
 
 pub returns : goal.returns
 unfolding narrow
-returns c = let s = c.before.before.before.before in rw (sub (upper s) (lower s) (omega arith)).reads
+returns c = rw (sub (upper c.args.dom c.requires) (lower c.args.dom c.requires) (omega arith)).reads

@@ -4,8 +4,8 @@ use Rattle.judge.proofs.one_domain.Goals as goal
 
 pub returns-then-same_domain : goal.returns-then-same_domain
 unfolding one_domain
-returns-then-same_domain c = rw (sym c.before.before.same_domain.ensures ∙ c.before.if-same_domain.true) c.same_domain-then-same_domain.ensures
+returns-then-same_domain c = rw (sym c.same_domain.ensures ∙ c.if-same_domain.true) c.same_domain-then-same_domain.ensures
 
 pub returns : goal.returns
 unfolding one_domain
-returns c = rw (sym c.before.same_domain.ensures ∙ c.if-same_domain.false)
+returns c = rw (sym c.same_domain.ensures ∙ c.if-same_domain.false)

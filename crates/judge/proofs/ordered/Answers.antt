@@ -1,4 +1,6 @@
 use mir.Syntax.{w64}
+use borrow.Author.Rules.{rules}
+use mir.Val.{SFits}
 use mir.ValLaws.{to_z-of_z}
 use Rattle.rules.specs.Descriptions.{ordered}
 use Rattle.judge.proofs.ordered.Goals as goal
@@ -7,5 +9,7 @@ use Rattle.judge.proofs.ordered.Goals as goal
 pub returns : goal.returns
 unfolding ordered
 returns c =
-    let dom = c.before.before.before.before.args.dom in
-    rw (to_z-of_z w64 dom.lower.0 (record { sfits = c.before.struct_told-1.given.0.1 }), to_z-of_z w64 dom.upper.0 (record { sfits = c.struct_told-2-1.given.0.1 }))
+    let dom = c.args.dom in
+    let lower : SFits w64 dom.lower.0 = search rules in
+    let upper : SFits w64 dom.upper.0 = search rules in
+    rw (to_z-of_z w64 dom.lower.0 lower, to_z-of_z w64 dom.upper.0 upper)

@@ -4,8 +4,8 @@ use Rattle.judge.proofs.same_domain.Goals as goal
 
 pub returns-then-same_bound : goal.returns-then-same_bound
 unfolding same_domain
-returns-then-same_bound c = rw (sym c.before.before.same_bound.ensures ∙ c.before.if-same_bound.true) c.same_bound-then-same_bound.ensures
+returns-then-same_bound c = rw (sym c.same_bound.ensures ∙ c.if-same_bound.true) c.same_bound-then-same_bound.ensures
 
 pub returns : goal.returns
 unfolding same_domain
-returns c = rw (sym c.before.same_bound.ensures ∙ c.if-same_bound.false)
+returns c = rw (sym c.same_bound.ensures ∙ c.if-same_bound.false)

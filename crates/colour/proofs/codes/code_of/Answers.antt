@@ -15,14 +15,14 @@ use Rattle.colour.proofs.codes.code_of.Tie as ties
 abbrev After-lesser-s : Type 0
 After-lesser-s = lts.After-lesser ties.the-claims reads.Pre reads.Post
 
-moved : (c : After-lesser-s) → let a = c.before.before.args in c.lesser-s.result ≡ min a.axis.full (up a.sum.0)
-moved c = c.lesser-s.ensures ∙ ap (min c.before.before.args.axis.full) c.before.above.ensures
+moved : (c : After-lesser-s) → let a = c.args in c.lesser-s.result ≡ min a.axis.full (up a.sum.0)
+moved c = c.lesser-s.ensures ∙ ap (min c.args.axis.full) c.above.ensures
 
-coded : (c : goal.After-quotient) → let a = c.before.before.before.before.before.args in
+coded : (c : goal.After-quotient) → let a = c.args in
     (m : ℕ) → Codable a.p a.axis m → c.quotient.result ≡ code (pos m *ℤ a.sum.0) a.axis.full m
 coded c m f =
     let l = c.before.before.before in
-    let a = l.before.before.args in
+    let a = l.args in
     c.quotient.ensures
     ∙ ap₂ (λ s (d : Divisor). (2 * (a.p * s) + a.axis.unit) / d.by) (moved l) f.divisor
     ∙ sym (code-in-terms a.p m a.axis.full a.axis.unit a.sum.0 f.wide (omega (arith, f.least)) f.in_terms)

@@ -8,11 +8,8 @@ use Rattle.colour.proofs.plan.plan_of.Goals as goal
 square-most : (s : goal.Start) → s.args.d.n * s.args.d.n ≤ 65536 * 65536
 square-most s = let n = n-most (sound s.args.d s.requires.readable) in mul-le-mul n n
 
-abbrev entry : goal.After-ratio_of-ratio → goal.Start
-entry c = c.before.before.before
-
 pub overflow_mul-square : goal.overflow_mul-square
 overflow_mul-square c = record { fits = omega (arith, square-most c) }
 
 pub overflow_sub-result : goal.overflow_sub-result
-overflow_sub-result c = omega (arith, (sound _ (entry c).requires.readable).least)
+overflow_sub-result c = omega (arith, (sound _ c.requires.readable).least)

@@ -7,19 +7,10 @@ use Rattle.rules.specs.Units.{raw_m, corrected_m}
 use Rattle.colour.specs.Ratios.{ratio_of}
 use Rattle.colour.specs.declared.ratio.Ratio.{Ratio}
 use Rattle.colour.proofs.ratio.ratio_of.Goals as goal
-use Rattle.colour.proofs.ratio.ratio_of.Lts as lts
-use Rattle.colour.proofs.ratio.ratio_of.Reads as reads
-use Rattle.colour.proofs.ratio.ratio_of.Tie as ties
-
-abbrev Start : Type 0
-Start = lts.Start ties.the-claims reads.Pre reads.Post
 
 -- The divisor is not 0, since what it leaves of the M of raw codes is not.
-abbrev entry : goal.After-common_divisor-common → Start
-entry c = c.before.before.before.before.before
-
-common : (c : goal.After-common_divisor-common) → let d = (entry c).args.depths in c.common_divisor-common.result ≡ gcd (corrected_m d) (raw_m d)
-common c = c.common_divisor-common.ensures ∙ ap₂ gcd c.before.before.greatest-above.ensures c.before.greatest-below.ensures
+common : (c : goal.After-common_divisor-common) → let d = c.args.depths in c.common_divisor-common.result ≡ gcd (corrected_m d) (raw_m d)
+common c = c.common_divisor-common.ensures ∙ ap₂ gcd c.greatest-above.ensures c.greatest-below.ensures
 
 above-0 : (n common : ℕ) → 0 < n / common → 0 < common
 above-0 n zero h = absurd (omega (arith, div-zero n))
@@ -27,7 +18,7 @@ above-0 n (suc k) h = omega arith
 
 divisor-there : (c : goal.After-common_divisor-common) → 0 < c.common_divisor-common.result
 unfolding ratio_of
-divisor-there c = subst (λ x. 0 < x) (sym (common c)) (above-0 _ _ (entry c).requires.some)
+divisor-there c = subst (λ x. 0 < x) (sym (common c)) (above-0 _ _ c.requires.some)
 
 same-ratio : {a b : Ratio} → a.top ≡ b.top → a.bottom ≡ b.bottom → a ≡ b
 same-ratio p q i = record { top = p i; bottom = q i }
@@ -40,4 +31,4 @@ nonzero_div-result-2 c = omega (arith, divisor-there c)
 
 pub returns : goal.returns
 unfolding ratio_of
-returns c = same-ratio (ap₂ ◌/◌ c.before.before.greatest-above.ensures (common c)) (ap₂ ◌/◌ c.before.greatest-below.ensures (common c))
+returns c = same-ratio (ap₂ ◌/◌ c.greatest-above.ensures (common c)) (ap₂ ◌/◌ c.greatest-below.ensures (common c))

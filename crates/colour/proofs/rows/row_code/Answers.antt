@@ -12,12 +12,12 @@ abbrev After-sample_of : Type 0
 After-sample_of = lts.After-sample_of ties.the-claims reads.Pre reads.Post
 
 -- A row's code is that of its sample.
-sample-there : (c : After-sample_of) → let a = c.before.before.args in c.sample_of.result.0 ≡ sample_at a.table.now a.row a.c
-sample-there c = c.sample_of.ensures ∙ c.before.row_part.ensures.number c.before.before.args.c
+sample-there : (c : After-sample_of) → let a = c.args in c.sample_of.result.0 ≡ sample_at a.table.now a.row a.c
+sample-there c = c.sample_of.ensures ∙ c.row_part.ensures.number c.args.c
 
 pub returns : goal.returns
 returns c =
-    let a = c.before.before.before.args in
+    let a = c.args in
     λ den wide. c.sample_code.ensures
     ∙ ap (λ z. code (pos a.m *ℤ z) sample_one a.m) (sample-there c.before)
     ∙ row-by-itself a.m den a.table.now a.c a.row wide

@@ -8,13 +8,11 @@ pub pair_of-red-requires : goal.pair_of-red-requires
 pair_of-red-requires c = let p = c.requires.1 in record { axis_fits = axis-fits p Red; cells_fit = cells_fit p }
 
 pub pair_of-green-requires : goal.pair_of-green-requires
-pair_of-green-requires c = let p = c.before.requires.1 in record { axis_fits = axis-fits p Green; cells_fit = cells_fit p }
+pair_of-green-requires c = let p = c.requires.1 in record { axis_fits = axis-fits p Green; cells_fit = cells_fit p }
 
 pub pair_of-blue-requires : goal.pair_of-blue-requires
-pair_of-blue-requires c = let p = c.before.before.requires.1 in record { axis_fits = axis-fits p Blue; cells_fit = cells_fit p }
+pair_of-blue-requires c = let p = c.requires.1 in record { axis_fits = axis-fits p Blue; cells_fit = cells_fit p }
 
 pub returns : goal.returns
 unfolding shown_by
-returns c =
-    let pairs = c.before.before.before.before.before.before in
-    rw (← pairs.before.before.pair_of-red.ensures, ← pairs.before.pair_of-green.ensures, ← pairs.pair_of-blue.ensures)
+returns c = rw (← c.pair_of-red.ensures, ← c.pair_of-green.ensures, ← c.pair_of-blue.ensures)

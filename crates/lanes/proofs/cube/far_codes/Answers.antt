@@ -14,8 +14,8 @@ use Rattle.lanes.proofs.cube.far_codes.Goals as goal
 
 -- The keys are those of a pixel, so that the path fits the table, and its three sums make the corrected codes: the axis is codable with
 -- their M, which is the cube's, and the wide reciprocal exact.
-path-fits : (c : goal.After-path_in-path) → PathFits c.before.args.table.now c.path_in-path.result
-path-fits c = climbs-fit c.before.requires c.path_in-path.ensures
+path-fits : (c : goal.After-path_in-path) → PathFits c.args.table.now c.path_in-path.result
+path-fits c = climbs-fit c.requires c.path_in-path.ensures
 
 -- its M is that of corrected codes
 codes : {cube : Cube} {table : List ℤ} {start red green blue : ℕ} → Placed cube table start red green blue
@@ -47,8 +47,8 @@ pub returns : goal.returns
 returns c =
     let second = c.before.before in
     let first = second.before.before in
-    let way = first.before.before.path_in-path.ensures in
+    let way = first.path_in-path.ensures in
     λ p. same_codes _ _
-    (each-colour _ (climbs-code p way Red p.cubed.most_is first.before.path_sum.ensures first.far_code.ensures)
-    (climbs-code p way Green p.cubed.most_is second.before.path_sum-2.ensures second.far_code-2.ensures)
-    (climbs-code p way Blue p.cubed.most_is c.before.path_sum-3.ensures c.far_code-3.ensures))
+    (each-colour _ (climbs-code p way Red p.cubed.most_is first.path_sum.ensures first.far_code.ensures)
+    (climbs-code p way Green p.cubed.most_is second.path_sum-2.ensures second.far_code-2.ensures)
+    (climbs-code p way Blue p.cubed.most_is c.path_sum-3.ensures c.far_code-3.ensures))
