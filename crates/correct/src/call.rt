@@ -19,6 +19,7 @@ pub enum Asked {
 }
 
 // Whether a word begins with two hyphens.
+#[tactic(auto, unfolding(crate::specs::Calls::begins_as_option))]
 fn begins_as_option(word: &[u8]) -> bool
     ensures { result ≡ begins_as_option word.now }
 {

@@ -220,5 +220,15 @@ pub fn correct_files(
     let Some(from) = open_in(host) else {
         return Outcome::Failed;
     };
-    correct_to(host, from, &path[..n], d, table, wanted, bytes, raw, corrected)
+    correct_to(
+        host,
+        from,
+        &path[..n],
+        d,
+        table,
+        wanted,
+        bytes,
+        raw,
+        corrected,
+    )
 }

@@ -49,6 +49,7 @@ fn maxval_wanted(wanted: Last, picture: u64) -> u64
 }
 
 // Once the picture's own codes are known.
+#[tactic(auto, unfolding(crate::specs::Jobs::with_raw))]
 fn with_raw(frame: Frame, maxval: u64, raw: Scale) -> JobFound
     ensures { result ≡ with_raw frame maxval raw }
 {
@@ -62,6 +63,7 @@ fn with_raw(frame: Frame, maxval: u64, raw: Scale) -> JobFound
     })
 }
 
+#[tactic(auto, unfolding(crate::specs::Jobs::job_of))]
 pub fn job_of(frame: Frame, wanted: Last) -> JobFound
     ensures { result ≡ job_of frame wanted }
 {

@@ -24,6 +24,7 @@ pub struct Story {
 }
 
 // A picture whose header is written.
+#[tactic(auto, unfolding(crate::specs::Outcomes::fate_of))]
 pub fn fate_of(passed: Passed) -> Fate
     ensures { result ≡ fate_of passed }
 {
@@ -41,6 +42,7 @@ pub fn fate_of(passed: Passed) -> Fate
 }
 
 // Whether something of the pictures is left in the output, which stays as it is or is taken away.
+#[tactic(auto, unfolding(crate::specs::Outcomes::is_left))]
 fn is_left(stays: bool, story: Story) -> bool
     ensures { result ≡ is_left stays story }
 {
@@ -61,6 +63,7 @@ fn is_left(stays: bool, story: Story) -> bool
 }
 
 // Of pictures that are wrong.
+#[tactic(auto, unfolding(crate::specs::Outcomes::refusal))]
 fn refusal(stays: bool, story: Story) -> Outcome
     ensures { result ≡ refusal stays story }
 {
@@ -71,6 +74,7 @@ fn refusal(stays: bool, story: Story) -> Outcome
 }
 
 // Where the input ends after so many whole pictures.
+#[tactic(auto, unfolding(crate::specs::Outcomes::ended))]
 fn ended(whole: u64) -> Outcome
     ensures { result ≡ ended whole }
 {
@@ -81,6 +85,7 @@ fn ended(whole: u64) -> Outcome
 }
 
 // By whether the output stays as it is where the work stops.
+#[tactic(auto, unfolding(crate::specs::Outcomes::outcome_of))]
 pub fn outcome_of(stays: bool, story: Story) -> Outcome
     ensures { result ≡ outcome_of stays story }
 {

@@ -104,8 +104,8 @@ fn pass_headed(
         Heading::TooLong => Fate::Unfit,
         Heading::Read(header) => match header {
             Header::Wrong(_) => Fate::Unfit,
-            Header::Stands(frame) => pass_frame(host, 
-                ends, number, d, table, frame, wanted, bytes, raw, corrected,
+            Header::Stands(frame) => pass_frame(
+                host, ends, number, d, table, frame, wanted, bytes, raw, corrected,
             ),
         },
     }
@@ -128,8 +128,8 @@ fn pass_picture(
 {
     let heading = headers::read(&mut ends.from);
     words::say_heading(host, ends, number, heading);
-    pass_headed(host, 
-        ends, number, d, table, heading, wanted, bytes, raw, corrected,
+    pass_headed(
+        host, ends, number, d, table, heading, wanted, bytes, raw, corrected,
     )
 }
 
@@ -149,7 +149,8 @@ pub fn pass_pictures(
 {
     let mut whole = 0;
     while whole < MOST_PICTURES {
-        let fate = pass_picture(host, 
+        let fate = pass_picture(
+            host,
             ends,
             whole + 1,
             d,

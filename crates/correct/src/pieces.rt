@@ -40,6 +40,7 @@ struct Piece {
 const PIECE_PIXELS: usize = 1_048_576;
 
 // Whether lent space of these lengths holds a piece: as bytes, as raw and as corrected codes.
+#[tactic(auto, unfolding(crate::specs::Pieces::has_room))]
 pub fn has_room(bytes: usize, raw: usize, corrected: usize) -> bool
     ensures { result ≡ has_room bytes raw corrected }
 {
@@ -97,6 +98,7 @@ fn pixel_bytes(wide: bool) -> usize
 }
 
 // What became of a piece of so many pixels, once what could be corrected of it is written. Its first pixel has a number in the picture.
+#[tactic(auto, unfolding(crate::specs::Pieces::passed_of, crate::specs::Pieces::passed_by))]
 fn passed_of(piece: Piece, first: u64, want: usize) -> Passed
     requires { (first ≤ most_pixels) × (piece.pixels ≤ piece_bytes) }
     ensures { result ≡ passed_of piece first want }

@@ -62,7 +62,10 @@ pub fn help(out: &mut Output) -> bool {
     ) && help_on_work(out)
         && help_on_arguments(out)
         && help_on_statuses(out)
-        && write(out, b"example: erythmoda correct look.cube in.ppm out.ppm\n")
+        && write(
+            out,
+            b"example: erythmoda correct look.cube in.ppm out.ppm\n",
+        )
         && write(
             out,
             b"example: erythmoda correct look.cube in.ppm deep.ppm --maxval 65535\n",
@@ -147,7 +150,10 @@ pub fn say_link(host: &mut Host) {
 }
 
 pub fn say_no_file(host: &mut Host) {
-    say_line(host, b"OUT is a device or a pipe: leave IN and OUT out, and use standard output");
+    say_line(
+        host,
+        b"OUT is a device or a pipe: leave IN and OUT out, and use standard output",
+    );
 }
 
 // ---- a header
@@ -172,31 +178,57 @@ fn say_most(host: &mut Host, part: Part) {
 // What the bytes are, and what makes a P6 of them.
 fn say_kind(host: &mut Host, kind: Kind) {
     match kind {
-        Kind::PlainBitmap => say(host, 
+        Kind::PlainBitmap => say(
+            host,
             b"the picture is a P1, black and white in text: ppmtoppm < IN > OUT makes a P6 of it",
         ),
         Kind::PlainGreys => {
-            say(host, b"the picture is a P2, greys in text: ppmtoppm < IN > OUT makes a P6 of it")
+            say(
+                host,
+                b"the picture is a P2, greys in text: ppmtoppm < IN > OUT makes a P6 of it",
+            )
         }
         Kind::PlainPixels => {
-            say(host, b"the picture is a P3, colours in text: ppmtoppm < IN > OUT makes a P6 of it")
+            say(
+                host,
+                b"the picture is a P3, colours in text: ppmtoppm < IN > OUT makes a P6 of it",
+            )
         }
         Kind::Bitmap => {
-            say(host, b"the picture is a P4, black and white: ppmtoppm < IN > OUT makes a P6 of it")
+            say(
+                host,
+                b"the picture is a P4, black and white: ppmtoppm < IN > OUT makes a P6 of it",
+            )
         }
-        Kind::Greys => say(host, b"the picture is a P5, greys: ppmtoppm < IN > OUT makes a P6 of it"),
+        Kind::Greys => say(
+            host,
+            b"the picture is a P5, greys: ppmtoppm < IN > OUT makes a P6 of it",
+        ),
         Kind::Unparted => say(host, b"the picture does not begin with P6 and whitespace"),
         Kind::Pam => {
-            say(host, b"the picture is a P7 (PAM): pamtopnm < IN | ppmtoppm > OUT makes a P6 of it")
+            say(
+                host,
+                b"the picture is a P7 (PAM): pamtopnm < IN | ppmtoppm > OUT makes a P6 of it",
+            )
         }
-        Kind::Png => say(host, b"the picture is a PNG: pngtopam IN | ppmtoppm > OUT makes a P6 of it"),
+        Kind::Png => say(
+            host,
+            b"the picture is a PNG: pngtopam IN | ppmtoppm > OUT makes a P6 of it",
+        ),
         Kind::Jpeg => {
-            say(host, b"the picture is a JPEG: jpegtopnm IN | ppmtoppm > OUT makes a P6 of it")
+            say(
+                host,
+                b"the picture is a JPEG: jpegtopnm IN | ppmtoppm > OUT makes a P6 of it",
+            )
         }
         Kind::Tiff => {
-            say(host, b"the picture is a TIFF: tifftopnm IN | ppmtoppm > OUT makes a P6 of it")
+            say(
+                host,
+                b"the picture is a TIFF: tifftopnm IN | ppmtoppm > OUT makes a P6 of it",
+            )
         }
-        Kind::Other => say(host, 
+        Kind::Other => say(
+            host,
             b"the picture does not begin with P6 and whitespace: convert IN ppm:- > OUT (ImageMagick) makes a P6 of many kinds of files",
         ),
     }
@@ -241,7 +273,10 @@ pub fn say_heading(host: &mut Host, ends: &Ends, number: u64, heading: Heading) 
         Heading::Read(header) => say_header(host, number, header),
         Heading::TooLong => {
             say_start(host, number);
-            say(host, b"the header does not end within the first 4,096 bytes of the picture\n");
+            say(
+                host,
+                b"the header does not end within the first 4,096 bytes of the picture\n",
+            );
         }
         Heading::Empty => say_empty(host, number),
         Heading::Unread => {
@@ -259,7 +294,10 @@ pub fn say_maxval(host: &mut Host, number: u64, maxval: u64) {
 }
 
 pub fn say_wanted(host: &mut Host) {
-    say_line(host, b"the output's --maxval is none of 255, 1023, 4095 and 65535");
+    say_line(
+        host,
+        b"the output's --maxval is none of 255, 1023, 4095 and 65535",
+    );
 }
 
 // ---- the pixels
@@ -319,5 +357,8 @@ pub fn say_passed(host: &mut Host, ends: &Ends, number: u64, passed: Passed, fra
 }
 
 pub fn say_uncounted(host: &mut Host) {
-    say_line(host, b"there may be more than 1,000,000,000,000,000,000 pictures, and no more are read");
+    say_line(
+        host,
+        b"there may be more than 1,000,000,000,000,000,000 pictures, and no more are read",
+    );
 }
