@@ -330,11 +330,24 @@ pub fn create_output(host: &mut Host, path: &[u8]) -> Option<Output> {
     Some(Output::to(Sink::Opened(file)))
 }
 
+// Whether a name is that of a device or a pipe.
+fn is_device(rt: HostRuntime, name: &str) -> bool {
+    match fs::metadata(&rt, name) {
+        Ok(about) => !about.is_file() && !about.is_dir(),
+        Err(_) => false,
+    }
+}
+
+// A device is not waited for: it is not even opened.
 fn update(rt: HostRuntime, path: &[u8]) -> io::Result<File> {
+    let name = text_of(path)?;
+    if is_device(rt, name) {
+        return Err(io::Error::from_raw_os_error(NO_FILE));
+    }
     let mut how = OpenOptions::new();
     how.read(true);
     how.write(true);
-    how.open(&rt, text_of(path)?)
+    how.open(&rt, name)
 }
 
 // The file with this name, open to read and to write, with its bytes as they are; or none, and the host has the reason.
