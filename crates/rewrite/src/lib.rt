@@ -32,7 +32,13 @@ fn print(host: &mut Host, answer: Write, text: &[u8]) -> Outcome
 }
 
 // A table with this title, where the description marks one.
-fn write_anew(host: &mut Host, d: Description, table: &[i64], title: &[u8], text: &mut [u8]) -> Outcome
+fn write_anew(
+    host: &mut Host,
+    d: Description,
+    table: &[i64],
+    title: &[u8],
+    text: &mut [u8],
+) -> Outcome
     ensures { Rewrites d table.now title.now text.old text.new }
 {
     let answer = write(d, table, title, &mut *text);
@@ -40,7 +46,13 @@ fn write_anew(host: &mut Host, d: Description, table: &[i64], title: &[u8], text
 }
 
 // With the title that its file has.
-fn keep_title(host: &mut Host, d: Description, file: &[u8], table: &[i64], text: &mut [u8]) -> Outcome
+fn keep_title(
+    host: &mut Host,
+    d: Description,
+    file: &[u8],
+    table: &[i64],
+    text: &mut [u8],
+) -> Outcome
     requires { TitleWithin d file.now }
     ensures { Rewrites d table.now (title_bytes file.now d.title) text.old text.new }
 {
@@ -61,7 +73,14 @@ fn new_title(host: &mut Host, d: Description, table: &[i64], text: &mut [u8]) ->
 }
 
 // With the title that is wanted.
-fn retitle(host: &mut Host, d: Description, file: &[u8], table: &[i64], wanted: Wanted, text: &mut [u8]) -> Outcome
+fn retitle(
+    host: &mut Host,
+    d: Description,
+    file: &[u8],
+    table: &[i64],
+    wanted: Wanted,
+    text: &mut [u8],
+) -> Outcome
     requires { TitleWithin d file.now }
 {
     match wanted {
@@ -72,7 +91,13 @@ fn retitle(host: &mut Host, d: Description, file: &[u8], table: &[i64], wanted: 
 }
 
 // The table that the argument after the verb names.
-fn rewrite_by(host: &mut Host, file: &mut [u8], table: &mut [i64], wanted: Wanted, text: &mut [u8]) -> Outcome {
+fn rewrite_by(
+    host: &mut Host,
+    file: &mut [u8],
+    table: &mut [i64],
+    wanted: Wanted,
+    text: &mut [u8],
+) -> Outcome {
     match load_argument(host, &PROGRAM, 2, &mut *file, &mut *table) {
         Loaded::Table { description, bytes } => {
             retitle(host, description, &file[..bytes], table, wanted, text)
