@@ -20,7 +20,7 @@ use Rattle.lanes.proofs.Parting.{each-parts-most, low-parts-most, den-parts-some
 use Rattle.lanes.proofs.Cubing.{den-narrow, parts-codable}
 use Rattle.strips.proofs.strip_of.Goals as goal
 
--- A line's axis is that of its colour in the plan, so that in parts it makes the same codes; where p is 1, D-10,000,000 is M units of it.
+-- A line's axis is that of its colour in the plan, so that in parts it makes the same codes; where p is 1, D·10,000,000 is M units of it.
 -- ---- the axis of a line in parts
 module _ {line : Line} {table : List ℤ} (l : Lined line table) {g : ℕ} {parts : Axis} (some : 0 < g) (parted : Parted g line.axis parts) where
   abbrev m : ℕ
@@ -41,7 +41,7 @@ module _ {line : Line} {table : List ℤ} (l : Lined line table) {g : ℕ} {part
   den-most : parts.den * line.cells ≤ den_limit * 65535
   den-most = NatL.mul-le-mul (den-narrow l.planned line.colour some of-colour) (line-fits l).1.most
 
-  -- ---- D-10,000,000 and half the unit
+  -- ---- D·10,000,000 and half the unit
 
   top-fits : parts.full + parts.unit / 2 < 18_446_744_073_709_551_616
   top-fits = omega (arith, parted.full_is, den-narrow l.planned line.colour some of-colour, coded.fits)

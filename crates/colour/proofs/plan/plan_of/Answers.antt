@@ -4,7 +4,7 @@ use native.Mathlib.Omega.{arith}
 use Rattle.colour.proofs.Plans.{sound, n-most}
 use Rattle.colour.proofs.plan.plan_of.Goals as goal
 
--- What a description that could have been read has of each colour; N-as-N is no more than 65,536 · 65,536.
+-- What a description that could have been read has of each colour; N·N is no more than 65,536 · 65,536.
 square-most : (s : goal.Start) → s.args.d.n * s.args.d.n ≤ 65536 * 65536
 square-most s = let n = n-most (sound s.args.d s.requires.readable) in mul-le-mul n n
 
