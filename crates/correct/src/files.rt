@@ -63,6 +63,19 @@ fn is_file(host: &mut Host, file: &mut Output) -> bool {
     false
 }
 
+// Whether a name that could not be opened is new; if not, what it is instead is said.
+fn is_new(host: &mut Host) -> bool {
+    if is_missing(host.failure()) {
+        return true;
+    }
+    if is_no_file(host.failure()) {
+        words::say_no_file(host);
+        return false;
+    }
+    words::say_failure(host, b"cannot write OUT");
+    false
+}
+
 // Whether the output can take this name, which is new or that of a file; if not, that is said. A file stays as it is. What is written by renaming would
 // take a link's place and not that of the file that it leads to.
 fn is_fit(host: &mut Host, path: &[u8]) -> bool {
@@ -71,11 +84,7 @@ fn is_fit(host: &mut Host, path: &[u8]) -> bool {
         return false;
     }
     let Some(mut file) = open_update(host, path) else {
-        if is_missing(host.failure()) {
-            return true;
-        }
-        words::say_failure(host, b"cannot write OUT");
-        return false;
+        return is_new(host);
     };
     is_file(host, &mut file)
 }
