@@ -6,7 +6,7 @@ ghost use Rattle.invert.specs.Saying.{end_of};
 
 use crate::answers::Said;
 use crate::question::Question;
-use desk::{Host, Outcome, say, say_refusal, write, write_count};
+use desk::{Host, Outcome, Output, say, say_refusal, write, write_count};
 use rules::{Colour, Refusal};
 
 pub const PROGRAM: [u8; 16] = *b"erythmoda invert";
@@ -49,7 +49,15 @@ fn show_hit(host: &mut Host, c: Colour, wanted: u32, code: u16, count: u64) -> b
         && say(host, b", up to the exact hit\n")
 }
 
-fn show_near(host: &mut Host, c: Colour, wanted: u32, code: u16, corrected: u16, off: u16, count: u64) -> bool {
+fn show_near(
+    host: &mut Host,
+    c: Colour,
+    wanted: u32,
+    code: u16,
+    corrected: u16,
+    off: u16,
+    count: u64,
+) -> bool {
     show_code(host, c, code, corrected as u64)
         && say(host, b", ")
         && say_number(host, off as u64)
@@ -104,13 +112,19 @@ pub fn show_said(host: &mut Host, question: Question, said: Said) -> Outcome
     let c = question.colour;
     let wanted = question.wanted;
     match said {
-        Said::Hit { code, count } => done_if(host, show_hit(host, c, wanted, code, count)),
+        Said::Hit { code, count } => {
+            let shown = show_hit(host, c, wanted, code, count);
+            done_if(host, shown)
+        }
         Said::Near {
             code,
             corrected,
             off,
             count,
-        } => done_if(host, show_near(host, c, wanted, code, corrected, off, count)),
+        } => {
+            let shown = show_near(host, c, wanted, code, corrected, off, count);
+            done_if(host, shown)
+        }
         Said::Refused { reason, count } => refuse(host, reason, count),
     }
 }
