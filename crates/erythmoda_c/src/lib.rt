@@ -45,7 +45,16 @@ pub extern "C" fn erythmoda_look(
 ) -> u32
     ensures { LooksC description.now table.now (bits_of raw corrected) pixel.now result codes.new rows.new weights.new }
 {
-    erythmoda::erythmoda_look(description, table, raw, corrected, pixel, codes, rows, weights)
+    erythmoda::erythmoda_look(
+        description,
+        table,
+        raw,
+        corrected,
+        pixel,
+        codes,
+        rows,
+        weights,
+    )
 }
 
 // One pixel to six rows and weights: the first half of a look.
@@ -123,5 +132,15 @@ pub extern "C" fn erythmoda_inverse(
 ) -> u32
     ensures { InvertsC description.now table.now (bits_of raw corrected) colour wanted tolerance result code.new count.new }
 {
-    erythmoda::erythmoda_inverse(description, table, raw, corrected, colour, wanted, tolerance, code, count)
+    erythmoda::erythmoda_inverse(
+        description,
+        table,
+        raw,
+        corrected,
+        colour,
+        wanted,
+        tolerance,
+        code,
+        count,
+    )
 }
