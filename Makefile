@@ -16,11 +16,11 @@ help: ## this list
 
 build: lib command ## the library and the command
 
-lib: ## the library, static and shared, proved and compiled for this processor in target/native
+lib: ## the library, static and shared, proved and compiled in target/native
 	@tools/native erythmoda target/native
 	@echo "target/native has liberythmoda.a and liberythmoda.so, version $$(tools/version)"
 
-command: ## the command erythmoda, proved but for command/main.c, in target/native
+command: ## the command erythmoda, proved and compiled in target/native
 	@tools/command target/native
 	@echo "target/native has the command erythmoda, version $$(tools/version)"
 

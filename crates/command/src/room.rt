@@ -1,6 +1,6 @@
 // How much memory a call takes, by what its arguments name. None of it is proved to be enough, and none has to be: with too little a file is refused.
-use crate::verbs::Verb;
 use crate::verb_named;
+use crate::verbs::Verb;
 use desk::{Extent, Host, argument, argument_count, extent_of, hold};
 use judge::{count_rows, in_range};
 use pointing::{SizeFound, size_in};
@@ -127,7 +127,10 @@ pub(crate) fn room_for(host: &mut Host) -> Room {
         }
         Verb::Rewrite => {
             let mut room = table_room(host);
-            room.text = room.rows.saturating_mul(ROW_BYTES).saturating_add(TEXT_BYTES);
+            room.text = room
+                .rows
+                .saturating_mul(ROW_BYTES)
+                .saturating_add(TEXT_BYTES);
             room
         }
         Verb::Invert => table_room(host),
