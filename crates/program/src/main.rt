@@ -5,7 +5,16 @@ use command::run;
 use desk::Host;
 use std::process::ExitCode;
 
+// The statuses are 0, 1 and 2.
+fn code_of(status: u32) -> u8 {
+    match status {
+        0 => 0,
+        1 => 1,
+        _ => 2,
+    }
+}
+
 fn main(rt: HostRuntime) -> ExitCode {
     let mut host = Host::of(rt);
-    ExitCode::from(run(&mut host) as u8)
+    ExitCode::from(code_of(run(&mut host)))
 }
