@@ -17,6 +17,9 @@ use room::{lend, room_for};
 use std::io::Error;
 use verbs::{Verb, asks_help, verb_of};
 
+// What Linux calls it where there is no memory (ENOMEM).
+const NO_MEMORY: i32 = 12;
+
 // What the first argument asks for; none, or one that is longer than a path, asks for nothing known.
 pub(crate) fn verb_named(host: &Host) -> Verb {
     let mut word = io::buffer();
@@ -125,8 +128,9 @@ pub fn run(host: &mut Host) -> u32
             &mut lent.corrected,
             &mut lent.text,
         ),
-        Err(error) => {
-            say_failed(host, b"erythmoda: no memory", Some(Error::from(error)));
+        Err(_) => {
+            let failure = Error::from_raw_os_error(NO_MEMORY);
+            say_failed(host, b"erythmoda: no memory", Some(failure));
             Outcome::Failed.status()
         }
     }
