@@ -1,5 +1,5 @@
 // The inverse: the number, the raw code and the count of codes tried, all of which held what is no answer.
-use crate::{halves, pictures, print};
+use crate::{pictures, print, two_halves};
 use erythmoda::erythmoda_inverse;
 
 // Two rows in 1D, from 0 to 1.
@@ -76,7 +76,7 @@ fn refused() {
     inverted(b"inverse-cube", &cube, &pictures::cube(), 9, 8, RED, 256, 0);
     inverted(
         b"inverse-kind-2",
-        &halves::KIND_2,
+        &two_halves::KIND_2,
         &SLOPES,
         9,
         8,

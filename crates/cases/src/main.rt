@@ -4,7 +4,6 @@
 #![tactic(auto)]
 
 mod checks;
-mod halves;
 mod inverses;
 mod longest;
 mod looks;
@@ -12,6 +11,7 @@ mod mixed;
 mod pictures;
 mod print;
 mod reads;
+mod two_halves;
 mod writes;
 
 fn main() {
@@ -26,6 +26,6 @@ fn main() {
     checks::run();
     mixed::run();
     writes::run();
-    halves::run();
+    two_halves::run();
     inverses::run();
 }
