@@ -28,7 +28,7 @@ pub(crate) fn verb_named(host: &Host) -> Verb {
 }
 
 // Whether the argument after the verb asks for help.
-fn help_wanted(host: &Host) -> bool {
+pub(crate) fn help_wanted(host: &Host) -> bool {
     let mut word = io::buffer();
     let n = argument(host, 2, &mut word);
     asks_help(&word[..n])

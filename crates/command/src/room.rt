@@ -1,6 +1,6 @@
 // How much memory a call takes, by what its arguments name. None of it is proved to be enough, and none has to be: with too little a file is refused.
-use crate::verb_named;
 use crate::verbs::Verb;
+use crate::{help_wanted, verb_named};
 use desk::{Extent, Host, argument, argument_count, extent_of, hold};
 use judge::{count_rows, in_range};
 use pointing::{SizeFound, size_in};
@@ -10,7 +10,7 @@ use std::alloc::AllocError;
 // A file of the largest table has some 600 MB.
 const MOST_FILE: usize = 1_073_741_824;
 
-// What is lent for a file whose length is told as 0, as that of a file of the system is.
+// However short the files are, so much is lent, so that one that grows meanwhile may still fit.
 const LEAST_FILE: usize = 65_536;
 
 // crates/correct/src/pieces.rt
@@ -64,7 +64,22 @@ fn rows_asked(file: &[u8]) -> usize {
     }
 }
 
-// Room for the table that the argument after the verb names, which is read here and held until the verb asks for it.
+// Whether a verb loads the table that the argument after it names: where it does not understand its arguments, it says so and opens nothing.
+fn loads_table(host: &Host, verb: Verb) -> bool {
+    match verb {
+        Verb::Explain => explain::is_understood(host),
+        Verb::Correct => correct::is_understood(host),
+        Verb::Rewrite => rewrite::is_understood(host),
+        Verb::Invert => invert::is_understood(host),
+        Verb::Report => false,
+        Verb::Check => false,
+        Verb::Help => false,
+        Verb::Version => false,
+        Verb::Unknown => false,
+    }
+}
+
+// Room for that table, which is read here and held until the verb asks for it.
 fn table_room(host: &mut Host) -> Room {
     let mut path = io::buffer();
     let n = argument(host, 2, &mut path);
@@ -110,6 +125,21 @@ fn files_room(host: &Host) -> Room {
     }
 }
 
+// Room for what a verb does, whose table is there.
+fn verb_room(host: &mut Host, verb: Verb) -> Room {
+    let mut room = table_room(host);
+    if let Verb::Correct = verb {
+        room.pixels = PIECE_PIXELS;
+    }
+    if let Verb::Rewrite = verb {
+        room.text = room
+            .rows
+            .saturating_mul(ROW_BYTES)
+            .saturating_add(TEXT_BYTES);
+    }
+    room
+}
+
 pub(crate) fn room_for(host: &mut Host) -> Room {
     let none = Room {
         file: 0,
@@ -117,28 +147,17 @@ pub(crate) fn room_for(host: &mut Host) -> Room {
         pixels: 0,
         text: 0,
     };
-    match verb_named(host) {
-        Verb::Report => none,
-        Verb::Explain => table_room(host),
-        Verb::Correct => {
-            let mut room = table_room(host);
-            room.pixels = PIECE_PIXELS;
-            room
-        }
-        Verb::Rewrite => {
-            let mut room = table_room(host);
-            room.text = room
-                .rows
-                .saturating_mul(ROW_BYTES)
-                .saturating_add(TEXT_BYTES);
-            room
-        }
-        Verb::Invert => table_room(host),
-        Verb::Check => files_room(host),
-        Verb::Help => none,
-        Verb::Version => none,
-        Verb::Unknown => none,
+    if help_wanted(host) {
+        return none;
     }
+    let verb = verb_named(host);
+    if let Verb::Check = verb {
+        return files_room(host);
+    }
+    if !loads_table(host, verb) {
+        return none;
+    }
+    verb_room(host, verb)
 }
 
 pub(crate) fn lend(host: &Host, room: Room) -> Result<Lent, AllocError> {

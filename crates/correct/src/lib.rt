@@ -90,6 +90,14 @@ fn correct_by(
     }
 }
 
+// Whether the arguments ask for pictures to be corrected, for which a table is then loaded.
+pub fn is_understood(host: &Host) -> bool {
+    match asked_for(host) {
+        Asked::For(_) => true,
+        Asked::Unclear => false,
+    }
+}
+
 // What the arguments ask for, in lent space for the file, the table, and a piece of a picture as bytes, raw and corrected codes.
 pub fn correct(
     host: &mut Host,

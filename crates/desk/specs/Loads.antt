@@ -1,4 +1,4 @@
--- What is fetched from a descriptor, and what loading a table leaves in the lent memory.
+-- What is fetched from an input, and what loading a table leaves in the lent memory.
 use Rattle.std.specs.Prelude.{ℕ, ◌≤◌, ◌≡◌, List, ℤ, length, take}
 use Rattle.rules.specs.Promises.{Reads}
 use Rattle.rules.specs.declared.Read.{Read}

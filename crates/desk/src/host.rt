@@ -403,10 +403,16 @@ fn measured(rt: HostRuntime, path: &[u8]) -> io::Result<Extent> {
     if about.is_dir() {
         return Ok(Extent::Nothing);
     }
-    if about.is_file() && about.len() > 0 {
-        return Ok(Extent::Bytes(about.len()));
+    if !about.is_file() {
+        return Ok(Extent::Unknown);
     }
-    Ok(Extent::Unknown)
+    let told = about.len();
+    if told > 0 {
+        return Ok(Extent::Bytes(told));
+    }
+    // A file of the system has bytes, though it tells none.
+    let bytes = bytes_of(rt, path, usize::MAX)?;
+    Ok(Extent::Bytes(bytes.len() as u64))
 }
 
 pub fn extent_of(host: &Host, path: &[u8]) -> Extent {

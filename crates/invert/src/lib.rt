@@ -35,6 +35,14 @@ fn answer_by(host: &mut Host, file: &mut [u8], table: &mut [i64], question: Ques
     }
 }
 
+// Whether the arguments ask a question, for which a table is then loaded.
+pub fn is_understood(host: &Host) -> bool {
+    match read_arguments(host) {
+        Asked::Plainly(_) => true,
+        Asked::Unclear => false,
+    }
+}
+
 // The question that the arguments ask, answered with lent space for the file and the table.
 pub fn invert(host: &mut Host, file: &mut [u8], table: &mut [i64]) -> Outcome {
     let Asked::Plainly(question) = read_arguments(host) else {

@@ -107,6 +107,14 @@ fn rewrite_by(
     }
 }
 
+// Whether the arguments ask for a table to be written anew, which is then loaded.
+pub fn is_understood(host: &Host) -> bool {
+    match title_wanted(host) {
+        titles::Asked::For(_) => true,
+        titles::Asked::Unclear => false,
+    }
+}
+
 // What the arguments ask for, in lent space for the file, the table and the text.
 pub fn rewrite(host: &mut Host, file: &mut [u8], table: &mut [i64], text: &mut [u8]) -> Outcome {
     let asked = title_wanted(host);
