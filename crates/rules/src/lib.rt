@@ -5,10 +5,12 @@ ghost use Rattle.std.specs.Prelude.{◌≡◌};
 ghost use Rattle.rules.specs.Answers.{refusal_number};
 ghost use Rattle.rules.specs.Units.{depth_of, depth_with, depths_of};
 
+mod words;
+
 // ---- units and depths
 
 // A domain bound, in thousandths.
-#[derive(Clone, Copy)]
+#[derive(Clone, Copy, Debug, PartialEq, Eq)]
 pub struct Thousandths(pub i64);
 
 impl Thousandths {
@@ -27,7 +29,7 @@ impl Thousandths {
 }
 
 // A sample, in ten-millionths.
-#[derive(Clone, Copy)]
+#[derive(Clone, Copy, Debug, PartialEq, Eq)]
 pub struct TenMillionths(pub i64);
 
 impl TenMillionths {
@@ -46,7 +48,7 @@ impl TenMillionths {
 }
 
 // A depth: its width in bits, and its greatest code M. Only the constructors make one, so it is one of the four that are known.
-#[derive(Clone, Copy)]
+#[derive(Clone, Copy, Debug, PartialEq, Eq)]
 pub struct Depth {
     bits: u32,
     greatest: u16,
@@ -126,14 +128,14 @@ impl Depth {
 }
 
 // The widths in bits that are asked for: of raw and of corrected codes.
-#[derive(Clone, Copy)]
+#[derive(Clone, Copy, Debug, PartialEq, Eq)]
 pub struct Bits {
     pub raw: u32,
     pub corrected: u32,
 }
 
 // The depths of raw and of corrected codes.
-#[derive(Clone, Copy)]
+#[derive(Clone, Copy, Debug, PartialEq, Eq)]
 pub struct Depths {
     pub raw: Depth,
     pub corrected: Depth,
@@ -162,14 +164,14 @@ impl Depths {
 
 // ---- a table's description
 
-#[derive(Clone, Copy)]
+#[derive(Clone, Copy, Debug, PartialEq, Eq)]
 pub enum Colour {
     Red,
     Green,
     Blue,
 }
 
-#[derive(Clone, Copy)]
+#[derive(Clone, Copy, Debug, PartialEq, Eq)]
 pub enum Kind {
     OneD,
     ThreeD,
@@ -186,28 +188,28 @@ impl Kind {
 }
 
 // What a size line gives.
-#[derive(Clone, Copy)]
+#[derive(Clone, Copy, Debug, PartialEq, Eq)]
 pub struct Size {
     pub kind: Kind,
     pub n: usize,
 }
 
 // One colour's domain.
-#[derive(Clone, Copy)]
+#[derive(Clone, Copy, Debug, PartialEq, Eq)]
 pub struct Domain {
     pub lower: Thousandths,
     pub upper: Thousandths,
 }
 
 // Whether there is a title, its first byte's place in the file, counted from 0, and its length.
-#[derive(Clone, Copy)]
+#[derive(Clone, Copy, Debug, PartialEq, Eq)]
 pub struct Title {
     pub there: bool,
     pub place: usize,
     pub length: usize,
 }
 
-#[derive(Clone, Copy)]
+#[derive(Clone, Copy, Debug, PartialEq, Eq)]
 pub struct Description {
     pub kind: Kind,
     pub n: usize,
@@ -237,7 +239,7 @@ pub struct Three {
 }
 
 // The three numbers of a DOMAIN_MIN or DOMAIN_MAX line.
-#[derive(Clone, Copy)]
+#[derive(Clone, Copy, Debug, PartialEq, Eq)]
 pub struct Bounds {
     pub red: Thousandths,
     pub green: Thousandths,
@@ -245,7 +247,7 @@ pub struct Bounds {
 }
 
 // The three numbers of a data line.
-#[derive(Clone, Copy)]
+#[derive(Clone, Copy, Debug, PartialEq, Eq)]
 pub struct Row {
     pub red: TenMillionths,
     pub green: TenMillionths,
@@ -253,7 +255,7 @@ pub struct Row {
 }
 
 // A keyword; the two size words count as one.
-#[derive(Clone, Copy)]
+#[derive(Clone, Copy, Debug, PartialEq, Eq)]
 pub enum Keyword {
     ATitle,
     ALower,
@@ -262,7 +264,7 @@ pub enum Keyword {
 }
 
 // The form of a line: empty or a comment, by its keyword, data, or none of these.
-#[derive(Clone, Copy)]
+#[derive(Clone, Copy, Debug, PartialEq, Eq)]
 pub enum Form {
     Idle,
     Keyed(Keyword),
@@ -291,7 +293,7 @@ pub enum Content {
 // ---- pixels, rows and weights
 
 // One code of each colour: a pixel, and its answer.
-#[derive(Clone, Copy)]
+#[derive(Clone, Copy, Debug, PartialEq, Eq)]
 pub struct Codes {
     pub red: u16,
     pub green: u16,
@@ -299,14 +301,14 @@ pub struct Codes {
 }
 
 // A row of the table, and the weight that it carries.
-#[derive(Clone, Copy)]
+#[derive(Clone, Copy, Debug, PartialEq, Eq)]
 pub struct Share {
     pub row: usize,
     pub weight: i64,
 }
 
 // Six rows and weights: in 1D two for each colour, in 3D four for the pixel. Two are left there: zeros where they are answered, and of no account where they are given.
-#[derive(Clone, Copy)]
+#[derive(Clone, Copy, Debug, PartialEq, Eq)]
 pub struct Shares {
     pub first: Share,
     pub second: Share,
@@ -326,7 +328,7 @@ pub enum Judged {
 }
 
 // What an inverse is to come to: in one colour a wanted corrected code, within so many codes.
-#[derive(Clone, Copy)]
+#[derive(Clone, Copy, Debug, PartialEq, Eq)]
 pub struct Aim {
     pub colour: Colour,
     pub wanted: u16,
@@ -336,7 +338,7 @@ pub struct Aim {
 // ---- answers
 
 // Why a call refuses, in the order of the papers' numbers.
-#[derive(Clone, Copy)]
+#[derive(Clone, Copy, Debug, PartialEq, Eq)]
 pub enum Refusal {
     LineTooLong,
     ByteNotPermitted,
