@@ -3,7 +3,6 @@ use Prim.Native.Nat.{ℕ, ◌<◌}
 use mathlib.Core.Path.{◌≡◌, refl, sym, ap, ◌∙◌}
 use mathlib.Core.Bool.{Bool, true, false}
 use mathlib.Core.List.{List, [], ◌∷◌}
-use mathlib.Core.Option.{Option, none, some}
 use borrow.Author.Tests.{leb-true, leb-false}
 use lib.Dec.{leb}
 use lib.IntN.{ℤ}
@@ -20,67 +19,55 @@ use Rattle.rules.specs.declared.Aim.{Aim}
 use Rattle.rules.specs.declared.Bits.{Bits}
 use Rattle.rules.specs.declared.Codes.{Codes}
 use Rattle.rules.specs.declared.Description.{Description}
-use Rattle.rules.specs.declared.FirstHalf.{FirstHalf}
-use Rattle.rules.specs.declared.FirstHalf.TheVariants as F
-use Rattle.rules.specs.declared.Inverse.{Inverse}
-use Rattle.rules.specs.declared.Inverse.TheVariants as I
-use Rattle.rules.specs.declared.Look.{Look}
-use Rattle.rules.specs.declared.Look.TheVariants as L
-use Rattle.rules.specs.declared.Picture.{Picture}
-use Rattle.rules.specs.declared.Picture.TheVariants as P
-use Rattle.rules.specs.declared.Read.{Read}
-use Rattle.rules.specs.declared.Read.TheVariants as R
 use Rattle.rules.specs.declared.Refusal.{Refusal}
 use Rattle.rules.specs.declared.Refusal.TheVariants.{LineTooLong, ByteNotPermitted, NeitherDataNorKeyword, KeywordAfterData, KeywordRepeated, ParametersWrong, SizeOutOfRange, DomainNumberWrong, NoSize, LowerNotBelowUpper, DomainTooWide, DomainsDiffer, TooLittleRoom, TooManyRows, NotThreeNumbers, SampleBeyond, SampleTooFine, TooFewRows, HalfADomain, DepthUnknown, PictureNotPixels, OutputTooShort, CodeTooGreat, CouldNotBeRead, RowsOrWeightsWrong, TitleNotPlain, NoneWithinTolerance, InputTooLong}
-use Rattle.rules.specs.declared.SecondHalf.{SecondHalf}
-use Rattle.rules.specs.declared.SecondHalf.TheVariants as S
 use Rattle.rules.specs.declared.Shares.{Shares}
-use Rattle.rules.specs.declared.Write.{Write}
-use Rattle.rules.specs.declared.Write.TheVariants as W
 use Rattle.rules.proofs.Tests.{no-some}
+use Rattle.std.specs.Prelude.{Err, None, Ok, Option, Some}
+use Rattle.rules.specs.Results.{FirstHalf, Inverse, Look, Picture, Read, SecondHalf, Write, inverse_of, look_of, no_inverse, refused_on}
 
 -- ---- a refusal by its number
 
 -- the papers' table, from 0 on
 abbrev numbered : List (Option Refusal)
 numbered =
-    none
-    ∷ some LineTooLong
-    ∷ some ByteNotPermitted
-    ∷ some NeitherDataNorKeyword
-    ∷ some KeywordAfterData
-    ∷ some KeywordRepeated
-    ∷ some ParametersWrong
-    ∷ some SizeOutOfRange
-    ∷ some DomainNumberWrong
-    ∷ some NoSize
-    ∷ some LowerNotBelowUpper
-    ∷ some DomainTooWide
-    ∷ some DomainsDiffer
-    ∷ some TooLittleRoom
-    ∷ some TooManyRows
-    ∷ some NotThreeNumbers
-    ∷ some SampleBeyond
-    ∷ some SampleTooFine
-    ∷ some TooFewRows
-    ∷ some HalfADomain
-    ∷ some DepthUnknown
-    ∷ some PictureNotPixels
-    ∷ some OutputTooShort
-    ∷ some CodeTooGreat
-    ∷ some CouldNotBeRead
-    ∷ none
-    ∷ some RowsOrWeightsWrong
-    ∷ some TitleNotPlain
-    ∷ some NoneWithinTolerance
-    ∷ none
-    ∷ some InputTooLong
+    None
+    ∷ Some LineTooLong
+    ∷ Some ByteNotPermitted
+    ∷ Some NeitherDataNorKeyword
+    ∷ Some KeywordAfterData
+    ∷ Some KeywordRepeated
+    ∷ Some ParametersWrong
+    ∷ Some SizeOutOfRange
+    ∷ Some DomainNumberWrong
+    ∷ Some NoSize
+    ∷ Some LowerNotBelowUpper
+    ∷ Some DomainTooWide
+    ∷ Some DomainsDiffer
+    ∷ Some TooLittleRoom
+    ∷ Some TooManyRows
+    ∷ Some NotThreeNumbers
+    ∷ Some SampleBeyond
+    ∷ Some SampleTooFine
+    ∷ Some TooFewRows
+    ∷ Some HalfADomain
+    ∷ Some DepthUnknown
+    ∷ Some PictureNotPixels
+    ∷ Some OutputTooShort
+    ∷ Some CodeTooGreat
+    ∷ Some CouldNotBeRead
+    ∷ None
+    ∷ Some RowsOrWeightsWrong
+    ∷ Some TitleNotPlain
+    ∷ Some NoneWithinTolerance
+    ∷ None
+    ∷ Some InputTooLong
     ∷ []
 
 abbrev pub refusalOf : ℕ → Option Refusal
-refusalOf n = get_or numbered n none
+refusalOf n = get_or numbered n None
 
-pub refusal-of-number : (r : Refusal) → refusalOf (refusal_number r) ≡ some r
+pub refusal-of-number : (r : Refusal) → refusalOf (refusal_number r) ≡ Some r
 unfolding refusal_number
 refusal-of-number LineTooLong = refl
 refusal-of-number ByteNotPermitted = refl
@@ -120,18 +107,18 @@ pub number-below : (r : Refusal) → refusal_number r < 31
 number-below r = split (leb 31 (refusal_number r)) refl
   where
     split : (t : Bool) → leb 31 (refusal_number r) ≡ t → refusal_number r < 31
-    split true e = absurd (no-some r (sym (refusal-of-number r) ∙ get_or-eq_default numbered none {n = refusal_number r} (leb-true 31 (refusal_number r) e)))
+    split true e = absurd (no-some r (sym (refusal-of-number r) ∙ get_or-eq_default numbered None {n = refusal_number r} (leb-true 31 (refusal_number r) e)))
     split false e = leb-false _ _ e
 
 -- ---- look, put together again
 
 abbrev lookFrom : Option Refusal → List ℕ → List ℕ → List ℤ → Look
-lookFrom none codes rows weights = L.Accepted (pixel_in codes) (shares_in rows weights)
-lookFrom (some r) codes rows weights = L.Refused r
+lookFrom None codes rows weights = look_of (pixel_in codes) (shares_in rows weights)
+lookFrom (Some r) codes rows weights = Err r
 
 look-again : (r : Look) → lookFrom (refusalOf (look_number r)) (look_codes r) (look_rows r) (look_weights r) ≡ r
-look-again (L.Accepted codes shares) = refl
-look-again (L.Refused r) = rw (refusal-of-number r)
+look-again (Ok x) = refl
+look-again (Err r) = rw (refusal-of-number r)
 
 module _ {d : Description} {table : List ℤ} {bits : Bits} {pixel : Codes} where
   pub looks-is : {r : Look} → Looks d table bits pixel r → r ≡ look d table bits pixel
@@ -146,12 +133,12 @@ module _ {d : Description} {table : List ℤ} {bits : Bits} {pixel : Codes} wher
 -- ---- the halves of a look
 
 abbrev firstFrom : Option Refusal → List ℕ → List ℤ → FirstHalf
-firstFrom none rows weights = F.Accepted (shares_in rows weights)
-firstFrom (some r) rows weights = F.Refused r
+firstFrom None rows weights = Ok (shares_in rows weights)
+firstFrom (Some r) rows weights = Err r
 
 first-again : (r : FirstHalf) → firstFrom (refusalOf (first_number r)) (first_rows r) (first_weights r) ≡ r
-first-again (F.Accepted shares) = refl
-first-again (F.Refused r) = rw (refusal-of-number r)
+first-again (Ok shares) = refl
+first-again (Err r) = rw (refusal-of-number r)
 
 module _ {d : Description} {table : List ℤ} {raw : ℕ} {pixel : Codes} where
   pub finds-is : {r : FirstHalf} → FindsRows d table raw pixel r → r ≡ first_half d table raw pixel
@@ -163,12 +150,12 @@ module _ {d : Description} {table : List ℤ} {raw : ℕ} {pixel : Codes} where
   is-finds e = record { number = ap first_number e; rows = ap first_rows e; weights = ap first_weights e }
 
 abbrev secondFrom : Option Refusal → List ℕ → SecondHalf
-secondFrom none codes = S.Accepted (pixel_in codes)
-secondFrom (some r) codes = S.Refused r
+secondFrom None codes = Ok (pixel_in codes)
+secondFrom (Some r) codes = Err r
 
 second-again : (r : SecondHalf) → secondFrom (refusalOf (second_number r)) (second_codes r) ≡ r
-second-again (S.Accepted codes) = refl
-second-again (S.Refused r) = rw (refusal-of-number r)
+second-again (Ok codes) = refl
+second-again (Err r) = rw (refusal-of-number r)
 
 module _ {d : Description} {table : List ℤ} {bits : Bits} {shares : Shares} where
   pub gives-is : {r : SecondHalf} → GivesCodes d table bits shares r → r ≡ second_half d table bits shares
@@ -182,12 +169,12 @@ module _ {d : Description} {table : List ℤ} {bits : Bits} {shares : Shares} wh
 -- ---- picture
 
 abbrev pictureFrom : Option Refusal → Picture
-pictureFrom none = P.Accepted
-pictureFrom (some r) = P.Refused r
+pictureFrom None = Ok tt
+pictureFrom (Some r) = Err r
 
 picture-again : (r : Picture) → pictureFrom (refusalOf (picture_number r)) ≡ r
-picture-again P.Accepted = refl
-picture-again (P.Refused r) = rw (refusal-of-number r)
+picture-again (Ok _) = refl
+picture-again (Err r) = rw (refusal-of-number r)
 
 module _ {d : Description} {table : List ℤ} {bits : Bits} {src dst : List ℕ} where
   pub pictures-is : {r : Picture} {dst' : List ℕ} → Pictures d table bits src dst r dst'
@@ -202,12 +189,12 @@ module _ {d : Description} {table : List ℤ} {bits : Bits} {src dst : List ℕ}
 -- ---- writing
 
 abbrev writeFrom : Option Refusal → ℕ → Write
-writeFrom none n = W.Accepted n
-writeFrom (some r) n = W.Refused r
+writeFrom None n = Ok n
+writeFrom (Some r) n = Err r
 
 write_again : (r : Write) → writeFrom (refusalOf (write_number r)) (written_length r) ≡ r
-write_again (W.Accepted n) = refl
-write_again (W.Refused r) = rw (refusal-of-number r)
+write_again (Ok n) = refl
+write_again (Err r) = rw (refusal-of-number r)
 
 module _ {d : Description} {table : List ℤ} {title out : List ℕ} where
   pub writes-is : {r : Write} {out' : List ℕ} → Writes d table title out r out'
@@ -223,12 +210,12 @@ module _ {d : Description} {table : List ℤ} {title out : List ℕ} where
 -- ---- the inverse
 
 abbrev inverseFrom : Option Refusal → ℕ → ℕ → Inverse
-inverseFrom none code count = I.Accepted code count
-inverseFrom (some r) code count = I.Refused r count
+inverseFrom None code count = inverse_of code count
+inverseFrom (Some r) code count = no_inverse r count
 
 inverse-again : (r : Inverse) → inverseFrom (refusalOf (inverse_number r)) (inverse_code r) (inverse_count r) ≡ r
-inverse-again (I.Accepted code count) = refl
-inverse-again (I.Refused r count) = rw (refusal-of-number r)
+inverse-again (Ok x) = refl
+inverse-again (Err x) = rw (refusal-of-number x.reason)
 
 module _ {d : Description} {table : List ℤ} {bits : Bits} {aim : Aim} where
   pub inverts-is : {r : Inverse} → Inverts d table bits aim r → r ≡ inverse d table bits aim
@@ -243,12 +230,12 @@ module _ {d : Description} {table : List ℤ} {bits : Bits} {aim : Aim} where
 -- ---- reading
 
 abbrev readFrom : Option Refusal → ℕ → Description → Read
-readFrom none line d = R.Accepted d
-readFrom (some r) line d = R.Refused r line
+readFrom None line d = Ok d
+readFrom (Some r) line d = refused_on r line
 
 read_again : (r : Read) → readFrom (refusalOf (read_number r)) (read_line r) (read_description r) ≡ r
-read_again (R.Accepted d) = refl
-read_again (R.Refused r line) = rw (refusal-of-number r)
+read_again (Ok d) = refl
+read_again (Err x) = rw (refusal-of-number x.reason)
 
 -- an answer is its number, its line and its description
 read_same : {r s : Read} → read_number r ≡ read_number s → read_line r ≡ read_line s → read_description r ≡ read_description s → r ≡ s

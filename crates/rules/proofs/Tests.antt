@@ -3,12 +3,12 @@ use Prim.Native.Nat.{ℕ}
 use mathlib.Core.Path.{◌≡◌, refl}
 use mathlib.Core.Bool.{Bool, true, false, ◌&&◌, ◌||◌, and-false, true≢false, false≢true}
 use mathlib.Core.Logic.{◌⊎◌, inl, inr}
-use mathlib.Core.Option.{Option, none, some}
 use native.Mathlib.Omega.{arith}
 use Rattle.rules.specs.Reading.Judge.{Fault, need, first}
 use Rattle.rules.specs.declared.Refusal.{Refusal}
+use Rattle.std.specs.Prelude.{None, Option, Some}
 
-pub no-some : {A : Type 0} (a : A) → ◌≡◌ {A = Option A} (some a) none → ⊥
+pub no-some : {A : Type 0} (a : A) → ◌≡◌ {A = Option A} (Some a) None → ⊥
 no-some a e = let z : ◌≡◌ {A = ℕ} 0 1 = cc in omega arith
 
 pub no_true : true ≡ false → ⊥
@@ -35,20 +35,20 @@ none_or a b p q = rw p q
 
 -- ---- the checks of the judge
 
-pub need-none : (t : Bool) (r : Refusal) (f : Fault) → need t r f ≡ none → (t ≡ true) × (f ≡ none)
+pub need-none : (t : Bool) (r : Refusal) (f : Fault) → need t r f ≡ None → (t ≡ true) × (f ≡ None)
 unfolding need
 need-none true r f h = (refl, h)
 need-none false r f h = absurd (no-some r h)
 
-pub none-need : (t : Bool) (r : Refusal) (f : Fault) → t ≡ true → f ≡ none → need t r f ≡ none
+pub none-need : (t : Bool) (r : Refusal) (f : Fault) → t ≡ true → f ≡ None → need t r f ≡ None
 unfolding need
 none-need t r f p q = rw p q
 
-pub first-none : (f g : Fault) → first f g ≡ none → (f ≡ none) × (g ≡ none)
+pub first-none : (f g : Fault) → first f g ≡ None → (f ≡ None) × (g ≡ None)
 unfolding first
-first-none none g h = (refl, h)
-first-none (some r) g h = absurd (no-some r h)
+first-none None g h = (refl, h)
+first-none (Some r) g h = absurd (no-some r h)
 
-pub none_first : (f g : Fault) → f ≡ none → g ≡ none → first f g ≡ none
+pub none_first : (f g : Fault) → f ≡ None → g ≡ None → first f g ≡ None
 unfolding first
 none_first f g p q = rw p q

@@ -1,27 +1,14 @@
 -- Document 01, "Answers by number", with the numbers that document 02 adds: for each case of each answer, the paper's number and values.
-use Rattle.std.specs.Prelude.{ℕ, ◌*◌, List, [], ◌∷◌, map, ℤ}
+use Rattle.std.specs.Prelude.{ℕ, ◌*◌, List, [], ◌∷◌, map, ℤ, Err, Ok}
 use Rattle.rules.specs.Descriptions.{zeros, rows}
 use Rattle.rules.specs.Looking.{six}
 use Rattle.rules.specs.declared.Codes.{Codes}
 use Rattle.rules.specs.declared.Description.{Description}
-use Rattle.rules.specs.declared.FirstHalf.{FirstHalf}
-use Rattle.rules.specs.declared.FirstHalf.TheVariants as F
-use Rattle.rules.specs.declared.Inverse.{Inverse}
-use Rattle.rules.specs.declared.Inverse.TheVariants as I
-use Rattle.rules.specs.declared.Look.{Look}
-use Rattle.rules.specs.declared.Look.TheVariants as L
-use Rattle.rules.specs.declared.Picture.{Picture}
-use Rattle.rules.specs.declared.Picture.TheVariants as P
-use Rattle.rules.specs.declared.Read.{Read}
-use Rattle.rules.specs.declared.Read.TheVariants as R
 use Rattle.rules.specs.declared.Refusal.{Refusal}
 use Rattle.rules.specs.declared.Refusal.TheVariants.{LineTooLong, ByteNotPermitted, NeitherDataNorKeyword, KeywordAfterData, KeywordRepeated, ParametersWrong, SizeOutOfRange, DomainNumberWrong, NoSize, LowerNotBelowUpper, DomainTooWide, DomainsDiffer, TooLittleRoom, TooManyRows, NotThreeNumbers, SampleBeyond, SampleTooFine, TooFewRows, HalfADomain, DepthUnknown, PictureNotPixels, OutputTooShort, CodeTooGreat, CouldNotBeRead, RowsOrWeightsWrong, TitleNotPlain, NoneWithinTolerance, InputTooLong}
-use Rattle.rules.specs.declared.SecondHalf.{SecondHalf}
-use Rattle.rules.specs.declared.SecondHalf.TheVariants as S
 use Rattle.rules.specs.declared.Share.{Share}
 use Rattle.rules.specs.declared.Shares.{Shares}
-use Rattle.rules.specs.declared.Write.{Write}
-use Rattle.rules.specs.declared.Write.TheVariants as W
+use Rattle.rules.specs.Results.{FirstHalf, Inverse, Look, Picture, Read, SecondHalf, Write}
 
 unfoldable pub refusal_number : Refusal → ℕ
 refusal_number LineTooLong = 1
@@ -56,27 +43,27 @@ refusal_number InputTooLong = 30
 -- ---- reading: number, line, description; and, of a file that is judged with no table, the places that one needs
 
 abbrev pub read_number : Read → ℕ
-read_number (R.Accepted d) = 0
-read_number (R.Refused r n) = refusal_number r
+read_number (Ok d) = 0
+read_number (Err x) = refusal_number x.reason
 
 abbrev pub read_line : Read → ℕ
-read_line (R.Accepted d) = 0
-read_line (R.Refused r n) = n
+read_line (Ok d) = 0
+read_line (Err x) = x.line
 
 abbrev pub read_description : Read → Description
-read_description (R.Accepted d) = d
-read_description (R.Refused r n) = zeros
+read_description (Ok d) = d
+read_description (Err x) = zeros
 
 -- the places that the file's table needs: three for each row, none of a file that is refused
 abbrev pub places_needed : Read → ℕ
-places_needed (R.Accepted d) = 3 * rows d
-places_needed (R.Refused r n) = 0
+places_needed (Ok d) = 3 * rows d
+places_needed (Err x) = 0
 
 -- ---- look: number, three codes, six rows, six weights; a refusal gives zeros
 
 abbrev pub look_number : Look → ℕ
-look_number (L.Accepted c s) = 0
-look_number (L.Refused r) = refusal_number r
+look_number (Ok x) = 0
+look_number (Err r) = refusal_number r
 
 abbrev pub codes_of : Codes → List ℕ
 codes_of c = c.red ∷ c.green ∷ c.blue ∷ []
@@ -88,15 +75,15 @@ abbrev no_codes : Codes
 no_codes = record { red = 0; green = 0; blue = 0 }
 
 abbrev pub codes_in : Look → Codes
-codes_in (L.Accepted c s) = c
-codes_in (L.Refused r) = no_codes
+codes_in (Ok x) = x.codes
+codes_in (Err r) = no_codes
 
 abbrev pub look_codes : Look → List ℕ
 look_codes a = codes_of (codes_in a)
 
 abbrev pub look_shares : Look → List Share
-look_shares (L.Accepted c s) = shares_of s
-look_shares (L.Refused r) = shares_of (six [])
+look_shares (Ok x) = shares_of x.shares
+look_shares (Err r) = shares_of (six [])
 
 abbrev pub look_rows : Look → List ℕ
 look_rows a = map (λ (s : Share). s.row) (look_shares a)
@@ -107,12 +94,12 @@ look_weights a = map (λ (s : Share). s.weight) (look_shares a)
 -- ---- the halves of a look. The first: number, six rows, six weights. The second: number, three codes. A refusal gives zeros
 
 abbrev pub first_number : FirstHalf → ℕ
-first_number (F.Accepted s) = 0
-first_number (F.Refused r) = refusal_number r
+first_number (Ok s) = 0
+first_number (Err r) = refusal_number r
 
 abbrev pub first_shares : FirstHalf → List Share
-first_shares (F.Accepted s) = shares_of s
-first_shares (F.Refused r) = shares_of (six [])
+first_shares (Ok s) = shares_of s
+first_shares (Err r) = shares_of (six [])
 
 abbrev pub first_rows : FirstHalf → List ℕ
 first_rows a = map (λ (s : Share). s.row) (first_shares a)
@@ -121,12 +108,12 @@ abbrev pub first_weights : FirstHalf → List ℤ
 first_weights a = map (λ (s : Share). s.weight) (first_shares a)
 
 abbrev pub second_number : SecondHalf → ℕ
-second_number (S.Accepted c) = 0
-second_number (S.Refused r) = refusal_number r
+second_number (Ok c) = 0
+second_number (Err r) = refusal_number r
 
 abbrev pub codes_given : SecondHalf → Codes
-codes_given (S.Accepted c) = c
-codes_given (S.Refused r) = no_codes
+codes_given (Ok c) = c
+codes_given (Err r) = no_codes
 
 abbrev pub second_codes : SecondHalf → List ℕ
 second_codes a = codes_of (codes_given a)
@@ -134,29 +121,29 @@ second_codes a = codes_of (codes_given a)
 -- ---- picture: number
 
 abbrev pub picture_number : Picture → ℕ
-picture_number P.Accepted = 0
-picture_number (P.Refused r) = refusal_number r
+picture_number (Ok _) = 0
+picture_number (Err r) = refusal_number r
 
 -- ---- writing: number, and the text's length; a refusal gives 0
 
 abbrev pub write_number : Write → ℕ
-write_number (W.Accepted n) = 0
-write_number (W.Refused r) = refusal_number r
+write_number (Ok n) = 0
+write_number (Err r) = refusal_number r
 
 abbrev pub written_length : Write → ℕ
-written_length (W.Accepted n) = n
-written_length (W.Refused r) = 0
+written_length (Ok n) = n
+written_length (Err r) = 0
 
 -- ---- the inverse: number, raw code, and the count of codes tried; 28 gives the count with code 0, and the refusals before it give zeros
 
 abbrev pub inverse_number : Inverse → ℕ
-inverse_number (I.Accepted code count) = 0
-inverse_number (I.Refused r count) = refusal_number r
+inverse_number (Ok x) = 0
+inverse_number (Err x) = refusal_number x.reason
 
 abbrev pub inverse_code : Inverse → ℕ
-inverse_code (I.Accepted code count) = code
-inverse_code (I.Refused r count) = 0
+inverse_code (Ok x) = x.code
+inverse_code (Err x) = 0
 
 abbrev pub inverse_count : Inverse → ℕ
-inverse_count (I.Accepted code count) = count
-inverse_count (I.Refused r count) = count
+inverse_count (Ok x) = x.count
+inverse_count (Err x) = x.count

@@ -1,6 +1,5 @@
 -- The C boundary: a description as eleven numbers, and the promises of the calls by the same definitions.
-use Rattle.std.specs.Prelude.{ℕ, ◌+◌, ◌<◌, ◌≡◌, Bool, cond, not, List, [], ◌∷◌, eqb, length, get_or, ℤ, pos, nat_abs}
-use Rattle.std.proofs.Math.Option.{Option, none, some}
+use Rattle.std.specs.Prelude.{ℕ, ◌+◌, ◌<◌, ◌≡◌, Bool, cond, not, List, [], ◌∷◌, eqb, length, get_or, ℤ, pos, nat_abs, Err, None, Option, Some}
 use Rattle.whole.specs.Integers.{up}
 use Rattle.rules.specs.Reading.{read, check, table_after}
 use Rattle.rules.specs.Looking.{first_half, second_half, look}
@@ -15,24 +14,13 @@ use Rattle.rules.specs.declared.Colour.{Colour}
 use Rattle.rules.specs.declared.Colour.TheVariants.{Red, Green, Blue}
 use Rattle.rules.specs.declared.Description.{Description}
 use Rattle.rules.specs.declared.Domain.{Domain}
-use Rattle.rules.specs.declared.FirstHalf.{FirstHalf}
-use Rattle.rules.specs.declared.FirstHalf.TheVariants as F
-use Rattle.rules.specs.declared.Inverse.{Inverse}
-use Rattle.rules.specs.declared.Inverse.TheVariants as I
 use Rattle.rules.specs.declared.Kind.{Kind}
 use Rattle.rules.specs.declared.Kind.TheVariants.{OneD, ThreeD}
-use Rattle.rules.specs.declared.Look.{Look}
-use Rattle.rules.specs.declared.Look.TheVariants as L
-use Rattle.rules.specs.declared.Picture.{Picture}
-use Rattle.rules.specs.declared.Picture.TheVariants as P
 use Rattle.rules.specs.declared.Refusal.TheVariants.{CouldNotBeRead}
-use Rattle.rules.specs.declared.SecondHalf.{SecondHalf}
-use Rattle.rules.specs.declared.SecondHalf.TheVariants as S
 use Rattle.rules.specs.declared.Share.{Share}
 use Rattle.rules.specs.declared.Shares.{Shares}
 use Rattle.rules.specs.declared.Title.{Title}
-use Rattle.rules.specs.declared.Write.{Write}
-use Rattle.rules.specs.declared.Write.TheVariants as W
+use Rattle.rules.specs.Results.{FirstHalf, Inverse, Look, Picture, SecondHalf, Write, no_inverse}
 
 -- ---- a description as eleven numbers
 
@@ -67,9 +55,9 @@ number_at eleven k = get_or eleven k (pos 0)
 -- anything but 1 and 3 is no kind
 abbrev pub kind_in : List ℤ → Option Kind
 kind_in eleven =
-    cond (eqb (up (number_at eleven 0)) 1) (some OneD)
-    (cond (eqb (up (number_at eleven 0)) 3) (some ThreeD)
-    none)
+    cond (eqb (up (number_at eleven 0)) 1) (Some OneD)
+    (cond (eqb (up (number_at eleven 0)) 3) (Some ThreeD)
+    None)
 
 abbrev pub domain_in : List ℤ → ℕ → Domain
 domain_in eleven c = record { lower = record { 0 = number_at eleven (2 + c) }; upper = record { 0 = number_at eleven (5 + c) } }
@@ -94,8 +82,8 @@ description_in eleven k = record {
 }
 
 abbrev described_by : List ℤ → Option Kind → Option Description
-described_by eleven none = none
-described_by eleven (some k) = some (description_in eleven k)
+described_by eleven None = None
+described_by eleven (Some k) = Some (description_in eleven k)
 
 -- the description that eleven numbers give, if their first names a kind
 unfoldable pub described_in : List ℤ → Option Description
@@ -122,10 +110,10 @@ shares_in rows weights = record {
 -- 0 for red, 1 for green, 2 for blue; anything else is no colour
 abbrev pub colour_in : ℕ → Option Colour
 colour_in number =
-    cond (eqb number 0) (some Red)
-    (cond (eqb number 1) (some Green)
-    (cond (eqb number 2) (some Blue)
-    none))
+    cond (eqb number 0) (Some Red)
+    (cond (eqb number 1) (Some Green)
+    (cond (eqb number 2) (Some Blue)
+    None))
 
 -- ---- what the numbers that are written can hold: 63 bits for N and a title's place and length, 32 for a row
 
@@ -142,30 +130,30 @@ RowsFit (row ∷ rows) = (row < 4_294_967_296) × RowsFit rows
 
 -- a call of a description, and what it answers where there is none
 abbrev pub answered : {A : Type 0} → A → (Description → A) → Option Description → A
-answered refusal call none = refusal
-answered refusal call (some d) = call d
+answered refusal call None = refusal
+answered refusal call (Some d) = call d
 
 abbrev pub called : {A : Type 0} → A → (Description → A) → List ℤ → A
 called refusal call eleven = answered refusal call (described_in eleven)
 
 abbrev pub look_in : List ℤ → List ℤ → Bits → Codes → Look
-look_in eleven table bits pixel = called (L.Refused CouldNotBeRead) (λ d. look d table bits pixel) eleven
+look_in eleven table bits pixel = called (Err CouldNotBeRead) (λ d. look d table bits pixel) eleven
 
 abbrev pub first_in : List ℤ → List ℤ → ℕ → Codes → FirstHalf
-first_in eleven table raw pixel = called (F.Refused CouldNotBeRead) (λ d. first_half d table raw pixel) eleven
+first_in eleven table raw pixel = called (Err CouldNotBeRead) (λ d. first_half d table raw pixel) eleven
 
 abbrev pub second_in : List ℤ → List ℤ → Bits → Shares → SecondHalf
-second_in eleven table bits shares = called (S.Refused CouldNotBeRead) (λ d. second_half d table bits shares) eleven
+second_in eleven table bits shares = called (Err CouldNotBeRead) (λ d. second_half d table bits shares) eleven
 
 abbrev pub picture_in : List ℤ → List ℤ → Bits → List ℕ → ℕ → Picture
-picture_in eleven table bits src places = called (P.Refused CouldNotBeRead) (λ d. picture d table bits src places) eleven
+picture_in eleven table bits src places = called (Err CouldNotBeRead) (λ d. picture d table bits src places) eleven
 
 -- the output afterwards
 abbrev pub output_in : List ℤ → List ℤ → Bits → List ℕ → List ℕ → List ℕ
 output_in eleven table bits src dst = called dst (λ d. output_after d table bits src dst (picture d table bits src (length dst))) eleven
 
 abbrev pub write_in : List ℤ → List ℤ → List ℕ → ℕ → Write
-write_in eleven table title places = called (W.Refused CouldNotBeRead) (λ d. write d table title places) eleven
+write_in eleven table title places = called (Err CouldNotBeRead) (λ d. write d table title places) eleven
 
 -- the lent bytes afterwards
 abbrev pub bytes_in : List ℤ → List ℤ → List ℕ → List ℕ → List ℕ
@@ -176,12 +164,12 @@ aim_at c wanted tolerance = record { colour = c; wanted = wanted; tolerance = to
 
 -- where there is no colour the answer is that of 24 too
 abbrev pub inverse_for : Description → List ℤ → Bits → ℕ → ℕ → Option Colour → Inverse
-inverse_for d table bits wanted tolerance none = I.Refused CouldNotBeRead 0
-inverse_for d table bits wanted tolerance (some c) = inverse d table bits (aim_at c wanted tolerance)
+inverse_for d table bits wanted tolerance None = no_inverse CouldNotBeRead 0
+inverse_for d table bits wanted tolerance (Some c) = inverse d table bits (aim_at c wanted tolerance)
 
 abbrev pub inverse_in : List ℤ → List ℤ → Bits → ℕ → ℕ → ℕ → Inverse
 inverse_in eleven table bits colour wanted tolerance =
-    called (I.Refused CouldNotBeRead 0) (λ d. inverse_for d table bits wanted tolerance (colour_in colour)) eleven
+    called (no_inverse CouldNotBeRead 0) (λ d. inverse_for d table bits wanted tolerance (colour_in colour)) eleven
 
 -- ---- the promises: the number that is returned, and everything that is lent, afterwards
 

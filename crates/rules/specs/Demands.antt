@@ -1,6 +1,6 @@
 -- Demands 2 and 3: where an accepted file's numbers and title stand, and what is asked of an accepted look and an accepted picture, colour by colour;
 -- and, of document 02, of rows and weights that anybody wrote, and of the raw code of a wanted one.
-use Rattle.std.specs.Prelude.{ℕ, ◌+◌, ◌*◌, ◌%◌, ◌≤◌, ◌<◌, ◌≡◌, ◌⊎◌, Bool, true, false, cond, List, [], ◌∷◌, ◌++◌, length, take, drop, get_or, ℤ, pos, ◌*ℤ◌, ◌<ℤ◌, ◌≤ℤ◌}
+use Rattle.std.specs.Prelude.{ℕ, ◌+◌, ◌*◌, ◌%◌, ◌≤◌, ◌<◌, ◌≡◌, ◌⊎◌, Bool, true, false, cond, List, [], ◌∷◌, ◌++◌, length, take, drop, get_or, ℤ, pos, ◌*ℤ◌, ◌<ℤ◌, ◌≤ℤ◌, Some}
 use Rattle.whole.specs.Nearest.{Nearest, weights}
 use Rattle.rules.specs.Units.{depths_of, raw_m, corrected_m, sample_places, sample_limit, colour_place, code_in}
 use Rattle.rules.specs.Descriptions.{rows}
@@ -21,15 +21,13 @@ use Rattle.rules.specs.declared.Codes.{Codes}
 use Rattle.rules.specs.declared.Colour.{Colour}
 use Rattle.rules.specs.declared.Bits.{Bits}
 use Rattle.rules.specs.declared.Depths.{Depths}
-use Rattle.rules.specs.declared.DepthsFound.TheVariants.{Both}
 use Rattle.rules.specs.declared.Description.{Description}
 use Rattle.rules.specs.declared.Kind.{Kind}
 use Rattle.rules.specs.declared.Kind.TheVariants.{OneD, ThreeD}
-use Rattle.rules.specs.declared.Look.{Look}
-use Rattle.rules.specs.declared.Look.TheVariants.{Accepted}
 use Rattle.rules.specs.declared.Share.{Share}
 use Rattle.rules.specs.declared.Shares.{Shares}
 use Rattle.rules.specs.declared.Title.{Title}
+use Rattle.rules.specs.Results.{Look, look_of}
 
 -- ---- demand 2
 
@@ -122,10 +120,10 @@ LookRight d table depths pixel codes shares c =
 -- an accepted look: its depths are known, and each colour is right
 pub record AllRight (d : Description) (table : List ℤ) (bits : Bits) (pixel : Codes) (r : Look) : Type 0 where
   pub depths : Depths
-  pub known : depths_of bits ≡ Both depths
+  pub known : depths_of bits ≡ Some depths
   pub codes : Codes
   pub shares : Shares
-  pub accepted : r ≡ Accepted codes shares
+  pub accepted : r ≡ look_of codes shares
   pub all_right : (c : Colour) → LookRight d table depths pixel codes shares c
 
 -- pixel k of a run of codes
@@ -142,7 +140,7 @@ pub record PixelRight (d : Description) (table : List ℤ) (depths : Depths) (sr
 -- an accepted picture: whole pixels with room for their codes, each corrected, and later places as they were
 pub record RightPicture (d : Description) (table : List ℤ) (bits : Bits) (src dst dst' : List ℕ) : Type 0 where
   pub depths : Depths
-  pub known : depths_of bits ≡ Both depths
+  pub known : depths_of bits ≡ Some depths
   pub whole : length src % 3 ≡ 0
   pub room : length src ≤ length dst
   pub as_long : length dst' ≡ length dst
@@ -158,14 +156,14 @@ pub record Weighable (count den : ℕ) (ss : List Share) : Type 0 where
   pub add_up : sum_of ss ≡ pos den
 
 -- what holds of some share
-pub data Some (P : Share → Type 0) : List Share → Type 0 where
-  here : {s : Share} {ss : List Share} → P s → Some P (s ∷ ss)
-  there : {s : Share} {ss : List Share} → Some P ss → Some P (s ∷ ss)
+pub data Any (P : Share → Type 0) : List Share → Type 0 where
+  here : {s : Share} {ss : List Share} → P s → Any P (s ∷ ss)
+  there : {s : Share} {ss : List Share} → Any P ss → Any P (s ∷ ss)
 
 -- 26: a row number not below the count of rows, a negative weight, or weights that do not add up to D
 pub data Unfit (count den : ℕ) (ss : List Share) : Type 0 where
-  row : Some (λ s. count ≤ s.row) ss → Unfit count den ss
-  weight : Some (λ s. s.weight <ℤ pos 0) ss → Unfit count den ss
+  row : Any (λ s. count ≤ s.row) ss → Unfit count den ss
+  weight : Any (λ s. s.weight <ℤ pos 0) ss → Unfit count den ss
   sum : (sum_of ss ≡ pos den → ⊥) → Unfit count den ss
 
 -- the code of a colour, of rows and weights that the second half accepts: the exact value is that of these, whoever wrote them

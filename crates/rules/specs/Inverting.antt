@@ -1,19 +1,16 @@
 -- Document 02, Req 04: which raw code gives a wanted corrected code, in one colour of a 1D table.
-use Rattle.std.specs.Prelude.{ℕ, zero, suc, ◌+◌, ◌-◌, Bool, true, false, cond, ◌&&◌, List, eqb, leb, ltb, ℤ}
+use Rattle.std.specs.Prelude.{ℕ, zero, suc, ◌+◌, ◌-◌, Bool, true, false, cond, ◌&&◌, List, eqb, leb, ltb, ℤ, None, Option, Some}
 use Rattle.rules.specs.Units.{depths_of, raw_m, corrected_m}
 use Rattle.rules.specs.Descriptions.{could_be_read}
 use Rattle.rules.specs.Looking.{line_code}
 use Rattle.rules.specs.declared.Aim.{Aim}
 use Rattle.rules.specs.declared.Bits.{Bits}
 use Rattle.rules.specs.declared.Depths.{Depths}
-use Rattle.rules.specs.declared.DepthsFound.{DepthsFound}
-use Rattle.rules.specs.declared.DepthsFound.TheVariants.{Both, NotBoth}
 use Rattle.rules.specs.declared.Description.{Description}
-use Rattle.rules.specs.declared.Inverse.{Inverse}
-use Rattle.rules.specs.declared.Inverse.TheVariants as I
 use Rattle.rules.specs.declared.Kind.{Kind}
 use Rattle.rules.specs.declared.Kind.TheVariants.{OneD, ThreeD}
 use Rattle.rules.specs.declared.Refusal.TheVariants.{DepthUnknown, CodeTooGreat, CouldNotBeRead, NoneWithinTolerance}
+use Rattle.rules.specs.Results.{Inverse, inverse_of, no_inverse}
 
 -- ---- the search, by what each raw code is corrected to
 
@@ -61,16 +58,16 @@ off_by d table depths aim code = off (line_code d table depths aim.colour) aim.w
 
 -- a search whose nearest code is so far off: that code is answered if it lies within the tolerance, and the count is given either way
 abbrev pub if_within : ℕ → ℕ → Search → Inverse
-if_within far tolerance s = cond (leb far tolerance) (I.Accepted s.nearest s.tries) (I.Refused NoneWithinTolerance s.tries)
+if_within far tolerance s = cond (leb far tolerance) (inverse_of s.nearest s.tries) (no_inverse NoneWithinTolerance s.tries)
 
 abbrev pub searched : Description → List ℤ → Depths → Aim → Search → Inverse
 searched d table depths aim s = if_within (off_by d table depths aim s.nearest) aim.tolerance s
 
-unfoldable pub inverse_at : Description → List ℤ → Aim → DepthsFound → Inverse
-inverse_at d table aim NotBoth = I.Refused DepthUnknown 0
-inverse_at d table aim (Both depths) =
-    cond (leb aim.wanted (corrected_m depths)) (searched d table depths aim (search_in d table depths aim)) (I.Refused CodeTooGreat 0)
+unfoldable pub inverse_at : Description → List ℤ → Aim → Option Depths → Inverse
+inverse_at d table aim None = no_inverse DepthUnknown 0
+inverse_at d table aim (Some depths) =
+    cond (leb aim.wanted (corrected_m depths)) (searched d table depths aim (search_in d table depths aim)) (no_inverse CodeTooGreat 0)
 
 -- the checks run 24, which a 3D table is too, 20, 23, 28
 unfoldable pub inverse : Description → List ℤ → Bits → Aim → Inverse
-inverse d table bits aim = cond (is_line d.kind && could_be_read d table) (inverse_at d table aim (depths_of bits)) (I.Refused CouldNotBeRead 0)
+inverse d table bits aim = cond (is_line d.kind && could_be_read d table) (inverse_at d table aim (depths_of bits)) (no_inverse CouldNotBeRead 0)

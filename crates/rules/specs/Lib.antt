@@ -6,6 +6,8 @@ pub mod Memory
 pub mod Decimals
 pub mod Fields
 pub mod Descriptions
+-- what the calls answer, as types
+pub mod Results
 -- reading: bytes, lines and words; a file that keeps the specification, as a property; reading, as a function, in the order of the checks
 pub mod Reading
 -- interpolation; look, by its two halves; picture

@@ -1,6 +1,6 @@
 -- Document 01, "Answers by number" and "Interpolation": look, one pixel to three corrected codes with their rows and weights; and document 02, Req 09: the two halves
 -- that it joins.
-use Rattle.std.specs.Prelude.{ℕ, Bool, cond, ◌&&◌, List, [], ◌∷◌, ◌++◌, leb, ℤ, get_or}
+use Rattle.std.specs.Prelude.{ℕ, Bool, cond, ◌&&◌, List, [], ◌∷◌, ◌++◌, leb, ℤ, get_or, Err, None, Ok, Option, Some}
 use Rattle.rules.specs.Units.{depth_of, depths_of, raw_m, corrected_m}
 use Rattle.rules.specs.Descriptions.{rows, could_be_read}
 use Rattle.rules.specs.Looking.Interpolation.{share, den_of, pair_at, pair, path, code_by}
@@ -9,25 +9,16 @@ use Rattle.rules.specs.declared.Codes.{Codes}
 use Rattle.rules.specs.declared.Colour.{Colour}
 use Rattle.rules.specs.declared.Colour.TheVariants.{Red, Green, Blue}
 use Rattle.rules.specs.declared.Bits.{Bits}
-use Rattle.rules.specs.declared.DepthFound.{DepthFound}
-use Rattle.rules.specs.declared.DepthFound.TheVariants.{Known, Unknown}
 use Rattle.rules.specs.declared.Depths.{Depths}
-use Rattle.rules.specs.declared.DepthsFound.{DepthsFound}
-use Rattle.rules.specs.declared.DepthsFound.TheVariants.{Both, NotBoth}
 use Rattle.rules.specs.declared.Description.{Description}
-use Rattle.rules.specs.declared.FirstHalf.{FirstHalf}
-use Rattle.rules.specs.declared.FirstHalf.TheVariants as F
-use Rattle.rules.specs.declared.Judged.{Judged}
-use Rattle.rules.specs.declared.Judged.TheVariants.{Fit, RowBeyond, NegativeWeight, WrongSum}
 use Rattle.rules.specs.declared.Kind.{Kind}
 use Rattle.rules.specs.declared.Kind.TheVariants.{OneD, ThreeD}
-use Rattle.rules.specs.declared.Look.{Look}
-use Rattle.rules.specs.declared.Look.TheVariants as L
 use Rattle.rules.specs.declared.Refusal.TheVariants.{DepthUnknown, CodeTooGreat, CouldNotBeRead, RowsOrWeightsWrong}
-use Rattle.rules.specs.declared.SecondHalf.{SecondHalf}
-use Rattle.rules.specs.declared.SecondHalf.TheVariants as S
 use Rattle.rules.specs.declared.Share.{Share}
 use Rattle.rules.specs.declared.Shares.{Shares}
+use Rattle.rules.specs.declared.Depth.{Depth}
+use Rattle.rules.specs.declared.Misfit.TheVariants.{NegativeWeight, RowBeyond, WrongSum}
+use Rattle.rules.specs.Results.{FirstHalf, Judged, Look, SecondHalf, look_of}
 -- positions, paths, weights and codes; the other readings of a position; rows and weights judged
 pub mod Interpolation
 pub mod Readings
@@ -69,15 +60,15 @@ used ThreeD c s = s.first ∷ s.second ∷ s.third ∷ s.fourth ∷ []
 
 -- at a known raw depth with greatest code m
 unfoldable pub rows_with : Description → ℕ → Codes → FirstHalf
-rows_with d m pixel = cond (within m pixel) (F.Accepted (shown d m pixel d.kind)) (F.Refused CodeTooGreat)
+rows_with d m pixel = cond (within m pixel) (Ok (shown d m pixel d.kind)) (Err CodeTooGreat)
 
-abbrev pub rows_at : Description → Codes → DepthFound → FirstHalf
-rows_at d pixel Unknown = F.Refused DepthUnknown
-rows_at d pixel (Known depth) = rows_with d depth.greatest pixel
+abbrev pub rows_at : Description → Codes → Option Depth → FirstHalf
+rows_at d pixel None = Err DepthUnknown
+rows_at d pixel (Some depth) = rows_with d depth.greatest pixel
 
 -- the checks run 24, 20, 23
 unfoldable pub first_half : Description → List ℤ → ℕ → Codes → FirstHalf
-first_half d table raw pixel = cond (could_be_read d table) (rows_at d pixel (depth_of raw)) (F.Refused CouldNotBeRead)
+first_half d table raw pixel = cond (could_be_read d table) (rows_at d pixel (depth_of raw)) (Err CouldNotBeRead)
 
 -- ---- the second half: from rows and weights to codes
 
@@ -101,18 +92,18 @@ unfoldable pub judged_all : Description → ℕ → Shares → Judged
 judged_all d m shares = judged_for d m shares Red and_then judged_for d m shares Green and_then judged_for d m shares Blue
 
 abbrev pub codes_if : Description → List ℤ → Depths → Shares → Judged → SecondHalf
-codes_if d table depths shares Fit = S.Accepted (codes_by d table depths shares)
-codes_if d table depths shares RowBeyond = S.Refused RowsOrWeightsWrong
-codes_if d table depths shares NegativeWeight = S.Refused RowsOrWeightsWrong
-codes_if d table depths shares WrongSum = S.Refused RowsOrWeightsWrong
+codes_if d table depths shares (Ok _) = Ok (codes_by d table depths shares)
+codes_if d table depths shares (Err RowBeyond) = Err RowsOrWeightsWrong
+codes_if d table depths shares (Err NegativeWeight) = Err RowsOrWeightsWrong
+codes_if d table depths shares (Err WrongSum) = Err RowsOrWeightsWrong
 
-abbrev pub codes_at : Description → List ℤ → Shares → DepthsFound → SecondHalf
-codes_at d table shares NotBoth = S.Refused DepthUnknown
-codes_at d table shares (Both depths) = codes_if d table depths shares (judged_all d (raw_m depths) shares)
+abbrev pub codes_at : Description → List ℤ → Shares → Option Depths → SecondHalf
+codes_at d table shares None = Err DepthUnknown
+codes_at d table shares (Some depths) = codes_if d table depths shares (judged_all d (raw_m depths) shares)
 
 -- the checks run 24, 20, 26
 unfoldable pub second_half : Description → List ℤ → Bits → Shares → SecondHalf
-second_half d table bits shares = cond (could_be_read d table) (codes_at d table shares (depths_of bits)) (S.Refused CouldNotBeRead)
+second_half d table bits shares = cond (could_be_read d table) (codes_at d table shares (depths_of bits)) (Err CouldNotBeRead)
 
 -- ---- look: the codes of the rows and weights that the first half finds
 
@@ -124,13 +115,13 @@ abbrev pub correct : Description → List ℤ → Depths → Codes → Codes
 correct d table depths pixel = codes_by d table depths (shown d (raw_m depths) pixel d.kind)
 
 abbrev pub look_by : Description → List ℤ → Depths → FirstHalf → Look
-look_by d table depths (F.Accepted shares) = L.Accepted (codes_by d table depths shares) shares
-look_by d table depths (F.Refused r) = L.Refused r
+look_by d table depths (Ok shares) = look_of (codes_by d table depths shares) shares
+look_by d table depths (Err r) = Err r
 
-unfoldable pub look_at : Description → List ℤ → Codes → DepthsFound → Look
-look_at d table pixel NotBoth = L.Refused DepthUnknown
-look_at d table pixel (Both depths) = look_by d table depths (rows_with d (raw_m depths) pixel)
+unfoldable pub look_at : Description → List ℤ → Codes → Option Depths → Look
+look_at d table pixel None = Err DepthUnknown
+look_at d table pixel (Some depths) = look_by d table depths (rows_with d (raw_m depths) pixel)
 
 -- the checks run 24, 20, 23
 unfoldable pub look : Description → List ℤ → Bits → Codes → Look
-look d table bits pixel = cond (could_be_read d table) (look_at d table pixel (depths_of bits)) (L.Refused CouldNotBeRead)
+look d table bits pixel = cond (could_be_read d table) (look_at d table pixel (depths_of bits)) (Err CouldNotBeRead)

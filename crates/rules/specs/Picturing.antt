@@ -1,5 +1,5 @@
 -- Document 01, "Answers by number": picture, a run of pixels to corrected codes.
-use Rattle.std.specs.Prelude.{ℕ, ◌%◌, cond, List, [], ◌∷◌, ◌++◌, eqb, leb, ℤ, length, drop}
+use Rattle.std.specs.Prelude.{ℕ, ◌%◌, cond, List, [], ◌∷◌, ◌++◌, eqb, leb, ℤ, length, drop, Err, None, Ok, Option, Some}
 use Rattle.rules.specs.Units.{depths_of, raw_m}
 use Rattle.rules.specs.Descriptions.{could_be_read}
 use Rattle.rules.specs.Reading.Lines.{every}
@@ -7,12 +7,10 @@ use Rattle.rules.specs.Looking.{look}
 use Rattle.rules.specs.Answers.{codes_of, codes_in}
 use Rattle.rules.specs.declared.Codes.{Codes}
 use Rattle.rules.specs.declared.Bits.{Bits}
-use Rattle.rules.specs.declared.DepthsFound.{DepthsFound}
-use Rattle.rules.specs.declared.DepthsFound.TheVariants.{Both, NotBoth}
 use Rattle.rules.specs.declared.Description.{Description}
-use Rattle.rules.specs.declared.Picture.{Picture}
-use Rattle.rules.specs.declared.Picture.TheVariants.{Accepted, Refused}
 use Rattle.rules.specs.declared.Refusal.TheVariants.{DepthUnknown, PictureNotPixels, OutputTooShort, CodeTooGreat, CouldNotBeRead}
+use Rattle.rules.specs.declared.Depths.{Depths}
+use Rattle.rules.specs.Results.{Picture}
 
 abbrev pub pixel_of : ℕ → ℕ → ℕ → Codes
 pixel_of r g b = record { red = r; green = g; blue = b }
@@ -33,20 +31,20 @@ unfoldable pub picture_with : ℕ → List ℕ → ℕ → Picture
 picture_with m src places =
     cond (eqb (length src % 3) 0)
     (cond (leb (length src) places)
-    (cond (every (λ c. leb c m) src) Accepted
-    (Refused CodeTooGreat))
-    (Refused OutputTooShort))
-    (Refused PictureNotPixels)
+    (cond (every (λ c. leb c m) src) (Ok tt)
+    (Err CodeTooGreat))
+    (Err OutputTooShort))
+    (Err PictureNotPixels)
 
-abbrev pub picture_at : DepthsFound → List ℕ → ℕ → Picture
-picture_at NotBoth src places = Refused DepthUnknown
-picture_at (Both depths) src places = picture_with (raw_m depths) src places
+abbrev pub picture_at : Option Depths → List ℕ → ℕ → Picture
+picture_at None src places = Err DepthUnknown
+picture_at (Some depths) src places = picture_with (raw_m depths) src places
 
 -- the checks run 24, 20, 21, 22, 23
 unfoldable pub picture : Description → List ℤ → Bits → List ℕ → ℕ → Picture
-picture d table bits src places = cond (could_be_read d table) (picture_at (depths_of bits) src places) (Refused CouldNotBeRead)
+picture d table bits src places = cond (could_be_read d table) (picture_at (depths_of bits) src places) (Err CouldNotBeRead)
 
 -- the output afterwards: as many codes as the picture has, later places as they were; after a refusal as it was
 unfoldable pub output_after : Description → List ℤ → Bits → List ℕ → List ℕ → Picture → List ℕ
-output_after d table bits src dst Accepted = corrected d table bits src ++ drop (length src) dst
-output_after d table bits src dst (Refused r) = dst
+output_after d table bits src dst (Ok _) = corrected d table bits src ++ drop (length src) dst
+output_after d table bits src dst (Err r) = dst

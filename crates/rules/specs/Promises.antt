@@ -10,14 +10,8 @@ use Rattle.rules.specs.declared.Aim.{Aim}
 use Rattle.rules.specs.declared.Bits.{Bits}
 use Rattle.rules.specs.declared.Codes.{Codes}
 use Rattle.rules.specs.declared.Description.{Description}
-use Rattle.rules.specs.declared.FirstHalf.{FirstHalf}
-use Rattle.rules.specs.declared.Inverse.{Inverse}
-use Rattle.rules.specs.declared.Look.{Look}
-use Rattle.rules.specs.declared.Picture.{Picture}
-use Rattle.rules.specs.declared.Read.{Read}
-use Rattle.rules.specs.declared.SecondHalf.{SecondHalf}
 use Rattle.rules.specs.declared.Shares.{Shares}
-use Rattle.rules.specs.declared.Write.{Write}
+use Rattle.rules.specs.Results.{FirstHalf, Inverse, Look, Picture, Read, SecondHalf, Write}
 
 -- reading the file into the table answers r, and the table is table' afterwards
 pub record Reads (file : List ℕ) (table : List ℤ) (r : Read) (table' : List ℤ) : Type 0 where

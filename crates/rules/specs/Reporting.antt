@@ -1,5 +1,5 @@
 -- Document 01, "Checked by hand": what the report program answers on its standard input, and the bytes that it prints.
-use Rattle.std.specs.Prelude.{ℕ, ◌≡◌, cond, List, [], ◌∷◌, ◌++◌, leb, length, take, drop}
+use Rattle.std.specs.Prelude.{ℕ, ◌≡◌, cond, List, [], ◌∷◌, ◌++◌, leb, length, take, drop, Err, Ok}
 use Rattle.rules.specs.Units.{rows_of}
 use Rattle.rules.specs.Fields.{parted}
 use Rattle.rules.specs.Decimals.{decimal, signed_decimal}
@@ -12,10 +12,9 @@ use Rattle.rules.specs.declared.Description.{Description}
 use Rattle.rules.specs.declared.Domain.{Domain}
 use Rattle.rules.specs.declared.Kind.{Kind}
 use Rattle.rules.specs.declared.Kind.TheVariants.{OneD, ThreeD}
-use Rattle.rules.specs.declared.Read.{Read}
-use Rattle.rules.specs.declared.Read.TheVariants.{Accepted, Refused}
 use Rattle.rules.specs.declared.Refusal.TheVariants.{InputTooLong}
 use Rattle.rules.specs.declared.Title.{Title}
+use Rattle.rules.specs.Results.{Read, refused_on}
 
 -- ---- the answer
 
@@ -29,7 +28,7 @@ report_places = 8_190
 
 -- longer input is 30 on line 0
 unfoldable pub report : List ℕ → Read
-report input = cond (leb (length input) report_bytes) (read input report_places) (Refused InputTooLong 0)
+report input = cond (leb (length input) report_bytes) (read input report_places) (refused_on InputTooLong 0)
 
 -- ---- lines
 
@@ -72,8 +71,8 @@ refused_line number line = line_of (bytes "refused" ∷ decimal number ∷ decim
 -- ---- the bytes printed
 
 unfoldable pub answer_text : List ℕ → Read → List ℕ
-answer_text input (Accepted d) = cube_line d.kind d.n ++ (domain_lines d ++ title_line input d.title)
-answer_text input (Refused r n) = refused_line (read_number (Refused r n)) (read_line (Refused r n))
+answer_text input (Ok d) = cube_line d.kind d.n ++ (domain_lines d ++ title_line input d.title)
+answer_text input (Err x) = refused_line (read_number (refused_on x.reason x.line)) (read_line (refused_on x.reason x.line))
 
 unfoldable pub report_text : List ℕ → List ℕ
 report_text input = answer_text input (report input)

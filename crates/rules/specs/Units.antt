@@ -1,15 +1,11 @@
 -- Document 01, "Units and places": units, limits, depths, colours, rows and where their numbers stand.
-use Rattle.std.specs.Prelude.{ℕ, ◌+◌, ◌*◌, Bool, cond, ◌&&◌, List, eqb, leb, ℤ, pos, get_or}
+use Rattle.std.specs.Prelude.{ℕ, ◌+◌, ◌*◌, Bool, cond, ◌&&◌, List, eqb, leb, ℤ, pos, get_or, None, Option, Some}
 use Rattle.rules.specs.declared.Bits.{Bits}
 use Rattle.rules.specs.declared.Codes.{Codes}
 use Rattle.rules.specs.declared.Colour.{Colour}
 use Rattle.rules.specs.declared.Colour.TheVariants.{Red, Green, Blue}
-use Rattle.rules.specs.declared.DepthFound.{DepthFound}
-use Rattle.rules.specs.declared.DepthFound.TheVariants.{Known, Unknown}
 use Rattle.rules.specs.declared.Depth.{Depth}
 use Rattle.rules.specs.declared.Depths.{Depths}
-use Rattle.rules.specs.declared.DepthsFound.{DepthsFound}
-use Rattle.rules.specs.declared.DepthsFound.TheVariants.{Both, NotBoth}
 use Rattle.rules.specs.declared.Kind.{Kind}
 use Rattle.rules.specs.declared.Kind.TheVariants.{OneD, ThreeD}
 
@@ -50,33 +46,33 @@ abbrev pub of_bits : ℕ → ℕ → Depth
 of_bits bits m = record { bits = bits; greatest = m }
 
 -- a depth where the test takes it, and else another
-abbrev pub or_else : (Depth → Bool) → Depth → DepthFound → DepthFound
-or_else takes depth other = cond (takes depth) (Known depth) other
+abbrev pub or_else : (Depth → Bool) → Depth → Option Depth → Option Depth
+or_else takes depth other = cond (takes depth) (Some depth) other
 
 -- four depths are known: the one that the test takes
-abbrev pub depth_that : (Depth → Bool) → DepthFound
+abbrev pub depth_that : (Depth → Bool) → Option Depth
 depth_that takes =
     or_else takes (of_bits 8 255)
     (or_else takes (of_bits 10 1023)
     (or_else takes (of_bits 12 4095)
     (or_else takes (of_bits 16 65535)
-    Unknown)))
+    None)))
 
 -- the depth of a width in bits
-abbrev pub depth_of : ℕ → DepthFound
+abbrev pub depth_of : ℕ → Option Depth
 depth_of bits = depth_that (λ depth. eqb bits depth.bits)
 
 -- the depth whose greatest code this is
-abbrev pub depth_with : ℕ → DepthFound
+abbrev pub depth_with : ℕ → Option Depth
 depth_with m = depth_that (λ depth. eqb m depth.greatest)
 
 -- two depths, of raw and of corrected codes, where both are known
-abbrev pub together : DepthFound → DepthFound → DepthsFound
-together Unknown corrected = NotBoth
-together (Known raw) Unknown = NotBoth
-together (Known raw) (Known corrected) = Both (record { raw = raw; corrected = corrected })
+abbrev pub together : Option Depth → Option Depth → Option Depths
+together None corrected = None
+together (Some raw) None = None
+together (Some raw) (Some corrected) = Some (record { raw = raw; corrected = corrected })
 
-abbrev pub depths_of : Bits → DepthsFound
+abbrev pub depths_of : Bits → Option Depths
 depths_of bits = together (depth_of bits.raw) (depth_of bits.corrected)
 
 -- the widths asked for, raw and corrected

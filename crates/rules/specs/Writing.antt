@@ -1,5 +1,5 @@
 -- Document 02, Req 02: the bytes of a file from a description, a table and a title's bytes.
-use Rattle.std.specs.Prelude.{ℕ, ◌*◌, Bool, true, false, cond, not, ◌&&◌, List, [], ◌∷◌, ◌++◌, leb, ℤ, length, take, drop}
+use Rattle.std.specs.Prelude.{ℕ, ◌*◌, Bool, true, false, cond, not, ◌&&◌, List, [], ◌∷◌, ◌++◌, leb, ℤ, length, take, drop, Err, Ok}
 use Rattle.rules.specs.Units.{sample_places, bound_places}
 use Rattle.rules.specs.Fields.{parted}
 use Rattle.rules.specs.Decimals.{decimal, decimals_of}
@@ -14,8 +14,7 @@ use Rattle.rules.specs.declared.Keyword.TheVariants.{ATitle, ALower, AnUpper, AS
 use Rattle.rules.specs.declared.Kind.{Kind}
 use Rattle.rules.specs.declared.Refusal.TheVariants.{TooLittleRoom, CouldNotBeRead, TitleNotPlain}
 use Rattle.rules.specs.declared.Title.{Title}
-use Rattle.rules.specs.declared.Write.{Write}
-use Rattle.rules.specs.declared.Write.TheVariants.{Accepted, Refused}
+use Rattle.rules.specs.Results.{Write}
 
 -- ---- the lines: one space between words, one newline after each line
 
@@ -73,15 +72,15 @@ unfoldable pub write : Description → List ℤ → List ℕ → ℕ → Write
 write d table title places =
     cond (could_be_read d table)
     (cond (title_fits d.title.there title)
-    (cond (leb (length (file_text d table title)) places) (Accepted (length (file_text d table title)))
-    (Refused TooLittleRoom))
-    (Refused TitleNotPlain))
-    (Refused CouldNotBeRead)
+    (cond (leb (length (file_text d table title)) places) (Ok (length (file_text d table title)))
+    (Err TooLittleRoom))
+    (Err TitleNotPlain))
+    (Err CouldNotBeRead)
 
 -- the lent bytes afterwards: the text, later bytes as they were; after a refusal as they were
 unfoldable pub bytes_after : Description → List ℤ → List ℕ → List ℕ → Write → List ℕ
-bytes_after d table title out (Accepted n) = file_text d table title ++ drop n out
-bytes_after d table title out (Refused r) = out
+bytes_after d table title out (Ok n) = file_text d table title ++ drop n out
+bytes_after d table title out (Err r) = out
 
 -- ---- the description of the new file
 

@@ -54,12 +54,6 @@ pub struct Depth {
     greatest: u16,
 }
 
-#[derive(Clone, Copy)]
-pub enum DepthFound {
-    Known(Depth),
-    Unknown,
-}
-
 impl Depth {
     pub const BITS_8: u16 = 255;
 
@@ -70,32 +64,21 @@ impl Depth {
     pub const BITS_16: u16 = 65535;
 
     // The depth of a width in bits; four widths are known.
-    pub fn of(bits: u32) -> DepthFound
+    pub fn of(bits: u32) -> Option<Depth>
         ensures { result ≡ depth_of bits }
     {
-        match bits {
-            8 => DepthFound::Known(Depth {
-                bits,
-                greatest: Depth::BITS_8,
-            }),
-            10 => DepthFound::Known(Depth {
-                bits,
-                greatest: Depth::BITS_10,
-            }),
-            12 => DepthFound::Known(Depth {
-                bits,
-                greatest: Depth::BITS_12,
-            }),
-            16 => DepthFound::Known(Depth {
-                bits,
-                greatest: Depth::BITS_16,
-            }),
-            _ => DepthFound::Unknown,
-        }
+        let greatest = match bits {
+            8 => Depth::BITS_8,
+            10 => Depth::BITS_10,
+            12 => Depth::BITS_12,
+            16 => Depth::BITS_16,
+            _ => return None,
+        };
+        Some(Depth { bits, greatest })
     }
 
     // The depth whose greatest code this is.
-    pub fn with_greatest(m: u64) -> DepthFound
+    pub fn with_greatest(m: u64) -> Option<Depth>
         ensures { result ≡ depth_with m }
     {
         if m == Depth::BITS_8 as u64 {
@@ -110,7 +93,7 @@ impl Depth {
         if m == Depth::BITS_16 as u64 {
             return Depth::of(16);
         }
-        DepthFound::Unknown
+        None
     }
 
     pub fn bits(self) -> u32
@@ -141,24 +124,14 @@ pub struct Depths {
     pub corrected: Depth,
 }
 
-#[derive(Clone, Copy)]
-pub enum DepthsFound {
-    Both(Depths),
-    NotBoth,
-}
-
 impl Depths {
     // The two depths, where both are known.
-    pub fn of(bits: Bits) -> DepthsFound
+    pub fn of(bits: Bits) -> Option<Depths>
         ensures { result ≡ depths_of bits }
     {
-        let DepthFound::Known(raw) = Depth::of(bits.raw) else {
-            return DepthsFound::NotBoth;
-        };
-        let DepthFound::Known(corrected) = Depth::of(bits.corrected) else {
-            return DepthsFound::NotBoth;
-        };
-        DepthsFound::Both(Depths { raw, corrected })
+        let raw = Depth::of(bits.raw)?;
+        let corrected = Depth::of(bits.corrected)?;
+        Some(Depths { raw, corrected })
     }
 }
 
@@ -221,10 +194,9 @@ pub struct Description {
 
 // ---- what words and lines give
 
-// What a word says as a number, in units, within a limit.
-#[derive(Clone, Copy)]
-pub enum Number {
-    Value(i64),
+// Why a word says no number in units, within a limit.
+#[derive(Clone, Copy, Debug, PartialEq, Eq)]
+pub enum NumberFault {
     Malformed,
     Beyond,
     Finer,
@@ -233,9 +205,9 @@ pub enum Number {
 // What three words say as numbers.
 #[derive(Clone, Copy)]
 pub struct Three {
-    pub first: Number,
-    pub second: Number,
-    pub third: Number,
+    pub first: Result<i64, NumberFault>,
+    pub second: Result<i64, NumberFault>,
+    pub third: Result<i64, NumberFault>,
 }
 
 // The three numbers of a DOMAIN_MIN or DOMAIN_MAX line.
@@ -273,7 +245,7 @@ pub enum Form {
 }
 
 // What a line gives: nothing (empty, or a comment), a title, lower or upper bounds, a size, or a row.
-#[derive(Clone, Copy)]
+#[derive(Clone, Copy, Debug, PartialEq, Eq)]
 pub enum Item {
     Nothing,
     OfTitle(Title),
@@ -281,13 +253,6 @@ pub enum Item {
     OfUpper(Bounds),
     OfSize(Size),
     OfRow(Row),
-}
-
-// An item, or why there is none.
-#[derive(Clone, Copy)]
-pub enum Content {
-    Says(Item),
-    Wrong(Refusal),
 }
 
 // ---- pixels, rows and weights
@@ -318,10 +283,9 @@ pub struct Shares {
     pub sixth: Share,
 }
 
-// What six rows and weights are found to be, where anybody may have written them.
-#[derive(Clone, Copy)]
-pub enum Judged {
-    Fit,
+// What is wrong with six rows and weights, where anybody may have written them.
+#[derive(Clone, Copy, Debug, PartialEq, Eq)]
+pub enum Misfit {
     RowBeyond,
     NegativeWeight,
     WrongSum,
@@ -409,52 +373,31 @@ impl Refusal {
     }
 }
 
-// What reading answers.
-#[derive(Clone, Copy)]
-pub enum Read {
-    Accepted(Description),
-    Refused { reason: Refusal, line: usize },
+// A file that reading refuses: why, and on which line.
+#[derive(Clone, Copy, Debug, PartialEq, Eq)]
+pub struct Refused {
+    pub reason: Refusal,
+    pub line: usize,
 }
 
 // What look answers.
-#[derive(Clone, Copy)]
-pub enum Look {
-    Accepted { codes: Codes, shares: Shares },
-    Refused(Refusal),
+#[derive(Clone, Copy, Debug, PartialEq, Eq)]
+pub struct Looked {
+    pub codes: Codes,
+    pub shares: Shares,
 }
 
-// What the first half of a look answers: the six rows and weights of a pixel.
-#[derive(Clone, Copy)]
-pub enum FirstHalf {
-    Accepted(Shares),
-    Refused(Refusal),
+// What the inverse answers: a raw code, and how many codes were tried.
+#[derive(Clone, Copy, Debug, PartialEq, Eq)]
+pub struct Inverted {
+    pub code: u16,
+    pub count: u64,
 }
 
-// What the second half answers: the codes of six rows and weights.
-#[derive(Clone, Copy)]
-pub enum SecondHalf {
-    Accepted(Codes),
-    Refused(Refusal),
-}
-
-// What picture answers; the corrected codes stand in the lent output.
-#[derive(Clone, Copy)]
-pub enum Picture {
-    Accepted,
-    Refused(Refusal),
-}
-
-// What writing answers: the length of the text, which stands in the lent bytes.
-#[derive(Clone, Copy)]
-pub enum Write {
-    Accepted(usize),
-    Refused(Refusal),
-}
-
-// What the inverse answers: a raw code, and how many codes were tried. That no code comes within the tolerance is known once they all are, and is said with
-// that count; the refusals before it have tried none.
-#[derive(Clone, Copy)]
-pub enum Inverse {
-    Accepted { code: u16, count: u64 },
-    Refused { reason: Refusal, count: u64 },
+// Why there is none. That no code comes within the tolerance is known once all of them are tried, and is said with that count; the refusals before it have
+// tried none.
+#[derive(Clone, Copy, Debug, PartialEq, Eq)]
+pub struct NotInverted {
+    pub reason: Refusal,
+    pub count: u64,
 }

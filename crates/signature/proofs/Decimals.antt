@@ -14,11 +14,11 @@ use Rattle.rules.specs.Decimals.{digit_byte, decimal_in, decimal, sign, places_o
 use Rattle.rules.specs.Reading.Lines.{bytes, digit, every}
 use Rattle.rules.specs.Reading.Numerals.{Exact, Mantissa, Numeral, Sign, Spells, absent, digits, minus, over, plain, pointed, signed, spell, under, unwritten}
 use Rattle.rules.specs.Reading.Numbers.{number_of}
-use Rattle.rules.specs.declared.Number.TheVariants.{Value}
 use Rattle.rules.proofs.Tests.{both-and}
 use Rattle.rules.proofs.Decimals.{no-places, one_place, no_fraction, some-fraction}
 use Rattle.rules.proofs.Reading.Numbers.{of-exact, spell-append, digits_more, first-digit}
 use Rattle.rules.proofs.Reading.Runs.{every_append}
+use Rattle.std.specs.Prelude.{Ok}
 
 -- ---- the digits are those of the number
 
@@ -250,7 +250,7 @@ module _ (places : ℕ) (z : ℤ) where
   pub decimals-exact : (limit : ℕ) → nat_abs z ≤ limit → Exact places limit (decimals_of places z) z
   decimals-exact limit h = record { numeral = numeral; spelt = decimals-spell; equal = exactly-worth; within = h }
 
-  pub decimals-read : (limit : ℕ) → nat_abs z ≤ limit → number_of places limit (decimals_of places z) ≡ Value z
+  pub decimals-read : (limit : ℕ) → nat_abs z ≤ limit → number_of places limit (decimals_of places z) ≡ Ok z
   decimals-read limit h = of-exact places limit (decimals_of places z) z (decimals-exact limit h)
 
 -- ---- some texts

@@ -16,15 +16,8 @@ use Rattle.rules.specs.declared.Bits.{Bits}
 use Rattle.rules.specs.declared.Codes.{Codes}
 use Rattle.rules.specs.declared.Colour.{Colour}
 use Rattle.rules.specs.declared.Depth.{Depth}
-use Rattle.rules.specs.declared.DepthFound.TheVariants.{Known}
 use Rattle.rules.specs.declared.Depths.{Depths}
-use Rattle.rules.specs.declared.DepthsFound.TheVariants.{Both}
 use Rattle.rules.specs.declared.Description.{Description}
-use Rattle.rules.specs.declared.FirstHalf.{FirstHalf}
-use Rattle.rules.specs.declared.Look.{Look}
-use Rattle.rules.specs.declared.Picture.{Picture}
-use Rattle.rules.specs.declared.Read.TheVariants.{Accepted}
-use Rattle.rules.specs.declared.SecondHalf.{SecondHalf}
 use Rattle.rules.specs.declared.Shares.{Shares}
 use Rattle.rules.proofs.Answers.{looks-is, pictures-is}
 use Rattle.rules.proofs.Reading.Bridge.{reads-bridge}
@@ -35,16 +28,18 @@ use Rattle.signature.proofs.Looking.HalvesNumbers.{finds-0, finds-exactly, FitFo
 use Rattle.signature.proofs.Looking.FirstRight.{FoundRight, finds-right}
 use Rattle.signature.proofs.Looking.SecondRight.{GivenRight, gives-right}
 use Rattle.signature.proofs.Picturing.Promised.{pictures-right}
+use Rattle.std.specs.Prelude.{Ok, Some}
+use Rattle.rules.specs.Results.{FirstHalf, Look, Picture, SecondHalf}
 
 -- the first half, at a raw depth and of a pixel within it
 pub rows_right : {file : List ℕ} {table t : List ℤ} {d : Description} {raw : ℕ} {depth : Depth} {pixel : Codes} {r : FirstHalf}
-    → Reads file table (Accepted d) t → depth_of raw ≡ Known depth → within depth.greatest pixel ≡ true → FindsRows d t raw pixel r
+    → Reads file table (Ok d) t → depth_of raw ≡ Some depth → within depth.greatest pixel ≡ true → FindsRows d t raw pixel r
     → (first_number r ≡ 0) × FoundRight d t raw pixel r
 rows_right {depth = depth} reads known inside f =
     let z = (finds-exactly f 0).1 (finds-0 (reads-bridge reads) depth known inside) in
     (z, finds-right f z)
 
-module _ {file : List ℕ} {table t : List ℤ} {d : Description} (reads : Reads file table (Accepted d) t) {bits : Bits} {depths : Depths} (known : depths_of bits ≡ Both depths) where
+module _ {file : List ℕ} {table t : List ℤ} {d : Description} (reads : Reads file table (Ok d) t) {bits : Bits} {depths : Depths} (known : depths_of bits ≡ Some depths) where
   pub look-right : {pixel : Codes} {r : Look} → within (raw_m depths) pixel ≡ true → Looks d t bits pixel r → (look_number r ≡ 0) × AllRight d t bits pixel r
   look-right {pixel} inside l =
       let z = ap look_number (looks-is l ∙ look-0 d t bits pixel depths (reads-bridge reads) known inside) in

@@ -8,15 +8,9 @@ use Rattle.rules.specs.declared.Aim.{Aim}
 use Rattle.rules.specs.declared.Bits.{Bits}
 use Rattle.rules.specs.declared.Codes.{Codes}
 use Rattle.rules.specs.declared.Description.{Description}
-use Rattle.rules.specs.declared.FirstHalf.{FirstHalf}
-use Rattle.rules.specs.declared.Inverse.{Inverse}
-use Rattle.rules.specs.declared.Look.{Look}
-use Rattle.rules.specs.declared.Picture.{Picture}
-use Rattle.rules.specs.declared.Read.{Read}
-use Rattle.rules.specs.declared.SecondHalf.{SecondHalf}
 use Rattle.rules.specs.declared.Shares.{Shares}
-use Rattle.rules.specs.declared.Write.{Write}
 use Rattle.rules.proofs.Answers.{checks-is, looks-is, finds-is, gives-is, pictures-is, reads-is, writes-is, inverts-is}
+use Rattle.rules.specs.Results.{FirstHalf, Inverse, Look, Picture, Read, SecondHalf, Write}
 
 module _ {d : Description} {table : List ℤ} {bits : Bits} {pixel : Codes} where
   pub looks-one : {r s : Look} → Looks d table bits pixel r → Looks d table bits pixel s → r ≡ s

@@ -15,29 +15,23 @@ use Rattle.rules.specs.Demands.{pixel_at}
 use Rattle.rules.specs.Picturing.{corrected, picture, output_after}
 use Rattle.rules.specs.declared.Aim.{Aim}
 use Rattle.rules.specs.declared.Bits.{Bits}
-use Rattle.rules.specs.declared.DepthFound.{DepthFound}
-use Rattle.rules.specs.declared.DepthFound.TheVariants.{Known, Unknown}
-use Rattle.rules.specs.declared.DepthsFound.{DepthsFound}
-use Rattle.rules.specs.declared.DepthsFound.TheVariants.{Both, NotBoth}
 use Rattle.rules.specs.declared.Codes.{Codes}
 use Rattle.rules.specs.declared.Colour.{Colour}
 use Rattle.rules.specs.declared.Colour.TheVariants.{Red, Green, Blue}
 use Rattle.rules.specs.declared.Depths.{Depths}
 use Rattle.rules.specs.declared.Description.{Description}
-use Rattle.rules.specs.declared.FirstHalf.TheVariants as F
 use Rattle.rules.specs.declared.Kind.{Kind}
 use Rattle.rules.specs.declared.Kind.TheVariants.{OneD, ThreeD}
-use Rattle.rules.specs.declared.Look.TheVariants.{Refused}
-use Rattle.rules.specs.declared.Picture.{Picture}
-use Rattle.rules.specs.declared.Picture.TheVariants as P
 use Rattle.rules.specs.declared.Refusal.TheVariants.{CouldNotBeRead}
-use Rattle.rules.specs.declared.SecondHalf.TheVariants as S
 use Rattle.rules.specs.declared.Shares.{Shares}
 use Rattle.rules.specs.declared.Title.{Title}
 use Rattle.rules.proofs.Picturing.Checks.{each_same}
 use Rattle.signature.proofs.Looking.SamePlaces.{SamePlaces, same-look, same_rows}
 use Rattle.signature.proofs.Looking.SameShares.{same-given}
 use Rattle.signature.proofs.Inverting.SameLines.{same_lines}
+use Rattle.std.specs.Prelude.{Err, None, Ok, Option, Some}
+use Rattle.rules.specs.declared.Depth.{Depth}
+use Rattle.rules.specs.Results.{Picture}
 
 -- the same description with another title
 abbrev pub retitled : Description → Title → Description
@@ -84,29 +78,29 @@ module _ (d : Description) (t : Title) where
       fractions = λ c i. brought (den m (same-domain c i)) (m * same_span d.kind c i) (fraction m (same-domain c i) d.n (code_in pixel c));
     }
 
-    same_at : (x : DepthsFound) → look_at e table pixel x ≡ look_at d table pixel x
+    same_at : (x : Option Depths) → look_at e table pixel x ≡ look_at d table pixel x
     unfolding look_at
-    same_at NotBoth = refl
-    same_at (Both depths) = same-look table depths (same-places (raw_m depths))
+    same_at None = refl
+    same_at (Some depths) = same-look table depths (same-places (raw_m depths))
 
     pub untitled-look : (bits : Bits) → look e table bits pixel ≡ look d table bits pixel
     unfolding look
-    untitled-look bits = ap₂ (λ could x. cond could x (Refused CouldNotBeRead)) (same-24 table) (same_at (depths_of bits))
+    untitled-look bits = ap₂ (λ could x. cond could x (Err CouldNotBeRead)) (same-24 table) (same_at (depths_of bits))
 
     -- ---- its halves
 
-    same-rows-at : (x : DepthFound) → rows_at e pixel x ≡ rows_at d pixel x
-    same-rows-at Unknown = refl
-    same-rows-at (Known depth) = same_rows (same-places depth.greatest)
+    same-rows-at : (x : Option Depth) → rows_at e pixel x ≡ rows_at d pixel x
+    same-rows-at None = refl
+    same-rows-at (Some depth) = same_rows (same-places depth.greatest)
 
     pub untitled-first : (raw : ℕ) → first_half e table raw pixel ≡ first_half d table raw pixel
     unfolding first_half
-    untitled-first raw = ap₂ (λ could x. cond could x (F.Refused CouldNotBeRead)) (same-24 table) (same-rows-at (depth_of raw))
+    untitled-first raw = ap₂ (λ could x. cond could x (Err CouldNotBeRead)) (same-24 table) (same-rows-at (depth_of raw))
 
   pub untitled-second : (table : List ℤ) (bits : Bits) (shares : Shares) → second_half e table bits shares ≡ second_half d table bits shares
   unfolding second_half
   untitled-second table bits shares =
-      ap₂ (λ could x. cond could x (S.Refused CouldNotBeRead)) (same-24 table)
+      ap₂ (λ could x. cond could x (Err CouldNotBeRead)) (same-24 table)
       (same-given table (λ m. record { count = refl; dens = same-dens m; shares = λ c. refl }) (depths_of bits))
 
   -- ---- picture
@@ -120,8 +114,8 @@ module _ (d : Description) (t : Title) where
 
   pub untitled-output : (table : List ℤ) (bits : Bits) (src dst : List ℕ) (r : Picture) → output_after e table bits src dst r ≡ output_after d table bits src dst r
   unfolding output_after
-  untitled-output table bits src dst P.Accepted = ap (λ x. x ++ drop (length src) dst) (same-corrected table bits src)
-  untitled-output table bits src dst (P.Refused r) = refl
+  untitled-output table bits src dst (Ok _) = ap (λ x. x ++ drop (length src) dst) (same-corrected table bits src)
+  untitled-output table bits src dst (Err r) = refl
 
   -- ---- the inverse
 

@@ -1,22 +1,18 @@
 -- Document 02, Req 01: digits with a bare point are numbers. The rule of before, reading by it, and what the request brings.
-use Rattle.std.specs.Prelude.{ℕ, suc, ◌≤◌, ◌≡◌, Bool, true, cond, List, [], ◌∷◌, ◌++◌, ℤ, length}
-use Rattle.std.proofs.Math.Option.{Option}
+use Rattle.std.specs.Prelude.{ℕ, suc, ◌≤◌, ◌≡◌, Bool, true, cond, List, [], ◌∷◌, ◌++◌, ℤ, length, Option}
 use Rattle.rules.specs.Reading.{read, table_after}
 use Rattle.rules.specs.Reading.Lines.{digit, minus_byte, point_byte, run, after, starts, lines_of, words_of}
 use Rattle.rules.specs.Reading.Numerals.{Numeral, Power, Sign, digits}
 use Rattle.rules.specs.Reading.Numbers.{assemble, exponent_of, unsigned, value_of}
 use Rattle.rules.specs.Reading.Contents.{form_of}
 use Rattle.rules.specs.Reading.Judge.{head_fault}
-use Rattle.rules.specs.declared.Content.{Content}
 use Rattle.rules.specs.declared.Form.{Form}
 use Rattle.rules.specs.declared.Form.TheVariants.{Keyed, Data}
 use Rattle.rules.specs.declared.Keyword.TheVariants.{ALower, AnUpper}
-use Rattle.rules.specs.declared.Number.{Number}
-use Rattle.rules.specs.declared.Read.{Read}
-use Rattle.rules.specs.declared.Read.TheVariants.{Refused}
 use Rattle.rules.specs.declared.Refusal.{Refusal}
 use Rattle.rules.specs.declared.Refusal.TheVariants.{NotThreeNumbers, ParametersWrong}
 use Rattle.signature.specs.Before.{line_by, read_by, table_by}
+use Rattle.rules.specs.Results.{Content, Number, Read, refused_on}
 
 -- ---- before: a point had at least one digit after it
 
@@ -80,10 +76,10 @@ pub record Freed (file : List ℕ) (places : ℕ) : Type 0 where
   pub rest : List (List ℕ)
   pub lines_so : lines_of file ≡ before ++ (line ∷ rest)
   pub refusal : Refusal
-  pub refused : read_before file places ≡ Refused refusal (suc (length before))
+  pub refused : read_before file places ≡ refused_on refusal (suc (length before))
   pub unformed : Unformed (form_of line) refusal
   pub bare : BareAmong (words_of line)
-  pub not_earlier : (r : Refusal) (n : ℕ) → read file places ≡ Refused r n → suc (length before) ≤ n
+  pub not_earlier : (r : Refusal) (n : ℕ) → read file places ≡ refused_on r n → suc (length before) ≤ n
 
 -- a file that is answered as it was, and leaves in a table what it left
 pub record Unmoved (file : List ℕ) (places : ℕ) : Type 0 where

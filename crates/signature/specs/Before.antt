@@ -1,7 +1,6 @@
 -- Reading by its parts, for the theorems that say what a request of document 02 changes and what it leaves: what the request changed is put in as it was before,
 -- and what does not stand here anew is that of the rules.
-use Rattle.std.specs.Prelude.{ℕ, suc, ◌+◌, ◌*◌, ◌&&◌, cond, List, [], ◌∷◌, ◌++◌, leb, ltb, ℤ, length, drop}
-use Rattle.std.proofs.Math.Option.{Option, none, some}
+use Rattle.std.specs.Prelude.{ℕ, suc, ◌+◌, ◌*◌, ◌&&◌, cond, List, [], ◌∷◌, ◌++◌, leb, ltb, ℤ, length, drop, Err, None, Ok, Option, Some}
 use Rattle.rules.specs.Units.{sample_places, sample_limit, bound_places, bound_limit}
 use Rattle.rules.specs.Descriptions.{rows}
 use Rattle.rules.specs.Reading.{finish, onward, samples_in}
@@ -9,38 +8,34 @@ use Rattle.rules.specs.Reading.Lines.{lines_of, words_of}
 use Rattle.rules.specs.Reading.Contents.{bounds_at, content_by, formed, form_of, parameters, row_of, values}
 use Rattle.rules.specs.Reading.Judge.{Fault, State, Verdict, start, byte_fault, describe, first, need, order_fault, take_in, unless}
 use Rattle.rules.specs.declared.Bounds.{Bounds}
-use Rattle.rules.specs.declared.Content.{Content}
-use Rattle.rules.specs.declared.Content.TheVariants.{Says}
 use Rattle.rules.specs.declared.Form.{Form}
 use Rattle.rules.specs.declared.Form.TheVariants.{Idle, Keyed, Data, Neither}
 use Rattle.rules.specs.declared.Item.{Item}
 use Rattle.rules.specs.declared.Item.TheVariants.{OfLower, OfUpper, OfRow}
 use Rattle.rules.specs.declared.Keyword.TheVariants.{ATitle, ALower, AnUpper, ASize}
-use Rattle.rules.specs.declared.Number.{Number}
-use Rattle.rules.specs.declared.Read.{Read}
-use Rattle.rules.specs.declared.Read.TheVariants.{Accepted, Refused}
 use Rattle.rules.specs.declared.Refusal.TheVariants.{DomainNumberWrong, NotThreeNumbers, ParametersWrong, SampleBeyond, SampleTooFine, TooFewRows, TooManyRows}
 use Rattle.rules.specs.declared.Three.{Three}
+use Rattle.rules.specs.Results.{Content, Number, Read}
 
 -- ---- reading, where a word says a number in some way
 
 module _ (number : ℕ → ℕ → List ℕ → Number) where
   -- three words, each a number
   unfoldable pub three_by : ℕ → ℕ → List (List ℕ) → Option Three
-  three_by places limit [] = none
-  three_by places limit (a ∷ []) = none
-  three_by places limit (a ∷ b ∷ []) = none
+  three_by places limit [] = None
+  three_by places limit (a ∷ []) = None
+  three_by places limit (a ∷ b ∷ []) = None
   three_by places limit (a ∷ b ∷ c ∷ []) =
       cond (formed (number places limit a) && (formed (number places limit b) && formed (number places limit c)))
-      (some (record { first = number places limit a; second = number places limit b; third = number places limit c }))
-      none
-  three_by places limit (a ∷ b ∷ c ∷ d ∷ more) = none
+      (Some (record { first = number places limit a; second = number places limit b; third = number places limit c }))
+      None
+  three_by places limit (a ∷ b ∷ c ∷ d ∷ more) = None
 
   unfoldable pub bounds_by : (Bounds → Item) → List (List ℕ) → Content
-  bounds_by side ws = values ParametersWrong DomainNumberWrong DomainNumberWrong (three_by bound_places bound_limit ws) (λ x y z. Says (side (bounds_at x y z)))
+  bounds_by side ws = values ParametersWrong DomainNumberWrong DomainNumberWrong (three_by bound_places bound_limit ws) (λ x y z. Ok (side (bounds_at x y z)))
 
   unfoldable pub samples_by : List (List ℕ) → Content
-  samples_by ws = values NotThreeNumbers SampleBeyond SampleTooFine (three_by sample_places sample_limit ws) (λ x y z. Says (OfRow (row_of x y z)))
+  samples_by ws = values NotThreeNumbers SampleBeyond SampleTooFine (three_by sample_places sample_limit ws) (λ x y z. Ok (OfRow (row_of x y z)))
 
   -- what a line says, by its form
   unfoldable pub form_by : Form → ℕ → List ℕ → Content
@@ -78,11 +73,11 @@ module _ (head : ℕ → State → Fault) where
   unfoldable pub order_by : ℕ → State → Form → Fault
   order_by places st Idle = order_fault places st Idle
   order_by places st (Keyed k) = order_fault places st (Keyed k)
-  order_by places st Data = first (head places st) (need (ltb st.rows (rows (describe st))) TooManyRows none)
+  order_by places st Data = first (head places st) (need (ltb st.rows (rows (describe st))) TooManyRows None)
   order_by places st Neither = order_fault places st Neither
 
   unfoldable pub end_by : ℕ → State → Fault
-  end_by places st = first (head places st) (need (leb (rows (describe st)) st.rows) TooFewRows none)
+  end_by places st = first (head places st) (need (leb (rows (describe st)) st.rows) TooFewRows None)
 
   unfoldable pub judge_by : (ℕ → List ℕ → Content) → ℕ → State → ℕ → List ℕ → Verdict
   judge_by content places st p l = unless (byte_fault l) (unless (order_by places st (form_of l)) (take_in st (content p l)))
@@ -101,5 +96,5 @@ module _ (content : ℕ → List ℕ → Content) where
   samples_of_by (l ∷ ls) = samples_in (content 0 l) ++ samples_of_by ls
 
   unfoldable pub table_by : List ℕ → List ℤ → Read → List ℤ
-  table_by file table (Accepted d) = samples_of_by (lines_of file) ++ drop (3 * rows d) table
-  table_by file table (Refused r n) = table
+  table_by file table (Ok d) = samples_of_by (lines_of file) ++ drop (3 * rows d) table
+  table_by file table (Err x) = table

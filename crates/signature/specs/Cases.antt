@@ -1,5 +1,5 @@
 -- Document 01, "Checked by hand": the cases marked P as one table, a case for every number of "Answers by number", and sample A.3 read whole.
-use Rattle.std.specs.Prelude.{ℕ, ◌+◌, ◌≡◌, true, List, [], ◌∷◌, ◌++◌, ℤ, pos, negsuc, length, replicate}
+use Rattle.std.specs.Prelude.{ℕ, ◌+◌, ◌≡◌, true, List, [], ◌∷◌, ◌++◌, ℤ, pos, negsuc, length, replicate, Ok}
 use Prim.Native.String.{String}
 use Rattle.rules.specs.Units.{bits_of, same_bits}
 use Rattle.rules.specs.Reading.Lines.{bytes, after}
@@ -16,16 +16,9 @@ use Rattle.rules.specs.declared.Codes.{Codes}
 use Rattle.rules.specs.declared.Colour.{Colour}
 use Rattle.rules.specs.declared.Colour.TheVariants.{Red, Green, Blue}
 use Rattle.rules.specs.declared.Description.{Description}
-use Rattle.rules.specs.declared.FirstHalf.{FirstHalf}
-use Rattle.rules.specs.declared.Inverse.{Inverse}
 use Rattle.rules.specs.declared.Kind.TheVariants.{OneD}
-use Rattle.rules.specs.declared.Look.{Look}
-use Rattle.rules.specs.declared.Picture.{Picture}
-use Rattle.rules.specs.declared.Read.{Read}
-use Rattle.rules.specs.declared.Read.TheVariants.{Accepted}
-use Rattle.rules.specs.declared.SecondHalf.{SecondHalf}
-use Rattle.rules.specs.declared.Write.{Write}
 use Rattle.signature.specs.OneDomain.{red_wider, green_higher, red_lower, all_wider, green_first, cube_to}
+use Rattle.rules.specs.Results.{FirstHalf, Inverse, Look, Picture, Read, SecondHalf, Write}
 
 -- ---- what is asked, and what comes out
 
@@ -597,7 +590,7 @@ AllMet (c ∷ cs) = (outcome c.asked ≡ c.expected) × AllMet cs
 
 -- sample A.3, read whole: its description too
 pub record ReadA3 : Type 0 where
-  pub answer : read (bytes sample_a3) 10 ≡ Accepted (record {
+  pub answer : read (bytes sample_a3) 10 ≡ Ok (record {
     kind = OneD;
     n = 3;
     red = record { lower = record { 0 = pos 0 }; upper = record { 0 = pos 1000 } };

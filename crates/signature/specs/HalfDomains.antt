@@ -1,18 +1,16 @@
 -- Document 02, Req 05: a file with one line of the domain and not the other is refused with 19. Where that is, and reading as it was before.
-use Rattle.std.specs.Prelude.{ℕ, ◌≤◌, ◌≡◌, Bool, true, false, cond, List, eqb}
-use Rattle.std.proofs.Math.Option.{none}
+use Rattle.std.specs.Prelude.{ℕ, ◌≤◌, ◌≡◌, Bool, true, false, cond, List, eqb, None}
 use Rattle.rules.specs.Reading.{read}
 use Rattle.rules.specs.Reading.Contents.{content_of}
 use Rattle.rules.specs.Reading.Judge.{Fault, State, describe, domain_fault, given, need}
 use Rattle.rules.specs.declared.Form.{Form}
 use Rattle.rules.specs.declared.Form.TheVariants.{Idle, Keyed, Data, Neither}
 use Rattle.rules.specs.declared.Keyword.TheVariants.{ATitle, ALower, AnUpper, ASize}
-use Rattle.rules.specs.declared.Read.{Read}
-use Rattle.rules.specs.declared.Read.TheVariants.{Refused}
 use Rattle.rules.specs.declared.Refusal.{Refusal}
 use Rattle.rules.specs.declared.Refusal.TheVariants.{HalfADomain, NoSize}
 use Rattle.signature.specs.Before.{read_by}
 use Rattle.signature.specs.Heads.{HeadAt, among}
+use Rattle.rules.specs.Results.{Read, refused_on}
 
 -- ---- sorts of line
 
@@ -62,7 +60,7 @@ HalfAt = HeadAt HalfGiven
 -- ---- before: of the two lines together nothing was asked
 
 unfoldable pub head_before : ℕ → State → Fault
-head_before places st = cond (eqb st.rows 0) (need (given st.size) NoSize (domain_fault places (describe st))) none
+head_before places st = cond (eqb st.rows 0) (need (given st.size) NoSize (domain_fault places (describe st))) None
 
 abbrev pub read_with_halves : List ℕ → ℕ → Read
 read_with_halves = read_by head_before content_of
@@ -70,6 +68,6 @@ read_with_halves = read_by head_before content_of
 -- a file that is refused with 19; before it was refused, if at all, on no earlier line
 pub record Halved (file : List ℕ) (places : ℕ) : Type 0 where
   pub line : ℕ
-  pub refused : read file places ≡ Refused HalfADomain line
+  pub refused : read file places ≡ refused_on HalfADomain line
   pub half : HalfAt file places line
-  pub not_earlier : (r : Refusal) (n : ℕ) → read_with_halves file places ≡ Refused r n → line ≤ n
+  pub not_earlier : (r : Refusal) (n : ℕ) → read_with_halves file places ≡ refused_on r n → line ≤ n

@@ -1,6 +1,5 @@
 -- Where the head of a file, all that stands before the data, is checked: at the first data line, if 1 and 2 let it pass, or at the end where there is none.
-use Rattle.std.specs.Prelude.{ℕ, ◌≡◌, Bool, true, false, ◌||◌, List, [], ◌∷◌, ◌++◌, length}
-use Rattle.std.proofs.Math.Option.{none}
+use Rattle.std.specs.Prelude.{ℕ, ◌≡◌, Bool, true, false, ◌||◌, List, [], ◌∷◌, ◌++◌, length, None}
 use Rattle.rules.specs.Reading.Lines.{lines_of}
 use Rattle.rules.specs.Reading.Contents.{form_of}
 use Rattle.rules.specs.Reading.Judge.{State, start, byte_fault}
@@ -23,7 +22,7 @@ data_line Neither = false
 -- the end, or a data line that 1 and 2 let pass
 abbrev pub AtHead : List (List ℕ) → Type 0
 AtHead [] = Unit {0}
-AtHead (l ∷ ls) = (byte_fault l ≡ none) × (form_of l ≡ Data)
+AtHead (l ∷ ls) = (byte_fault l ≡ None) × (form_of l ≡ Data)
 
 -- there, on line n, something holds of the lines before and of the state that they lead to
 pub record HeadAt (Holds : List (List ℕ) → State → Type 0) (file : List ℕ) (places n : ℕ) : Type 0 where

@@ -1,19 +1,17 @@
 -- Document 02, Req 07: 12 is given only where the domains of a 3D table differ and some bound is not whole. Where that is, and reading as it was before.
-use Rattle.std.specs.Prelude.{ℕ, ◌≤◌, ◌≡◌, Bool, true, false, cond, List, eqb}
-use Rattle.std.proofs.Math.Option.{none}
+use Rattle.std.specs.Prelude.{ℕ, ◌≤◌, ◌≡◌, Bool, true, false, cond, List, eqb, None}
 use Rattle.rules.specs.Descriptions.{every_colour, narrow, one_domain, ordered, roomy, whole_bounds}
 use Rattle.rules.specs.Reading.{read}
 use Rattle.rules.specs.Reading.Contents.{content_of}
 use Rattle.rules.specs.Reading.Judge.{Fault, State, describe, given, need, together}
 use Rattle.rules.specs.declared.Description.{Description}
 use Rattle.rules.specs.declared.Kind.TheVariants.{ThreeD}
-use Rattle.rules.specs.declared.Read.{Read}
-use Rattle.rules.specs.declared.Read.TheVariants.{Refused}
 use Rattle.rules.specs.declared.Refusal.{Refusal}
 use Rattle.rules.specs.declared.Refusal.TheVariants.{DomainTooWide, DomainsDiffer, HalfADomain, LowerNotBelowUpper, NoSize, TooLittleRoom}
 use Rattle.signature.specs.Before.{read_by}
 use Rattle.signature.specs.Heads.{HeadAt}
 use Rattle.signature.specs.OneDomain.{agree_before}
+use Rattle.rules.specs.Results.{Read, refused_on}
 
 -- ---- where 12 is given
 
@@ -49,8 +47,8 @@ module _ (agreed : Description → Bool) where
       (need (every_colour ordered d) LowerNotBelowUpper
       (need (every_colour narrow d) DomainTooWide
       (need (agreed d) DomainsDiffer
-      (need (roomy places d) TooLittleRoom none))))))
-      none
+      (need (roomy places d) TooLittleRoom None))))))
+      None
 
 -- before: in 3D one domain for all colours
 abbrev pub read_one_domain : List ℕ → ℕ → Read
@@ -59,7 +57,7 @@ read_one_domain = read_by (head_agreed (λ d. agree_before d.kind d)) content_of
 -- a file that was refused with 12 and now is not, since all its bounds are whole; it is refused now, if at all, on no earlier line
 pub record Widened (file : List ℕ) (places : ℕ) : Type 0 where
   pub line : ℕ
-  pub refused : read_one_domain file places ≡ Refused DomainsDiffer line
+  pub refused : read_one_domain file places ≡ refused_on DomainsDiffer line
   pub mixed : DifferAt true file places line
-  pub not_12 : (n : ℕ) → read file places ≡ Refused DomainsDiffer n → ⊥
-  pub not_earlier : (r : Refusal) (n : ℕ) → read file places ≡ Refused r n → line ≤ n
+  pub not_12 : (n : ℕ) → read file places ≡ refused_on DomainsDiffer n → ⊥
+  pub not_earlier : (r : Refusal) (n : ℕ) → read file places ≡ refused_on r n → line ≤ n

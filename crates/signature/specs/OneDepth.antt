@@ -1,6 +1,6 @@
 -- Document 01's look and picture, with one depth: raw and corrected codes have one M, and as a code the exact value is S / (w·10,000,000), with the span of the
 -- colour for w. What does not stand here anew is that of the rules.
-use Rattle.std.specs.Prelude.{ℕ, ◌*◌, cond, List, ◌++◌, ℤ, length, drop}
+use Rattle.std.specs.Prelude.{ℕ, ◌*◌, cond, List, ◌++◌, ℤ, length, drop, Err, None, Ok, Option, Some}
 use Rattle.whole.specs.Nearest.{code}
 use Rattle.rules.specs.Units.{depth_of, sample_one}
 use Rattle.rules.specs.Descriptions.{span, could_be_read}
@@ -11,14 +11,10 @@ use Rattle.rules.specs.Answers.{codes_in}
 use Rattle.rules.specs.declared.Codes.{Codes}
 use Rattle.rules.specs.declared.Colour.{Colour}
 use Rattle.rules.specs.declared.Colour.TheVariants.{Red, Green, Blue}
-use Rattle.rules.specs.declared.DepthFound.{DepthFound}
-use Rattle.rules.specs.declared.DepthFound.TheVariants.{Known, Unknown}
 use Rattle.rules.specs.declared.Description.{Description}
-use Rattle.rules.specs.declared.Look.{Look}
-use Rattle.rules.specs.declared.Look.TheVariants as L
-use Rattle.rules.specs.declared.Picture.{Picture}
-use Rattle.rules.specs.declared.Picture.TheVariants.{Accepted, Refused}
 use Rattle.rules.specs.declared.Refusal.TheVariants.{DepthUnknown, CodeTooGreat, CouldNotBeRead}
+use Rattle.rules.specs.declared.Depth.{Depth}
+use Rattle.rules.specs.Results.{Look, Picture, look_of}
 
 -- ---- look
 
@@ -33,24 +29,24 @@ correct_one d table m pixel = record {
   blue = code_one d table m pixel Blue;
 }
 
-unfoldable pub look_one_at : Description → List ℤ → Codes → DepthFound → Look
-look_one_at d table pixel Unknown = L.Refused DepthUnknown
-look_one_at d table pixel (Known depth) =
+unfoldable pub look_one_at : Description → List ℤ → Codes → Option Depth → Look
+look_one_at d table pixel None = Err DepthUnknown
+look_one_at d table pixel (Some depth) =
     let m = depth.greatest in
-    cond (within m pixel) (L.Accepted (correct_one d table m pixel) (shown d m pixel d.kind)) (L.Refused CodeTooGreat)
+    cond (within m pixel) (look_of (correct_one d table m pixel) (shown d m pixel d.kind)) (Err CodeTooGreat)
 
 unfoldable pub look_one : Description → List ℤ → ℕ → Codes → Look
-look_one d table bits pixel = cond (could_be_read d table) (look_one_at d table pixel (depth_of bits)) (L.Refused CouldNotBeRead)
+look_one d table bits pixel = cond (could_be_read d table) (look_one_at d table pixel (depth_of bits)) (Err CouldNotBeRead)
 
 -- ---- picture
 
-unfoldable pub picture_one_at : DepthFound → List ℕ → ℕ → Picture
-picture_one_at Unknown src places = Refused DepthUnknown
-picture_one_at (Known depth) src places = picture_with depth.greatest src places
+unfoldable pub picture_one_at : Option Depth → List ℕ → ℕ → Picture
+picture_one_at None src places = Err DepthUnknown
+picture_one_at (Some depth) src places = picture_with depth.greatest src places
 
 unfoldable pub picture_one : Description → List ℤ → ℕ → List ℕ → ℕ → Picture
-picture_one d table bits src places = cond (could_be_read d table) (picture_one_at (depth_of bits) src places) (Refused CouldNotBeRead)
+picture_one d table bits src places = cond (could_be_read d table) (picture_one_at (depth_of bits) src places) (Err CouldNotBeRead)
 
 unfoldable pub output_one : Description → List ℤ → ℕ → List ℕ → List ℕ → Picture → List ℕ
-output_one d table bits src dst Accepted = each_pixel (λ pixel. codes_in (look_one d table bits pixel)) src ++ drop (length src) dst
-output_one d table bits src dst (Refused r) = dst
+output_one d table bits src dst (Ok _) = each_pixel (λ pixel. codes_in (look_one d table bits pixel)) src ++ drop (length src) dst
+output_one d table bits src dst (Err r) = dst

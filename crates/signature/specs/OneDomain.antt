@@ -1,6 +1,6 @@
 -- Look and picture as they were before document 02's Req 07: a 3D table has one domain, and each colour's D and fraction are those of its own domain, D = M·w.
 -- What does not stand here anew is that of the rules. At the end, files whose domains differ.
-use Rattle.std.specs.Prelude.{ℕ, Bool, true, cond, ◌&&◌, List, ◌++◌, ℤ, pos, length, drop}
+use Rattle.std.specs.Prelude.{ℕ, Bool, true, cond, ◌&&◌, List, ◌++◌, ℤ, pos, length, drop, Err, None, Ok, Option, Some}
 use Prim.Native.String.{String}
 use Rattle.rules.specs.Units.{depths_of, raw_m, corrected_m, code_in}
 use Rattle.rules.specs.Descriptions.{domain, one_domain, could_be_read, no_title}
@@ -12,19 +12,15 @@ use Rattle.rules.specs.declared.Bits.{Bits}
 use Rattle.rules.specs.declared.Codes.{Codes}
 use Rattle.rules.specs.declared.Colour.{Colour}
 use Rattle.rules.specs.declared.Colour.TheVariants.{Red, Green, Blue}
-use Rattle.rules.specs.declared.DepthsFound.{DepthsFound}
-use Rattle.rules.specs.declared.DepthsFound.TheVariants.{Both, NotBoth}
 use Rattle.rules.specs.declared.Description.{Description}
 use Rattle.rules.specs.declared.Domain.{Domain}
 use Rattle.rules.specs.declared.Kind.{Kind}
 use Rattle.rules.specs.declared.Kind.TheVariants.{OneD, ThreeD}
-use Rattle.rules.specs.declared.Look.{Look}
-use Rattle.rules.specs.declared.Look.TheVariants as L
-use Rattle.rules.specs.declared.Picture.{Picture}
-use Rattle.rules.specs.declared.Picture.TheVariants.{Accepted, Refused}
 use Rattle.rules.specs.declared.Refusal.TheVariants.{DepthUnknown, CodeTooGreat, CouldNotBeRead}
 use Rattle.rules.specs.declared.Share.{Share}
 use Rattle.rules.specs.declared.Shares.{Shares}
+use Rattle.rules.specs.declared.Depths.{Depths}
+use Rattle.rules.specs.Results.{Look, Picture, look_of}
 
 -- ---- a look by N, and by the D, the index and the fraction of each colour
 
@@ -53,8 +49,8 @@ module _ (n : ℕ) (den i f : Colour → ℕ) where
   abbrev pub look_with : Bool → Kind → List ℤ → ℕ → Look
   look_with inside k table m =
       cond inside
-      (L.Accepted (record { red = code_with k table m Red; green = code_with k table m Green; blue = code_with k table m Blue }) (shown_with k))
-      (L.Refused CodeTooGreat)
+      (look_of (record { red = code_with k table m Red; green = code_with k table m Green; blue = code_with k table m Blue }) (shown_with k))
+      (Err CodeTooGreat)
 
 -- ---- 24
 
@@ -80,23 +76,23 @@ module _ (d : Description) (m : ℕ) where
   abbrev pub own_fraction : Codes → Colour → ℕ
   own_fraction pixel c = fraction m (domain d c) d.n (code_in pixel c)
 
-unfoldable pub look_before_at : Description → List ℤ → Codes → DepthsFound → Look
-look_before_at d table pixel NotBoth = L.Refused DepthUnknown
-look_before_at d table pixel (Both depths) =
+unfoldable pub look_before_at : Description → List ℤ → Codes → Option Depths → Look
+look_before_at d table pixel None = Err DepthUnknown
+look_before_at d table pixel (Some depths) =
     let m = raw_m depths in
     look_with d.n (own_den d m) (index_of d m pixel) (own_fraction d m pixel) (within m pixel) d.kind table (corrected_m depths)
 
 unfoldable pub look_before : Description → List ℤ → Bits → Codes → Look
-look_before d table bits pixel = cond (could_be_read_before d table) (look_before_at d table pixel (depths_of bits)) (L.Refused CouldNotBeRead)
+look_before d table bits pixel = cond (could_be_read_before d table) (look_before_at d table pixel (depths_of bits)) (Err CouldNotBeRead)
 
 -- ---- picture
 
 unfoldable pub picture_before : Description → List ℤ → Bits → List ℕ → ℕ → Picture
-picture_before d table bits src places = cond (could_be_read_before d table) (picture_at (depths_of bits) src places) (Refused CouldNotBeRead)
+picture_before d table bits src places = cond (could_be_read_before d table) (picture_at (depths_of bits) src places) (Err CouldNotBeRead)
 
 unfoldable pub output_before : Description → List ℤ → Bits → List ℕ → List ℕ → Picture → List ℕ
-output_before d table bits src dst Accepted = each_pixel (λ pixel. codes_in (look_before d table bits pixel)) src ++ drop (length src) dst
-output_before d table bits src dst (Refused r) = dst
+output_before d table bits src dst (Ok _) = each_pixel (λ pixel. codes_in (look_before d table bits pixel)) src ++ drop (length src) dst
+output_before d table bits src dst (Err r) = dst
 
 -- ---- tables whose domains differ, and one whose domains are one
 

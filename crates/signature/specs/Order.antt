@@ -1,8 +1,7 @@
 -- Document 01, "Answers by number", with document 02's Req 05: the checks 1 to 19 as lists in the order in which they run, and reading's refusal as the first of them that
 -- fails, on the first line where one does.
-use Rattle.std.specs.Prelude.{ℕ, ◌+◌, ◌*◌, ◌%◌, ◌≡◌, ◌⊎◌, Bool, true, false, cond, not, ◌&&◌, eqb, ltb, leb, length}
+use Rattle.std.specs.Prelude.{ℕ, ◌+◌, ◌*◌, ◌%◌, ◌≡◌, ◌⊎◌, Bool, true, false, cond, not, ◌&&◌, eqb, ltb, leb, length, None, Option, Some}
 use mathlib.Core.List.{List, [], ◌∷◌, ◌++◌, flat_map}
-use Rattle.std.proofs.Math.Option.{Option, none, some}
 use Rattle.rules.specs.Units.{sample_places, sample_limit, bound_places, bound_limit, in_range}
 use Rattle.rules.specs.Descriptions.{rows, every_colour, ordered, narrow, agree, roomy}
 use Rattle.rules.specs.Reading.Lines.{line_limit, permitted, blank, in_word, in_title, quote, every, after, newlines, lines_of, words_of}
@@ -59,8 +58,8 @@ three_numbers (a ∷ b ∷ c ∷ d ∷ more) = false
 
 -- a test of the number that a word is; a word that is none has failed before
 abbrev pub of_number : (Numeral → Bool) → Option Numeral → Bool
-of_number test none = false
-of_number test (some n) = test n
+of_number test None = false
+of_number test (Some n) = test n
 
 -- its value, in units of 10 to the -places, is at most the limit, whatever its sign
 unfoldable pub fits : ℕ → ℕ → List ℕ → Bool

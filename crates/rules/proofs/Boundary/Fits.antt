@@ -20,18 +20,9 @@ use Rattle.rules.specs.declared.Codes.{Codes}
 use Rattle.rules.specs.declared.Colour.{Colour}
 use Rattle.rules.specs.declared.Colour.TheVariants.{Red, Green, Blue}
 use Rattle.rules.specs.declared.Description.{Description}
-use Rattle.rules.specs.declared.DepthFound.{DepthFound}
-use Rattle.rules.specs.declared.DepthFound.TheVariants.{Known, Unknown}
 use Rattle.rules.specs.declared.Depths.{Depths}
-use Rattle.rules.specs.declared.DepthsFound.{DepthsFound}
-use Rattle.rules.specs.declared.DepthsFound.TheVariants.{Both, NotBoth}
-use Rattle.rules.specs.declared.FirstHalf.{FirstHalf}
-use Rattle.rules.specs.declared.FirstHalf.TheVariants as F
 use Rattle.rules.specs.declared.Kind.{Kind}
 use Rattle.rules.specs.declared.Kind.TheVariants.{OneD, ThreeD}
-use Rattle.rules.specs.declared.Look.TheVariants as L
-use Rattle.rules.specs.declared.Read.{Read}
-use Rattle.rules.specs.declared.Read.TheVariants as R
 use Rattle.rules.specs.declared.Refusal.TheVariants.{CodeTooGreat, CouldNotBeRead}
 use Rattle.rules.specs.declared.Share.{Share}
 use Rattle.rules.specs.declared.Title.{Title}
@@ -42,6 +33,9 @@ use Rattle.rules.proofs.Looking.Demand3.{rule-weighable}
 use Rattle.rules.proofs.KnownDepths.{depth-bounds, depths-bounds}
 use Rattle.rules.proofs.Sound.{range-most, rows-most, sound-of}
 use Rattle.rules.proofs.Reading.Titles.{title-or-none, titled-inside}
+use Rattle.std.specs.Prelude.{Err, None, Ok, Option, Some}
+use Rattle.rules.specs.declared.Depth.{Depth}
+use Rattle.rules.specs.Results.{FirstHalf, Read}
 
 -- ---- a description
 
@@ -50,7 +44,7 @@ module _ (file : List ℕ) (places : ℕ) (held : length file < 9_223_372_036_85
   title-fits t (inl e) = rw e (omega arith, omega arith)
   title-fits t (inr h) = let inside = titled-inside file t h in (omega (arith, inside, held), omega (arith, inside, held))
 
-  accepted-fits : (d : Description) → read file places ≡ R.Accepted d → Crossable d
+  accepted-fits : (d : Description) → read file places ≡ Ok d → Crossable d
   accepted-fits d e =
       let t = title-fits d.title (title-or-none file places d _ (accepted-keeps file places d e)) in
       record { size = small d.kind (range-most d.kind d.n (accepted-in-range file places d e)); place = t.0; span = t.1 }
@@ -64,8 +58,8 @@ module _ (file : List ℕ) (places : ℕ) (held : length file < 9_223_372_036_85
   description-fits = by (read file places) refl
     where
       by : (r : Read) → read file places ≡ r → Crossable (read_description r)
-      by (R.Accepted d) e = accepted-fits d e
-      by (R.Refused reason n) e = record { size = omega arith; place = omega arith; span = omega arith }
+      by (Ok d) e = accepted-fits d e
+      by (Err x) e = record { size = omega arith; place = omega arith; span = omega arith }
 
 -- ---- rows
 
@@ -100,7 +94,7 @@ module _ (d : Description) (table : List ℤ) (m : ℕ) (pixel : Codes) (could :
   unfolding rows_with
   with-fit = by (within m pixel)
     where
-      by : (t : Bool) → RowsFit (first_rows (cond t (F.Accepted (shown d m pixel d.kind)) (F.Refused CodeTooGreat)))
+      by : (t : Bool) → RowsFit (first_rows (cond t (Ok (shown d m pixel d.kind)) (Err CodeTooGreat)))
       by true = shown-fit d.kind refl
       by false = zeros-fit
 
@@ -109,11 +103,11 @@ pub first-rows-fit : (table : List ℤ) (raw : ℕ) (pixel : Codes) (d : Descrip
 unfolding first_half
 first-rows-fit table raw pixel d = by (could_be_read d table) refl
   where
-    deep-by : could_be_read d table ≡ true → (f : DepthFound) → depth_of raw ≡ f → RowsFit (first_rows (rows_at d pixel f))
-    deep-by could Unknown e = zeros-fit
-    deep-by could (Known depth) e = with-fit d table depth.greatest pixel could (depth-bounds raw depth e).0
+    deep-by : could_be_read d table ≡ true → (f : Option Depth) → depth_of raw ≡ f → RowsFit (first_rows (rows_at d pixel f))
+    deep-by could None e = zeros-fit
+    deep-by could (Some depth) e = with-fit d table depth.greatest pixel could (depth-bounds raw depth e).0
 
-    by : (t : Bool) → could_be_read d table ≡ t → RowsFit (first_rows (cond t (rows_at d pixel (depth_of raw)) (F.Refused CouldNotBeRead)))
+    by : (t : Bool) → could_be_read d table ≡ t → RowsFit (first_rows (cond t (rows_at d pixel (depth_of raw)) (Err CouldNotBeRead)))
     by true could = deep-by could (depth_of raw) refl
     by false e = zeros-fit
 
@@ -123,15 +117,15 @@ unfolding look look_at
 rows_fit table bits pixel d = by (could_be_read d table) refl
   where
     look-by : (depths : Depths) (f : FirstHalf) → RowsFit (first_rows f) → RowsFit (look_rows (look_by d table depths f))
-    look-by depths (F.Accepted shares) h = h
-    look-by depths (F.Refused r) h = h
+    look-by depths (Ok shares) h = h
+    look-by depths (Err r) h = h
 
-    deep-by : could_be_read d table ≡ true → (f : DepthsFound) → depths_of bits ≡ f → RowsFit (look_rows (look_at d table pixel f))
-    deep-by could NotBoth e = zeros-fit
-    deep-by could (Both depths) e =
+    deep-by : could_be_read d table ≡ true → (f : Option Depths) → depths_of bits ≡ f → RowsFit (look_rows (look_at d table pixel f))
+    deep-by could None e = zeros-fit
+    deep-by could (Some depths) e =
         look-by depths (rows_with d (raw_m depths) pixel) (with-fit d table (raw_m depths) pixel could (depths-bounds bits depths e).0.0)
 
-    by : (t : Bool) → could_be_read d table ≡ t → RowsFit (look_rows (cond t (look_at d table pixel (depths_of bits)) (L.Refused CouldNotBeRead)))
+    by : (t : Bool) → could_be_read d table ≡ t → RowsFit (look_rows (cond t (look_at d table pixel (depths_of bits)) (Err CouldNotBeRead)))
     by true could = deep-by could (depths_of bits) refl
     by false e = zeros-fit
 

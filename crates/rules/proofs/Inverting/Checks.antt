@@ -12,34 +12,34 @@ use Rattle.rules.specs.Inverting.{Search, is_line, search_in, off_by, searched, 
 use Rattle.rules.specs.declared.Aim.{Aim}
 use Rattle.rules.specs.declared.Bits.{Bits}
 use Rattle.rules.specs.declared.Depths.{Depths}
-use Rattle.rules.specs.declared.DepthsFound.TheVariants.{Both, NotBoth}
 use Rattle.rules.specs.declared.Description.{Description}
-use Rattle.rules.specs.declared.Inverse.TheVariants as I
 use Rattle.rules.specs.declared.Kind.TheVariants.{OneD, ThreeD}
 use Rattle.rules.specs.declared.Refusal.TheVariants.{DepthUnknown, CodeTooGreat, CouldNotBeRead, NoneWithinTolerance}
 use Rattle.rules.proofs.Tests.{both-and, and-fails}
+use Rattle.std.specs.Prelude.{None, Some}
+use Rattle.rules.specs.Results.{inverse_of, no_inverse}
 
 module _ (d : Description) (table : List ℤ) (bits : Bits) (aim : Aim) where
-  by-24 : {t : Bool} → is_line d.kind && could_be_read d table ≡ t → inverse d table bits aim ≡ cond t (inverse_at d table aim (depths_of bits)) (I.Refused CouldNotBeRead 0)
+  by-24 : {t : Bool} → is_line d.kind && could_be_read d table ≡ t → inverse d table bits aim ≡ cond t (inverse_at d table aim (depths_of bits)) (no_inverse CouldNotBeRead 0)
   unfolding inverse
-  by-24 e = ap (λ t. cond t (inverse_at d table aim (depths_of bits)) (I.Refused CouldNotBeRead 0)) e
+  by-24 e = ap (λ t. cond t (inverse_at d table aim (depths_of bits)) (no_inverse CouldNotBeRead 0)) e
 
-  pub inverse-24-cube : d.kind ≡ ThreeD → inverse d table bits aim ≡ I.Refused CouldNotBeRead 0
+  pub inverse-24-cube : d.kind ≡ ThreeD → inverse d table bits aim ≡ no_inverse CouldNotBeRead 0
   inverse-24-cube cube = by-24 (and-fails _ (could_be_read d table) (inr (ap is_line cube)))
 
-  pub inverse-24 : could_be_read d table ≡ false → inverse d table bits aim ≡ I.Refused CouldNotBeRead 0
+  pub inverse-24 : could_be_read d table ≡ false → inverse d table bits aim ≡ no_inverse CouldNotBeRead 0
   inverse-24 e = by-24 (and-fails (is_line d.kind) _ (inl e))
 
   module _ (line : d.kind ≡ OneD) (could : could_be_read d table ≡ true) where
     passed-24 : inverse d table bits aim ≡ inverse_at d table aim (depths_of bits)
     passed-24 = by-24 (both-and _ _ (ap is_line line) could)
 
-    pub inverse-20 : depths_of bits ≡ NotBoth → inverse d table bits aim ≡ I.Refused DepthUnknown 0
+    pub inverse-20 : depths_of bits ≡ None → inverse d table bits aim ≡ no_inverse DepthUnknown 0
     unfolding inverse_at
     inverse-20 u = passed-24 ∙ ap (inverse_at d table aim) u
 
-    module _ (depths : Depths) (known : depths_of bits ≡ Both depths) where
-      pub inverse-23 : corrected_m depths < aim.wanted → inverse d table bits aim ≡ I.Refused CodeTooGreat 0
+    module _ (depths : Depths) (known : depths_of bits ≡ Some depths) where
+      pub inverse-23 : corrected_m depths < aim.wanted → inverse d table bits aim ≡ no_inverse CodeTooGreat 0
       unfolding inverse_at
       inverse-23 h = passed-24 ∙ ap (inverse_at d table aim) known ∙ rw (lt-leb _ _ h)
 
@@ -51,8 +51,8 @@ module _ (d : Description) (table : List ℤ) (bits : Bits) (aim : Aim) where
         unfolding inverse_at
         inverse-searched = passed-24 ∙ ap (inverse_at d table aim) known ∙ rw (le-leb _ _ inside)
 
-        pub inverse-28 : aim.tolerance < off_by d table depths aim found.nearest → inverse d table bits aim ≡ I.Refused NoneWithinTolerance found.tries
+        pub inverse-28 : aim.tolerance < off_by d table depths aim found.nearest → inverse d table bits aim ≡ no_inverse NoneWithinTolerance found.tries
         inverse-28 h = inverse-searched ∙ rw (lt-leb _ _ h)
 
-        pub inverse-0 : off_by d table depths aim found.nearest ≤ aim.tolerance → inverse d table bits aim ≡ I.Accepted found.nearest found.tries
+        pub inverse-0 : off_by d table depths aim found.nearest ≤ aim.tolerance → inverse d table bits aim ≡ inverse_of found.nearest found.tries
         inverse-0 h = inverse-searched ∙ rw (le-leb _ _ h)

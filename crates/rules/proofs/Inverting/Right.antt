@@ -16,11 +16,7 @@ use Rattle.rules.specs.Demands.{NearestCode, Counted, Reached, InverseRight}
 use Rattle.rules.specs.declared.Aim.{Aim}
 use Rattle.rules.specs.declared.Bits.{Bits}
 use Rattle.rules.specs.declared.Depths.{Depths}
-use Rattle.rules.specs.declared.DepthsFound.{DepthsFound}
-use Rattle.rules.specs.declared.DepthsFound.TheVariants.{Both, NotBoth}
 use Rattle.rules.specs.declared.Description.{Description}
-use Rattle.rules.specs.declared.Inverse.{Inverse}
-use Rattle.rules.specs.declared.Inverse.TheVariants as I
 use Rattle.rules.specs.declared.Kind.{Kind}
 use Rattle.rules.specs.declared.Kind.TheVariants.{OneD, ThreeD}
 use Rattle.rules.specs.declared.Refusal.TheVariants.{DepthUnknown, CodeTooGreat, CouldNotBeRead, NoneWithinTolerance}
@@ -28,6 +24,8 @@ use Rattle.rules.proofs.Answers.{inverts-is}
 use Rattle.rules.proofs.KnownDepths.{depths-one}
 use Rattle.rules.proofs.Inverting.Checks.{inverse-24-cube, inverse-24, inverse-20, inverse-23, inverse-28, inverse-0}
 use Rattle.rules.proofs.Inverting.Searched.{apart-0, apart-same, hit_or_not, search-nearest, search-counted}
+use Rattle.std.specs.Prelude.{None, Option, Some}
+use Rattle.rules.specs.Results.{Inverse, inverse_of, no_inverse}
 
 -- ---- one code, and one count
 
@@ -93,7 +91,7 @@ pub record InversePassed (d : Description) (table : List ℤ) (bits : Bits) (aim
   pub line : d.kind ≡ OneD
   pub could : could_be_read d table ≡ true
   pub depths : Depths
-  pub known : depths_of bits ≡ Both depths
+  pub known : depths_of bits ≡ Some depths
   pub inside : aim.wanted ≤ corrected_m depths
 
 -- some raw code comes within the tolerance
@@ -102,18 +100,18 @@ ReachedIn d table depths aim = Reached (line_code d table depths aim.colour) (ra
 
 pub data InverseGiven (d : Description) (table : List ℤ) (bits : Bits) (aim : Aim) : Inverse → Type 0 where
   -- a 3D table, or what could not be read
-  not-read : (d.kind ≡ ThreeD) ⊎ (could_be_read d table ≡ false) → InverseGiven d table bits aim (I.Refused CouldNotBeRead 0)
+  not-read : (d.kind ≡ ThreeD) ⊎ (could_be_read d table ≡ false) → InverseGiven d table bits aim (no_inverse CouldNotBeRead 0)
   -- a depth that is unknown, whatever is wanted
-  unknown : d.kind ≡ OneD → could_be_read d table ≡ true → depths_of bits ≡ NotBoth → InverseGiven d table bits aim (I.Refused DepthUnknown 0)
+  unknown : d.kind ≡ OneD → could_be_read d table ≡ true → depths_of bits ≡ None → InverseGiven d table bits aim (no_inverse DepthUnknown 0)
   -- a wanted code above the corrected M
-  too-great : d.kind ≡ OneD → could_be_read d table ≡ true → (depths : Depths) → depths_of bits ≡ Both depths → corrected_m depths < aim.wanted
-      → InverseGiven d table bits aim (I.Refused CodeTooGreat 0)
+  too-great : d.kind ≡ OneD → could_be_read d table ≡ true → (depths : Depths) → depths_of bits ≡ Some depths → corrected_m depths < aim.wanted
+      → InverseGiven d table bits aim (no_inverse CodeTooGreat 0)
   -- no raw code comes near enough, and all were tried
   none_within : (p : InversePassed d table bits aim) → (ReachedIn d table p.depths aim → ⊥)
-      → InverseGiven d table bits aim (I.Refused NoneWithinTolerance (raw_m p.depths + 1))
+      → InverseGiven d table bits aim (no_inverse NoneWithinTolerance (raw_m p.depths + 1))
   -- the nearest does
   answered : (p : InversePassed d table bits aim) {code count : ℕ} → InverseRight d table p.depths aim code count
-      → InverseGiven d table bits aim (I.Accepted code count)
+      → InverseGiven d table bits aim (inverse_of code count)
 
 module _ (d : Description) (table : List ℤ) (bits : Bits) (aim : Aim) where
   -- past the checks: the search by what it comes to
@@ -130,18 +128,18 @@ module _ (d : Description) (table : List ℤ) (bits : Bits) (aim : Aim) where
     found-counted : Counted corrected (raw_m p.depths) aim.wanted found.nearest found.tries
     found-counted = search-counted corrected aim.wanted (raw_m p.depths)
 
-    within-accepted : off_by d table p.depths aim found.nearest ≤ aim.tolerance → inverse d table bits aim ≡ I.Accepted found.nearest found.tries
+    within-accepted : off_by d table p.depths aim found.nearest ≤ aim.tolerance → inverse d table bits aim ≡ inverse_of found.nearest found.tries
     within-accepted h = inverse-0 d table bits aim p.line p.could p.depths p.known p.inside h
 
     -- where some code comes within the tolerance the nearest does
-    pub reached-accepted : ReachedIn d table p.depths aim → inverse d table bits aim ≡ I.Accepted found.nearest found.tries
+    pub reached-accepted : ReachedIn d table p.depths aim → inverse d table bits aim ≡ inverse_of found.nearest found.tries
     reached-accepted r = within-accepted (omega (arith, found-nearest.none_nearer r.code r.inside, r.within))
 
     beyond-refused : aim.tolerance < off_by d table p.depths aim found.nearest
-        → inverse d table bits aim ≡ I.Refused NoneWithinTolerance (raw_m p.depths + 1)
+        → inverse d table bits aim ≡ no_inverse NoneWithinTolerance (raw_m p.depths + 1)
     beyond-refused h =
         inverse-28 d table bits aim p.line p.could p.depths p.known p.inside h
-        ∙ ap (I.Refused NoneWithinTolerance) (count-of-all found-nearest found-counted (λ e. omega (arith, h, apart-same (corrected found.nearest) aim.wanted e)))
+        ∙ ap (no_inverse NoneWithinTolerance) (count-of-all found-nearest found-counted (λ e. omega (arith, h, apart-same (corrected found.nearest) aim.wanted e)))
 
   -- the answer is one that is given there
   inverse-given : InverseGiven d table bits aim (inverse d table bits aim)
@@ -157,7 +155,7 @@ module _ (d : Description) (table : List ℤ) (bits : Bits) (aim : Aim) where
           subst Given (sym (beyond-refused p (omega (arith, h))))
           (none_within p (λ r. h (omega (arith, (found-nearest p).none_nearer r.code r.inside, r.within))))
 
-      by-23 : (depths : Depths) → d.kind ≡ OneD → could_be_read d table ≡ true → depths_of bits ≡ Both depths → Dec (aim.wanted ≤ corrected_m depths)
+      by-23 : (depths : Depths) → d.kind ≡ OneD → could_be_read d table ≡ true → depths_of bits ≡ Some depths → Dec (aim.wanted ≤ corrected_m depths)
           → Given (inverse d table bits aim)
       by-23 depths l e k (yes h) =
           let p : InversePassed d table bits aim = record { line = l; could = e; depths = depths; known = k; inside = h } in
@@ -166,11 +164,11 @@ module _ (d : Description) (table : List ℤ) (bits : Bits) (aim : Aim) where
           let above : corrected_m depths < aim.wanted = omega (arith, h) in
           subst Given (sym (inverse-23 d table bits aim l e depths k above)) (too-great l e depths k above)
 
-      by : (x : Kind) → d.kind ≡ x → (t : Bool) → could_be_read d table ≡ t → (y : DepthsFound) → depths_of bits ≡ y → Given (inverse d table bits aim)
+      by : (x : Kind) → d.kind ≡ x → (t : Bool) → could_be_read d table ≡ t → (y : Option Depths) → depths_of bits ≡ y → Given (inverse d table bits aim)
       by ThreeD cube t e y k = subst Given (sym (inverse-24-cube d table bits aim cube)) (not-read (inl cube))
       by OneD l false e y k = subst Given (sym (inverse-24 d table bits aim e)) (not-read (inr e))
-      by OneD l true e NotBoth k = subst Given (sym (inverse-20 d table bits aim l e k)) (unknown l e k)
-      by OneD l true e (Both depths) k = by-23 depths l e k (dec_le aim.wanted (corrected_m depths))
+      by OneD l true e None k = subst Given (sym (inverse-20 d table bits aim l e k)) (unknown l e k)
+      by OneD l true e (Some depths) k = by-23 depths l e k (dec_le aim.wanted (corrected_m depths))
 
   -- and no other is given there
   given-inverse : (r : Inverse) → InverseGiven d table bits aim r → inverse d table bits aim ≡ r
@@ -180,14 +178,14 @@ module _ (d : Description) (table : List ℤ) (bits : Bits) (aim : Aim) where
   given-inverse r (too-great l e depths k above) = inverse-23 d table bits aim l e depths k above
   given-inverse r (none_within p none) = by (dec_le (off_by d table p.depths aim (found p).nearest) aim.tolerance)
     where
-      by : Dec (off_by d table p.depths aim (found p).nearest ≤ aim.tolerance) → inverse d table bits aim ≡ I.Refused NoneWithinTolerance (raw_m p.depths + 1)
+      by : Dec (off_by d table p.depths aim (found p).nearest ≤ aim.tolerance) → inverse d table bits aim ≡ no_inverse NoneWithinTolerance (raw_m p.depths + 1)
       by (yes h) = absurd (none (record { code = (found p).nearest; inside = (found-nearest p).inside; within = h }))
       by (no h) = beyond-refused p (omega (arith, h))
   given-inverse r (answered p {code} {count} right) =
       let as-near = (found-nearest p).none_nearer code right.nearest.inside in
       let near : off_by d table p.depths aim (found p).nearest ≤ aim.tolerance = omega (arith, as-near, right.within) in
       let (code_so, count_so) = right-one (record { nearest = found-nearest p; counted = found-counted p; within = near }) right in
-      within-accepted p near ∙ (λ i. I.Accepted (code_so i) (count_so i))
+      within-accepted p near ∙ (λ i. inverse_of (code_so i) (count_so i))
 
   -- so an answer is the one given exactly where its case holds
   pub inverse-exactly : (r : Inverse) → (inverse d table bits aim ≡ r) ↔ InverseGiven d table bits aim r
@@ -201,22 +199,22 @@ pub record AcceptedRight (d : Description) (table : List ℤ) (bits : Bits) (aim
   pub right : InverseRight d table passed.depths aim code count
 
 module _ {d : Description} {table : List ℤ} {bits : Bits} {aim : Aim} {code count : ℕ} where
-  pub inverse-right : inverse d table bits aim ≡ I.Accepted code count → AcceptedRight d table bits aim code count
-  inverse-right e = by ((inverse-exactly d table bits aim (I.Accepted code count)).0 e)
+  pub inverse-right : inverse d table bits aim ≡ inverse_of code count → AcceptedRight d table bits aim code count
+  inverse-right e = by ((inverse-exactly d table bits aim (inverse_of code count)).0 e)
     where
-      by : InverseGiven d table bits aim (I.Accepted code count) → AcceptedRight d table bits aim code count
+      by : InverseGiven d table bits aim (inverse_of code count) → AcceptedRight d table bits aim code count
       by (answered p r) = record { passed = p; right = r }
 
   -- what is right is answered
-  pub right-inverse : AcceptedRight d table bits aim code count → inverse d table bits aim ≡ I.Accepted code count
-  right-inverse a = (inverse-exactly d table bits aim (I.Accepted code count)).1 (answered a.passed a.right)
+  pub right-inverse : AcceptedRight d table bits aim code count → inverse d table bits aim ≡ inverse_of code count
+  right-inverse a = (inverse-exactly d table bits aim (inverse_of code count)).1 (answered a.passed a.right)
 
   -- at the depths of the call
-  pub right-at : AcceptedRight d table bits aim code count → (depths : Depths) → depths_of bits ≡ Both depths → InverseRight d table depths aim code count
+  pub right-at : AcceptedRight d table bits aim code count → (depths : Depths) → depths_of bits ≡ Some depths → InverseRight d table depths aim code count
   right-at a depths known =
       subst (λ x. InverseRight d table x aim code count) (depths-one bits a.passed.depths depths a.passed.known known) a.right
 
 -- so it is for every call that keeps the promise of the inverse
 pub inverts-right : {d : Description} {table : List ℤ} {bits : Bits} {aim : Aim} {r : Inverse} {code count : ℕ} → Inverts d table bits aim r
-    → r ≡ I.Accepted code count → AcceptedRight d table bits aim code count
+    → r ≡ inverse_of code count → AcceptedRight d table bits aim code count
 inverts-right h e = inverse-right (sym (inverts-is h) ∙ e)

@@ -29,7 +29,6 @@ use Rattle.rules.specs.declared.Depths.{Depths}
 use Rattle.rules.specs.declared.Description.{Description}
 use Rattle.rules.specs.declared.Kind.{Kind}
 use Rattle.rules.specs.declared.Kind.TheVariants.{OneD, ThreeD}
-use Rattle.rules.specs.declared.Look.{Look}
 use Rattle.rules.specs.declared.Share.{Share}
 use Rattle.rules.specs.declared.Shares.{Shares}
 use Rattle.rules.proofs.Sound.{sound-of, wide_enough}
@@ -44,6 +43,7 @@ use Rattle.rules.proofs.Looking.RowsAndWeights.{weights-not-negative, weights-ad
 use Rattle.rules.proofs.Looking.Judging.{weights-sum, not-negative-unsigned}
 use Rattle.rules.proofs.Answers.{looks-is}
 use Rattle.rules.proofs.Looking.Checks.{LookPassed, look-passed, look-0}
+use Rattle.rules.specs.Results.{Look}
 
 -- ---- one exact value
 

@@ -20,12 +20,11 @@ use Rattle.rules.specs.Demands.{pixel_at}
 use Rattle.rules.specs.declared.Bits.{Bits}
 use Rattle.rules.specs.declared.Codes.{Codes}
 use Rattle.rules.specs.declared.Depths.{Depths}
-use Rattle.rules.specs.declared.DepthsFound.TheVariants.{Both, NotBoth}
 use Rattle.rules.specs.declared.Description.{Description}
-use Rattle.rules.specs.declared.Picture.TheVariants as P
 use Rattle.rules.specs.declared.Refusal.TheVariants.{DepthUnknown, PictureNotPixels, OutputTooShort, CodeTooGreat, CouldNotBeRead}
 use Rattle.rules.proofs.Tests.{and_both, both-and}
 use Rattle.rules.proofs.Looking.Checks.{look-0}
+use Rattle.std.specs.Prelude.{Err, None, Ok, Some}
 
 -- ---- picture: 24, 20, 21, 22, 23, accepted
 
@@ -34,7 +33,7 @@ abbrev pub within_all : ℕ → List ℕ → Bool
 within_all m src = every (λ c. leb c m) src
 
 module _ (d : Description) (table : List ℤ) (bits : Bits) (src : List ℕ) (places : ℕ) where
-  pub picture-24 : could_be_read d table ≡ false → picture d table bits src places ≡ P.Refused CouldNotBeRead
+  pub picture-24 : could_be_read d table ≡ false → picture d table bits src places ≡ Err CouldNotBeRead
   unfolding picture
   picture-24 e = rw e
 
@@ -42,28 +41,28 @@ module _ (d : Description) (table : List ℤ) (bits : Bits) (src : List ℕ) (pl
   unfolding picture
   picture-passed-24 e = rw e
 
-  pub picture-20 : could_be_read d table ≡ true → depths_of bits ≡ NotBoth → picture d table bits src places ≡ P.Refused DepthUnknown
+  pub picture-20 : could_be_read d table ≡ true → depths_of bits ≡ None → picture d table bits src places ≡ Err DepthUnknown
   picture-20 e u = picture-passed-24 e ∙ ap (λ x. picture_at x src places) u
 
-  module _ (depths : Depths) (e : could_be_read d table ≡ true) (k : depths_of bits ≡ Both depths) where
+  module _ (depths : Depths) (e : could_be_read d table ≡ true) (k : depths_of bits ≡ Some depths) where
     picture-passed-20 : picture d table bits src places ≡ picture_with (raw_m depths) src places
     picture-passed-20 = picture-passed-24 e ∙ ap (λ x. picture_at x src places) k
 
-    pub picture-21 : (length src % 3 ≡ 0 → ⊥) → picture d table bits src places ≡ P.Refused PictureNotPixels
+    pub picture-21 : (length src % 3 ≡ 0 → ⊥) → picture d table bits src places ≡ Err PictureNotPixels
     unfolding picture_with
     picture-21 over = picture-passed-20 ∙ rw (ne_eqb (length src % 3) 0 over)
 
     module _ (whole : length src % 3 ≡ 0) where
-      pub picture-22 : places < length src → picture d table bits src places ≡ P.Refused OutputTooShort
+      pub picture-22 : places < length src → picture d table bits src places ≡ Err OutputTooShort
       unfolding picture_with
       picture-22 short = picture-passed-20 ∙ rw (eq-eqb (length src % 3) 0 whole, lt-leb (length src) places short)
 
       module _ (room : length src ≤ places) where
-        pub picture-23 : within_all (raw_m depths) src ≡ false → picture d table bits src places ≡ P.Refused CodeTooGreat
+        pub picture-23 : within_all (raw_m depths) src ≡ false → picture d table bits src places ≡ Err CodeTooGreat
         unfolding picture_with
         picture-23 w = picture-passed-20 ∙ rw (eq-eqb (length src % 3) 0 whole, le-leb (length src) places room, w)
 
-        pub picture-0 : within_all (raw_m depths) src ≡ true → picture d table bits src places ≡ P.Accepted
+        pub picture-0 : within_all (raw_m depths) src ≡ true → picture d table bits src places ≡ (Ok tt)
         unfolding picture_with
         picture-0 w = picture-passed-20 ∙ rw (eq-eqb (length src % 3) 0 whole, le-leb (length src) places room, w)
 
@@ -132,7 +131,7 @@ each_same f g (r ∷ q ∷ b ∷ rest) h =
 
 -- ---- the codes of a picture that has passed the checks: what the rule makes of each pixel
 
-module _ (d : Description) (table : List ℤ) (bits : Bits) (depths : Depths) (could : could_be_read d table ≡ true) (known : depths_of bits ≡ Both depths) where
+module _ (d : Description) (table : List ℤ) (bits : Bits) (depths : Depths) (could : could_be_read d table ≡ true) (known : depths_of bits ≡ Some depths) where
   pub corrected-is : (src : List ℕ) → within_all (raw_m depths) src ≡ true → corrected d table bits src ≡ each_pixel (correct d table depths) src
   corrected-is src inside =
       each_same (λ pixel. codes_in (look d table bits pixel)) (correct d table depths) src

@@ -4,7 +4,6 @@ use mathlib.Core.Path.{◌≡◌, refl, sym, ap, subst, ◌∙◌}
 use mathlib.Core.Logic.{◌↔◌}
 use mathlib.Core.Bool.{Bool, true, false, cond, ◌&&◌}
 use mathlib.Core.List.{List, [], ◌∷◌, ◌++◌, map, flatten}
-use mathlib.Core.Option.{Option, none, some}
 use native.Mathlib.Omega.{arith}
 use borrow.Author.Tests.{leb-true, le-leb}
 use lib.ListN.{length}
@@ -16,7 +15,6 @@ use Rattle.rules.specs.Reading.Grammar.{Keeps, Lines, gather, lowers, put, upper
 use Rattle.rules.specs.Reading.Contents.{closes, content_by, content_of, quoted, title_of}
 use Rattle.rules.specs.Reading.Judge.{State, describe, domain_fault, end_fault, given, no_size, given_or, start, together}
 use Rattle.rules.specs.Reading.{read, samples_in, samples_of}
-use Rattle.rules.specs.declared.Content.TheVariants.{Says, Wrong}
 use Rattle.rules.specs.declared.Item.{Item}
 use Rattle.rules.specs.declared.Item.TheVariants.{Nothing, OfTitle, OfLower, OfUpper, OfSize, OfRow}
 use Rattle.rules.specs.declared.Description.{Description}
@@ -24,11 +22,11 @@ use Rattle.rules.specs.declared.Title.{Title}
 use Rattle.rules.specs.declared.Size.{Size}
 use Rattle.rules.specs.declared.Row.{Row}
 use Rattle.rules.specs.declared.Refusal.TheVariants.{ParametersWrong}
-use Rattle.rules.specs.declared.Read.TheVariants.{Accepted}
 use Rattle.rules.proofs.Tests.{no-some, no_true, need-none, none-need, first-none, none_first}
 use Rattle.rules.proofs.Reading.Order.{Admitted, final, Once, given-once, once-given, fields-items, items-fields, Due, told, admitted-due, HeadOk, Inv, head_ok, ok-head, inv-final, rows-final, due-admitted, due-final}
 use Rattle.rules.proofs.Reading.Walk.{Found, Walked, walked, walk}
 use Rattle.rules.proofs.Reading.OneLine.{find, found}
+use Rattle.std.specs.Prelude.{Err, None, Ok, Option, Some}
 
 -- ---- the samples of lines are those of their rows
 
@@ -37,7 +35,7 @@ unfolding samples_in quoted
 quoted-none end [] = refl
 quoted-none end (b ∷ rest) = split (quote b && closes (after in_title rest)) _
   where
-    split : (t : Bool) (i : Title) → samples_in (cond t (Says (OfTitle i)) (Wrong ParametersWrong)) ≡ []
+    split : (t : Bool) (i : Title) → samples_in (cond t (Ok (OfTitle i)) (Err ParametersWrong)) ≡ []
     split true i = refl
     split false i = refl
 
@@ -52,8 +50,8 @@ line-samples p l (OfRow r) f = rw (f.form, f.content)
 
 put-samples : (o : Option Row) (rs : List Row) → flatten (map numbers_of (put o rs)) ≡ flatten (map numbers_of (put o [])) ++ flatten (map numbers_of rs)
 unfolding flatten
-put-samples none rs = refl
-put-samples (some r) rs = refl
+put-samples None rs = refl
+put-samples (Some r) rs = refl
 
 pub lines-samples : (p : ℕ) (ls : List (List ℕ)) (is : List Item) → Lines p ls is → samples_of ls ≡ flatten (map numbers_of (gather row_in is))
 unfolding samples_of gather flatten
@@ -68,7 +66,7 @@ lines-samples p (l ∷ ls) (i ∷ is) h =
 abbrev HeadPasses : ℕ → Description → Type 0
 HeadPasses places d = ((every_colour ordered d ≡ true) × (every_colour narrow d ≡ true)) × ((agree d.kind d ≡ true) × (3 * rows d ≤ places))
 
-no-fault : (places : ℕ) (d : Description) → domain_fault places d ≡ none → HeadPasses places d
+no-fault : (places : ℕ) (d : Description) → domain_fault places d ≡ None → HeadPasses places d
 unfolding domain_fault roomy
 no-fault places d h =
     let a = need-none _ _ _ h in
@@ -76,14 +74,14 @@ no-fault places d h =
     let c = need-none _ _ _ b.1 in
     ((a.0, b.0), (c.0, leb-true _ _ (need-none _ _ _ c.1).0))
 
-without-fault : (places : ℕ) (d : Description) → HeadPasses places d → domain_fault places d ≡ none
+without-fault : (places : ℕ) (d : Description) → HeadPasses places d → domain_fault places d ≡ None
 unfolding domain_fault roomy
 without-fault places d s =
     none-need _ _ _ s.0.0 (none-need _ _ _ s.0.1 (none-need _ _ _ s.1.0 (none-need _ _ _ (le-leb _ _ s.1.1) refl)))
 
 -- ---- accepted, so it keeps
 
-once-one : {A : Type 0} (default : A) (xs : List A) (o : Option A) → Once none xs o → given o ≡ true → xs ≡ given_or default o ∷ []
+once-one : {A : Type 0} (default : A) (xs : List A) (o : Option A) → Once None xs o → given o ≡ true → xs ≡ given_or default o ∷ []
 once-one default [] o h g = absurd (no_true (sym (ap given (sym h) ∙ g)))
 once-one default (a ∷ []) o h g = rw h.1
 once-one default (a ∷ b ∷ more) o h g = absurd (no-some a h.1.0)
@@ -118,16 +116,16 @@ module _ (file : List ℕ) (places : ℕ) where
         values = lines-samples 0 (lines_of file) is w.lines;
       })
 
-  pub accepted-keeps : (d : Description) → read file places ≡ Accepted d → Keeps file places d (samples_of (lines_of file))
+  pub accepted-keeps : (d : Description) → read file places ≡ Ok d → Keeps file places d (samples_of (lines_of file))
   unfolding read
   accepted-keeps d h = keeps-described d (walked find found places 0 0 start (lines_of file) d h)
 
   -- ---- it keeps, so it is accepted
 
-  one-once : {A : Type 0} (xs : List A) (a : A) → xs ≡ a ∷ [] → Once none xs (some a)
+  one-once : {A : Type 0} (xs : List A) (a : A) → xs ≡ a ∷ [] → Once None xs (Some a)
   one-once xs a e = rw e (refl, refl)
 
-  pub keeps-accepted : (d : Description) (samples : List ℤ) → Keeps file places d samples → (read file places ≡ Accepted d) × (samples_of (lines_of file) ≡ samples)
+  pub keeps-accepted : (d : Description) (samples : List ℤ) → Keeps file places d samples → (read file places ≡ Ok d) × (samples_of (lines_of file) ≡ samples)
   unfolding read end_fault
   keeps-accepted d samples k =
       let is : List Item = k.items in
@@ -136,8 +134,8 @@ module _ (file : List ℕ) (places : ℕ) where
       let lo = once-given lowest (gather lower_in is) (lowers d) k.lower in
       let up = once-given highest (gather upper_in is) (uppers d) k.upper in
       let s : Size = record { kind = d.kind; n = d.n } in
-      let same : d ≡ told t.0 lo.0 up.0 (some s) = λ i. description (t.2 i) (lo.2 i) (up.2 i) s in
-      let due : Due places start is t.0 lo.0 up.0 (some s) = record {
+      let same : d ≡ told t.0 lo.0 up.0 (Some s) = λ i. description (t.2 i) (lo.2 i) (up.2 i) s in
+      let due : Due places start is t.0 lo.0 up.0 (Some s) = record {
         late = λ p. absurd (omega arith);
         order = k.order;
         title = t.1;
@@ -146,16 +144,16 @@ module _ (file : List ℕ) (places : ℕ) where
         size = one-once (gather size_in is) s k.size;
       } in
       let whole : together lo.0 up.0 ≡ true = items-fields (gather lower_in is) (gather upper_in is) lo.0 up.0 lo.1 up.1 k.domain in
-      let sound : domain_fault places (told t.0 lo.0 up.0 (some s)) ≡ none = rw same at (without-fault places d ((k.ordered_so, k.narrow_so), (k.agree_so, k.room))) in
-      let n : start.rows + length (gather row_in is) ≡ rows (told t.0 lo.0 up.0 (some s)) = omega (arith, k.count) in
-      let admitted : Admitted places start is = due-admitted places t.0 lo.0 up.0 (some s) refl whole sound start is due n in
-      let f = due-final places t.0 lo.0 up.0 (some s) refl whole sound start is due in
+      let sound : domain_fault places (told t.0 lo.0 up.0 (Some s)) ≡ None = rw same at (without-fault places d ((k.ordered_so, k.narrow_so), (k.agree_so, k.room))) in
+      let n : start.rows + length (gather row_in is) ≡ rows (told t.0 lo.0 up.0 (Some s)) = omega (arith, k.count) in
+      let admitted : Admitted places start is = due-admitted places t.0 lo.0 up.0 (Some s) refl whole sound start is due n in
+      let f = due-final places t.0 lo.0 up.0 (Some s) refl whole sound start is due in
       let full : rows (describe end) ≤ end.rows = rw f.0 (omega (arith, rows-final start is, n)) in
-      let ended : end_fault places end ≡ none = none_first _ _ (ok-head places end f.1) (none-need _ _ _ (le-leb (rows (describe end)) end.rows full) refl) in
-      (walk find found places 0 0 start (lines_of file) is k.lines admitted ended ∙ ap Accepted (f.0 ∙ sym same), lines-samples 0 (lines_of file) is k.lines ∙ sym k.values)
+      let ended : end_fault places end ≡ None = none_first _ _ (ok-head places end f.1) (none-need _ _ _ (le-leb (rows (describe end)) end.rows full) refl) in
+      (walk find found places 0 0 start (lines_of file) is k.lines admitted ended ∙ ap Ok (f.0 ∙ sym same), lines-samples 0 (lines_of file) is k.lines ∙ sym k.values)
 
   -- acceptance is the grammar
-  pub acceptance : (d : Description) (samples : List ℤ) → ((read file places ≡ Accepted d) × (samples_of (lines_of file) ≡ samples)) ↔ Keeps file places d samples
+  pub acceptance : (d : Description) (samples : List ℤ) → ((read file places ≡ Ok d) × (samples_of (lines_of file) ≡ samples)) ↔ Keeps file places d samples
   acceptance d samples = (λ h. subst (λ (x : List ℤ). Keeps file places d x) h.1 (accepted-keeps d h.0), keeps-accepted d samples)
 
   -- a file keeps the specification in one way
@@ -163,7 +161,7 @@ module _ (file : List ℕ) (places : ℕ) where
   keeps-one d e s t h k =
       let a = keeps-accepted d s h in
       let b = keeps-accepted e t k in
-      let q : Accepted d ≡ Accepted e = sym a.0 ∙ b.0 in
+      let q : Ok d ≡ Ok e = sym a.0 ∙ b.0 in
       (cc, sym a.1 ∙ b.1)
 
 -- ---- three numbers a row

@@ -3,7 +3,6 @@ use Prim.Native.Nat.{ℕ, ◌+◌, ◌*◌, ◌≤◌}
 use mathlib.Core.Path.{◌≡◌, refl, sym, ap, subst, ◌∙◌}
 use mathlib.Core.Bool.{true, ◌&&◌}
 use mathlib.Core.List.{List, [], ◌∷◌, ◌++◌, map, flatten}
-use mathlib.Core.Option.{Option, none, some}
 use native.Mathlib.Omega.{arith}
 use borrow.Author.Tests.{le-leb}
 use lib.Dec.{leb}
@@ -20,8 +19,6 @@ use Rattle.rules.specs.Promises.{Reads}
 use Rattle.rules.specs.declared.Item.{Item}
 use Rattle.rules.specs.declared.Bounds.{Bounds}
 use Rattle.rules.specs.declared.Description.{Description}
-use Rattle.rules.specs.declared.Read.{Read}
-use Rattle.rules.specs.declared.Read.TheVariants.{Accepted, Refused}
 use Rattle.rules.specs.declared.Refusal.{Refusal}
 use Rattle.rules.specs.declared.Row.{Row}
 use Rattle.rules.specs.declared.Size.{Size}
@@ -29,6 +26,8 @@ use Rattle.rules.proofs.Tests.{both-and}
 use Rattle.rules.proofs.Answers.{reads-is}
 use Rattle.rules.proofs.Reading.Acceptance.{accepted-keeps, keeps-length}
 use Rattle.rules.proofs.Reading.Sorts.{lower-item, upper-item, size-item, row-item}
+use Rattle.std.specs.Prelude.{None, Ok, Option, Some}
+use Rattle.rules.specs.Results.{Read, refused_on}
 
 -- ---- what each line of a sort has, all that are gathered have
 
@@ -36,7 +35,7 @@ abbrev pub All : {A : Type 0} → (A → Type 0) → List A → Type 0
 All P [] = Unit {0}
 All P (x ∷ xs) = P x × All P xs
 
-module _ {A : Type 0} (pick : Item → Option A) (P : A → Type 0) (each : (p : ℕ) (l : List ℕ) (i : Item) (a : A) → pick i ≡ some a → Line p l i → P a) where
+module _ {A : Type 0} (pick : Item → Option A) (P : A → Type 0) (each : (p : ℕ) (l : List ℕ) (i : Item) (a : A) → pick i ≡ Some a → Line p l i → P a) where
   pub gathered : (p : ℕ) (ls : List (List ℕ)) (is : List Item) → Lines p ls is → All P (gather pick is)
   unfolding gather
   gathered p [] [] h = tt
@@ -45,8 +44,8 @@ module _ {A : Type 0} (pick : Item → Option A) (P : A → Type 0) (each : (p :
   gathered p (l ∷ ls) (i ∷ is) h = split (pick i) refl (gathered (p + length l + 1) ls is h.1)
     where
       split : (o : Option A) → pick i ≡ o → All P (gather pick is) → All P (put o (gather pick is))
-      split none e r = r
-      split (some a) e r = (each p l i a e h.0, r)
+      split None e r = r
+      split (Some a) e r = (each p l i a e h.0, r)
 
 -- the only one, or the default, has it where the default does
 pub only_one : {A : Type 0} (P : A → Type 0) (xs : List A) (default x : A) → P default → All P xs → AtMostOne xs default x → P x
@@ -56,7 +55,7 @@ only_one P (y ∷ z ∷ more) default x d a e = absurd e
 
 -- ---- a size in range, bounds and samples within their limits
 
-pub size-in-range : (p : ℕ) (l : List ℕ) (i : Item) (s : Size) → size_in i ≡ some s → Line p l i → in_range s.kind s.n ≡ true
+pub size-in-range : (p : ℕ) (l : List ℕ) (i : Item) (s : Size) → size_in i ≡ Some s → Line p l i → in_range s.kind s.n ≡ true
 size-in-range p l i s e h = (subst (λ (j : Item). Line p l j) (size-item i s e) h).gives.range
 
 abbrev pub WithinBounds : Bounds → Type 0
@@ -68,13 +67,13 @@ WithinSamples r = (nat_abs r.red.0 ≤ sample_limit) × ((nat_abs r.green.0 ≤ 
 three-within : {places limit : ℕ} {ws : List (List ℕ)} {x y z : ℤ} → ThreeNumbers places limit ws x y z → (nat_abs x ≤ limit) × ((nat_abs y ≤ limit) × (nat_abs z ≤ limit))
 three-within t = (t.red.within, (t.green.within, t.blue.within))
 
-low : (p : ℕ) (l : List ℕ) (i : Item) (b : Bounds) → lower_in i ≡ some b → Line p l i → WithinBounds b
+low : (p : ℕ) (l : List ℕ) (i : Item) (b : Bounds) → lower_in i ≡ Some b → Line p l i → WithinBounds b
 low p l i b e h = three-within (subst (λ (j : Item). Line p l j) (lower-item i b e) h).gives.numbers
 
-high : (p : ℕ) (l : List ℕ) (i : Item) (b : Bounds) → upper_in i ≡ some b → Line p l i → WithinBounds b
+high : (p : ℕ) (l : List ℕ) (i : Item) (b : Bounds) → upper_in i ≡ Some b → Line p l i → WithinBounds b
 high p l i b e h = three-within (subst (λ (j : Item). Line p l j) (upper-item i b e) h).gives.numbers
 
-sampled : (p : ℕ) (l : List ℕ) (i : Item) (r : Row) → row_in i ≡ some r → Line p l i → WithinSamples r
+sampled : (p : ℕ) (l : List ℕ) (i : Item) (r : Row) → row_in i ≡ Some r → Line p l i → WithinSamples r
 sampled p l i r e h = three-within (subst (λ (j : Item). Line p l j) (row-item i r e) h).gives
 
 rows_fit : (rs : List Row) → All WithinSamples rs → samples_fit (flatten (map numbers_of rs)) ≡ true
@@ -123,10 +122,10 @@ module _ (file : List ℕ) (places : ℕ) (d : Description) (samples : List ℤ)
       (rw (take_at samples rest (3 * rows d) n) samples-fit))))))
 
 -- what is accepted has an N in range
-pub accepted-in-range : (file : List ℕ) (places : ℕ) (d : Description) → read file places ≡ Accepted d → in_range d.kind d.n ≡ true
+pub accepted-in-range : (file : List ℕ) (places : ℕ) (d : Description) → read file places ≡ Ok d → in_range d.kind d.n ≡ true
 accepted-in-range file places d h = in-range file places d (samples_of (lines_of file)) (accepted-keeps file places d h)
 
-pub bridge : (file : List ℕ) (table : List ℤ) (d : Description) → read file (length table) ≡ Accepted d → could_be_read d (table_after file table (Accepted d)) ≡ true
+pub bridge : (file : List ℕ) (table : List ℤ) (d : Description) → read file (length table) ≡ Ok d → could_be_read d (table_after file table (Ok d)) ≡ true
 unfolding table_after
 bridge file table d h = kept-could-be-read file (length table) d (samples_of (lines_of file)) (accepted-keeps file (length table) d h) (drop (3 * rows d) table)
 
@@ -138,10 +137,10 @@ module _ {file : List ℕ} {table : List ℤ} where
   after-answer h = h.memory ∙ ap (table_after file table) (sym (reads-is h).0)
 
   -- a refusal leaves the table as it was
-  pub refused-unchanged : {reason : Refusal} {n : ℕ} {t : List ℤ} → Reads file table (Refused reason n) t → t ≡ table
+  pub refused-unchanged : {reason : Refusal} {n : ℕ} {t : List ℤ} → Reads file table (refused_on reason n) t → t ≡ table
   unfolding table_after
   refused-unchanged h = after-answer h
 
   -- what an accepted reading leaves is never 24
-  pub reads-bridge : {d : Description} {t : List ℤ} → Reads file table (Accepted d) t → could_be_read d t ≡ true
+  pub reads-bridge : {d : Description} {t : List ℤ} → Reads file table (Ok d) t → could_be_read d t ≡ true
   reads-bridge {d} h = subst (λ u. could_be_read d u ≡ true) (sym (after-answer h)) (bridge file table d (sym (reads-is h).0))

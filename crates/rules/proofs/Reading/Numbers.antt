@@ -3,7 +3,6 @@ use Prim.Native.Nat.{ℕ, ◌+◌, ◌-◌, ◌*◌, ◌/◌, ◌%◌, ◌≤◌
 use mathlib.Core.Path.{◌≡◌, refl, sym, ap, subst, ◌∙◌}
 use mathlib.Core.Bool.{Bool, true, false, cond, ◌&&◌, ◌||◌}
 use mathlib.Core.List.{List, [], ◌∷◌, ◌++◌, append_assoc}
-use mathlib.Core.Option.{Option, none, some}
 use native.Mathlib.Nat.{mul_comm, one-mul, mul-le-mul_right, le_of_mul-le-mul_right, div-add-mod', mul-div_cancel, mul-mod_left, one-le-pow}
 use native.Mathlib.Omega.{arith}
 use borrow.Author.Tests.{ltb-false, le-ltb, leb-true, eqb-true, eq-eqb, ne_eqb}
@@ -15,9 +14,10 @@ use Rattle.whole.proofs.Halves as H
 use Rattle.rules.specs.Reading.Lines.{after, blank, digit, e_byte, every, hash, minus_byte, number_byte, plus_byte, point_byte, run, starts}
 use Rattle.rules.specs.Reading.Numerals.{spell, Exact, Exponent, Mantissa, Numeral, Power, Sign, Spells, absent, digits, minus, over, plain, plus, pointed, signed, under, unwritten, written}
 use Rattle.rules.specs.Reading.Numbers.{assemble, exponent_of, numeral_with, number_of, numeral_of, settle, unsigned, value_of}
-use Rattle.rules.specs.declared.Number.TheVariants.{Value, Beyond, Finer}
 use Rattle.rules.proofs.Tests.{no-some, and_both, both-and, or-none, none_or}
 use Rattle.rules.proofs.Reading.Runs.{run-after, run-every, run-starts, run-append, starts-append, starts-either, starts_other, every_append, every-starts, append-every}
+use Rattle.std.specs.Prelude.{Err, None, Ok, Option, Some}
+use Rattle.rules.specs.declared.NumberFault.TheVariants.{Beyond, Finer}
 
 abbrev pub sign_byte : ℕ → Bool
 sign_byte b = plus_byte b || minus_byte b
@@ -120,12 +120,12 @@ digits_more a b h e =
 digits-unsigned : (w : List ℕ) → digits w ≡ true → starts sign_byte w ≡ false
 digits-unsigned w h = starts_other digit sign_byte digit-no-sign w (digits-parts w h).0
 
-pub power-of : (l : List ℕ) (x : Exponent) → exponent_of l ≡ some x → Power l x
+pub power-of : (l : List ℕ) (x : Exponent) → exponent_of l ≡ Some x → Power l x
 unfolding exponent_of
 power-of [] x h = absent refl cc
 power-of (b ∷ rest) x h = split (e_byte b && digits (unsigned rest)) refl h
   where
-    split : (t : Bool) → e_byte b && digits (unsigned rest) ≡ t → cond t (some (record { down = starts minus_byte rest; power = unsigned rest })) none ≡ some x → Power (b ∷ rest) x
+    split : (t : Bool) → e_byte b && digits (unsigned rest) ≡ t → cond t (Some (record { down = starts minus_byte rest; power = unsigned rest })) None ≡ Some x → Power (b ∷ rest) x
     split true e g =
         let q : ◌≡◌ {A = Exponent} (record { down = starts minus_byte rest; power = unsigned rest }) x = cc in
         let k = and_both (e_byte b) (digits (unsigned rest)) e in
@@ -135,7 +135,7 @@ power-of (b ∷ rest) x h = split (e_byte b && digits (unsigned rest)) refl h
     split false e g = absurd (no-some x (sym g))
 
 pub record Exponential (l : List ℕ) (x : Exponent) : Type 0 where
-  pub read : exponent_of l ≡ some x
+  pub read : exponent_of l ≡ Some x
   pub no_digit : starts digit l ≡ false
   pub no-point : starts point_byte l ≡ false
 
@@ -150,20 +150,20 @@ of-power l x (written mark s e m g d) =
 
 pub record Assembled (there negative : Bool) (whole fraction : List ℕ) (o : Option Exponent) (n : Numeral) : Type 0 where
   pub are-there : there ≡ true
-  pub exponent : o ≡ some n.exponent
+  pub exponent : o ≡ Some n.exponent
   pub negative-so : negative ≡ n.negative
   pub whole_so : whole ≡ n.whole
   pub fraction_so : fraction ≡ n.fraction
 
-assembled : (there negative : Bool) (whole fraction : List ℕ) (o : Option Exponent) (n : Numeral) → assemble there negative whole fraction o ≡ some n
+assembled : (there negative : Bool) (whole fraction : List ℕ) (o : Option Exponent) (n : Numeral) → assemble there negative whole fraction o ≡ Some n
     → Assembled there negative whole fraction o n
-assembled there negative whole fraction none n h = absurd (no-some n (sym h))
-assembled false negative whole fraction (some e) n h = absurd (no-some n (sym h))
-assembled true negative whole fraction (some e) n h =
+assembled there negative whole fraction None n h = absurd (no-some n (sym h))
+assembled false negative whole fraction (Some e) n h = absurd (no-some n (sym h))
+assembled true negative whole fraction (Some e) n h =
     let q : ◌≡◌ {A = Numeral} (record { negative = negative; whole = whole; fraction = fraction; exponent = e }) n = cc in
     record {
       are-there = refl;
-      exponent = ap (λ (m : Numeral). some m.exponent) q;
+      exponent = ap (λ (m : Numeral). Some m.exponent) q;
       negative-so = ap (λ (m : Numeral). m.negative) q;
       whole_so = ap (λ (m : Numeral). m.whole) q;
       fraction_so = ap (λ (m : Numeral). m.fraction) q;
@@ -171,10 +171,10 @@ assembled true negative whole fraction (some e) n h =
 
 -- the digits that must be there are asked first
 pub assemble-first : (there negative : Bool) (whole fraction : List ℕ) (x : Option Exponent)
-    → assemble there negative whole fraction x ≡ cond there (assemble true negative whole fraction x) none
+    → assemble there negative whole fraction x ≡ cond there (assemble true negative whole fraction x) None
 assemble-first true negative whole fraction x = refl
-assemble-first false negative whole fraction none = refl
-assemble-first false negative whole fraction (some x) = refl
+assemble-first false negative whole fraction None = refl
+assemble-first false negative whole fraction (Some x) = refl
 
 -- what follows a sign
 pub record Body (negative : Bool) (l : List ℕ) (n : Numeral) : Type 0 where
@@ -185,7 +185,7 @@ pub record Body (negative : Bool) (l : List ℕ) (n : Numeral) : Type 0 where
   pub mantissa_so : Mantissa mantissa n.whole n.fraction
   pub power_so : Power power n.exponent
 
-body_of : (negative : Bool) (whole tail : List ℕ) (n : Numeral) → every digit whole ≡ true → numeral_with negative whole tail ≡ some n → Body negative (whole ++ tail) n
+body_of : (negative : Bool) (whole tail : List ℕ) (n : Numeral) → every digit whole ≡ true → numeral_with negative whole tail ≡ Some n → Body negative (whole ++ tail) n
 unfolding numeral_with
 body_of negative whole [] n d h =
     let a = assembled _ _ _ _ _ n h in
@@ -225,7 +225,7 @@ body_of negative whole (b ∷ rest) n d h = split (eqb b 46) refl
           power_so = power-of (b ∷ rest) n.exponent a.exponent;
         }
 
-pub spells-of : (w : List ℕ) (n : Numeral) → numeral_of w ≡ some n → Spells w n
+pub spells-of : (w : List ℕ) (n : Numeral) → numeral_of w ≡ Some n → Spells w n
 unfolding numeral_of
 spells-of w n h =
     let u : Unsigned w = unsign w in
@@ -245,7 +245,7 @@ spells-of w n h =
 
 record Parsed (l : List ℕ) (n : Numeral) : Type 0 where
   no_sign : starts sign_byte l ≡ false
-  reads : numeral_with n.negative (run digit l) (after digit l) ≡ some n
+  reads : numeral_with n.negative (run digit l) (after digit l) ≡ Some n
 
 parsed : (m p : List ℕ) (n : Numeral) → Mantissa m n.whole n.fraction → Power p n.exponent → Parsed (m ++ p) n
 unfolding numeral_with starts every
@@ -258,8 +258,8 @@ parsed m p n (plain e f d) g =
       reads = rw (e, r.0, r.1) (plainly p x.read x.no-point k.0 f);
     }
   where
-    plainly : (p : List ℕ) → exponent_of p ≡ some n.exponent → starts point_byte p ≡ false → starts digit n.whole ≡ true → n.fraction ≡ []
-        → numeral_with n.negative n.whole p ≡ some n
+    plainly : (p : List ℕ) → exponent_of p ≡ Some n.exponent → starts point_byte p ≡ false → starts digit n.whole ≡ true → n.fraction ≡ []
+        → numeral_with n.negative n.whole p ≡ Some n
     plainly [] x q s f = rw (x, s, ← f)
     plainly (b ∷ rest) x q s f = rw (q, x, s, ← f)
 parsed m p n (pointed e d) g =
@@ -279,7 +279,7 @@ parsed m p n (pointed e d) g =
     first-sign [] h = refl
     first-sign (c ∷ a) h = digit-no-sign c (and_both (digit c) (every digit a) h).0
 
-pub of-spells : (w : List ℕ) (n : Numeral) → Spells w n → numeral_of w ≡ some n
+pub of-spells : (w : List ℕ) (n : Numeral) → Spells w n → numeral_of w ≡ Some n
 unfolding numeral_of
 of-spells w n h =
     let p : Parsed (h.mantissa ++ h.power) n = parsed h.mantissa h.power n h.mantissa_so h.power_so in
@@ -309,11 +309,11 @@ same_sign true p q v h e =
     (omega (arith, H.split v, H.neg (pos (nat_abs v)), (H.times q v).ups, ap up e, H.neg (pos p), mul-le-mul_right (up v) h, one-mul (up v)))
 
 module _ (limit : ℕ) (neg : Bool) (p q : ℕ) (q-pos : 1 ≤ q) where
-  settled-value : (v : ℤ) → settle limit neg p q ≡ Value v → (pos q *ℤ v ≡ signed neg p) × (nat_abs v ≤ limit)
+  settled-value : (v : ℤ) → settle limit neg p q ≡ Ok v → (pos q *ℤ v ≡ signed neg p) × (nat_abs v ≤ limit)
   unfolding settle
   settled-value v h = split (ltb (limit * q) p) refl (eqb (p % q) 0) refl h
     where
-      split : (b : Bool) → ltb (limit * q) p ≡ b → (z : Bool) → eqb (p % q) 0 ≡ z → cond b Beyond (cond z (Value (signed neg (p / q))) Finer) ≡ Value v
+      split : (b : Bool) → ltb (limit * q) p ≡ b → (z : Bool) → eqb (p % q) 0 ≡ z → cond b (Err Beyond) (cond z (Ok (signed neg (p / q))) (Err Finer)) ≡ Ok v
           → (pos q *ℤ v ≡ signed neg p) × (nat_abs v ≤ limit)
       split true e z f g = let z : ◌≡◌ {A = ℕ} 0 1 = cc in absurd (omega arith)
       split false e false f g = let z : ◌≡◌ {A = ℕ} 0 1 = cc in absurd (omega arith)
@@ -323,29 +323,29 @@ module _ (limit : ℕ) (neg : Bool) (p q : ℕ) (q-pos : 1 ≤ q) where
           let m : p / q * q ≡ p = (omega (arith, div-add-mod' p q, eqb-true (p % q) 0 f)) in
           (rw (← x) (signed-times neg q (p / q) ∙ ap (signed neg) m), rw y (le_of_mul-le-mul_right {k = q} (rw m (ltb-false (limit * q) p e)) q-pos))
 
-  value-settled : (v : ℤ) → pos q *ℤ v ≡ signed neg p → nat_abs v ≤ limit → settle limit neg p q ≡ Value v
+  value-settled : (v : ℤ) → pos q *ℤ v ≡ signed neg p → nat_abs v ≤ limit → settle limit neg p q ≡ Ok v
   unfolding settle
   value-settled v e l =
       let n : nat_abs v * q ≡ p = mul_comm (nat_abs v) q ∙ sym (H.product-abs (pos q) v) ∙ ap nat_abs e ∙ signed-abs neg p in
       let a : p / q ≡ nat_abs v = ap (λ (x : ℕ). x / q) (sym n) ∙ mul-div_cancel (nat_abs v) q-pos in
       let b : p % q ≡ 0 = ap (λ (x : ℕ). x % q) (sym n) ∙ mul-mod_left (nat_abs v) q in
       let c : nat_abs v * q ≤ limit * q = mul-le-mul_right q l in
-      rw (le-ltb (limit * q) p (omega arith), eq-eqb (p % q) 0 b, a) (ap Value (same_sign neg p q v q-pos e))
+      rw (le-ltb (limit * q) p (omega arith), eq-eqb (p % q) 0 b, a) (ap Ok (same_sign neg p q v q-pos e))
 
 under-pos : (n : Numeral) → 1 ≤ under n
 under-pos n = one-le-pow _ 10 (omega arith)
 
-pub exact-of : (places limit : ℕ) (w : List ℕ) (v : ℤ) → number_of places limit w ≡ Value v → Exact places limit w v
+pub exact-of : (places limit : ℕ) (w : List ℕ) (v : ℤ) → number_of places limit w ≡ Ok v → Exact places limit w v
 unfolding number_of
 exact-of places limit w v h = split (numeral_of w) refl h
   where
-    split : (o : Option Numeral) → numeral_of w ≡ o → value_of places limit o ≡ Value v → Exact places limit w v
-    split none e g = let z : ◌≡◌ {A = ℕ} 0 1 = cc in absurd (omega arith)
-    split (some n) e g =
+    split : (o : Option Numeral) → numeral_of w ≡ o → value_of places limit o ≡ Ok v → Exact places limit w v
+    split None e g = let z : ◌≡◌ {A = ℕ} 0 1 = cc in absurd (omega arith)
+    split (Some n) e g =
         let k = settled-value limit n.negative (over places n) (under n) (under-pos n) v g in
         record { numeral = n; spelt = spells-of w n e; equal = k.0; within = k.1 }
 
-pub of-exact : (places limit : ℕ) (w : List ℕ) (v : ℤ) → Exact places limit w v → number_of places limit w ≡ Value v
+pub of-exact : (places limit : ℕ) (w : List ℕ) (v : ℤ) → Exact places limit w v → number_of places limit w ≡ Ok v
 unfolding number_of
 of-exact places limit w v h =
     rw (of-spells w h.numeral h.spelt) (value-settled limit h.numeral.negative (over places h.numeral) (under h.numeral) (under-pos h.numeral) v h.equal h.within)

@@ -3,7 +3,6 @@ use Prim.Native.Nat.{ℕ, suc, ◌+◌, ◌-◌, ◌≤◌}
 use mathlib.Core.Path.{◌≡◌, refl, sym, ap, subst, ◌∙◌}
 use mathlib.Core.Bool.{Bool, true, false, cond, not, ◌&&◌}
 use mathlib.Core.List.{List, [], ◌∷◌, ◌++◌}
-use mathlib.Core.Option.{none}
 use native.Mathlib.Omega.{arith}
 use borrow.Author.Tests.{leb-true, le-leb, eqb-true}
 use lib.ListN.{length, length-append}
@@ -15,7 +14,6 @@ use Rattle.rules.specs.Reading.Items.{named}
 use Rattle.rules.specs.Reading.Grammar.{BoundsLine, IdleLine, Line, Gives, ThreeNumbers, TitleLine, comment, empty}
 use Rattle.rules.specs.Reading.Contents.{bounds_at, bounds_of, closes, content_by, content_of, form_of, parameters, quoted, row_of, samples_on, title_of, word_form}
 use Rattle.rules.specs.Reading.Judge.{byte_fault}
-use Rattle.rules.specs.declared.Content.TheVariants.{Says, Wrong}
 use Rattle.rules.specs.declared.Form.{Form}
 use Rattle.rules.specs.declared.Form.TheVariants.{Idle, Keyed, Data, Neither}
 use Rattle.rules.specs.declared.Item.{Item}
@@ -24,6 +22,7 @@ use Rattle.rules.specs.declared.Keyword.{Keyword}
 use Rattle.rules.specs.declared.Keyword.TheVariants.{ATitle, ALower, AnUpper, ASize}
 use Rattle.rules.specs.declared.Title.{Title}
 use Rattle.rules.specs.declared.Bounds.{Bounds}
+use Rattle.rules.specs.Results.{Content}
 use Rattle.rules.specs.declared.Refusal.TheVariants.{ParametersWrong, DomainNumberWrong, NotThreeNumbers, SampleBeyond, SampleTooFine}
 use Rattle.rules.proofs.Tests.{no_true, and_both, need-none, none-need}
 use Rattle.rules.proofs.Reading.Runs.{run-after, run-every, run-append, starts_other}
@@ -31,10 +30,11 @@ use Rattle.rules.proofs.Reading.Numbers.{digits-parts, number-digit, number-no-h
 use Rattle.rules.proofs.Reading.Wordings.{words-first, First, first_of, form-words, keyword-form, form-keyword, form-idle}
 use Rattle.rules.proofs.Reading.Threes.{no-wrong, values-say, say-values, Sized, size-says, says-size}
 use Rattle.rules.proofs.Reading.Walk.{Found}
+use Rattle.std.specs.Prelude.{Err, None, Ok}
 
 -- ---- 1 and 2
 
-bytes-pass : (l : List ℕ) → length l ≤ line_limit → every permitted l ≡ true → byte_fault l ≡ none
+bytes-pass : (l : List ℕ) → length l ≤ line_limit → every permitted l ≡ true → byte_fault l ≡ None
 unfolding byte_fault
 bytes-pass l s p = none-need _ _ _ (le-leb (length l) line_limit s) (none-need _ _ _ p refl)
 
@@ -53,13 +53,13 @@ record Quoted (end : ℕ) (x : List ℕ) (i : Item) : Type 0 where
   trail-so : every blank trail ≡ true
   item : i ≡ OfTitle (record { there = true; place = end - (length text + suc (length trail)); length = length text })
 
-quoted-says : (end : ℕ) (x : List ℕ) (i : Item) → quoted end x ≡ Says i → Quoted end x i
+quoted-says : (end : ℕ) (x : List ℕ) (i : Item) → quoted end x ≡ Ok i → Quoted end x i
 unfolding quoted
 quoted-says end [] i h = absurd (no-wrong _ i h)
 quoted-says end (b ∷ rest) i h = split (quote b && closes (after in_title rest)) refl h
   where
     split : (t : Bool) → quote b && closes (after in_title rest) ≡ t
-        → cond t (Says (OfTitle (record { there = true; place = end - length rest; length = length (run in_title rest) }))) (Wrong ParametersWrong) ≡ Says i → Quoted end (b ∷ rest) i
+        → cond t (Ok (OfTitle (record { there = true; place = end - length rest; length = length (run in_title rest) }))) (Err ParametersWrong) ≡ Ok i → Quoted end (b ∷ rest) i
     split true e g =
         let k = and_both (quote b) (closes (after in_title rest)) e in
         let c = closes-so (after in_title rest) k.1 in
@@ -90,7 +90,7 @@ no_gap x y e s = split (run blank x) refl
     split [] f = absurd (no_true (sym (ap (starts in_word) (e ∙ ap (λ (g : List ℕ). g ++ (34 ∷ y)) f)) ∙ s))
     split (b ∷ g) f = rw f (omega arith)
 
-title-says : (p : ℕ) (l : List ℕ) (ws : List (List ℕ)) (i : Item) → words_of l ≡ named ATitle ∷ ws → title_of p l ≡ Says i → (t : Title) × (i ≡ OfTitle t) × TitleLine p l t
+title-says : (p : ℕ) (l : List ℕ) (ws : List (List ℕ)) (i : Item) → words_of l ≡ named ATitle ∷ ws → title_of p l ≡ Ok i → (t : Title) × (i ≡ OfTitle t) × TitleLine p l t
 unfolding title_of
 title-says p l ws i h g =
     let f : First l (named ATitle) ws = first_of l (named ATitle) ws h in
@@ -122,7 +122,7 @@ unfolding starts every
 gap-stops [] y h e = absurd (omega arith)
 gap-stops (b ∷ gap) y h e = ap not (and_both (blank b) (every blank gap) e).0
 
-says-title : (p : ℕ) (l : List ℕ) (t : Title) → TitleLine p l t → (form_of l ≡ Keyed ATitle) × (title_of p l ≡ Says (OfTitle t))
+says-title : (p : ℕ) (l : List ℕ) (t : Title) → TitleLine p l t → (form_of l ≡ Keyed ATitle) × (title_of p l ≡ Ok (OfTitle t))
 unfolding title_of quoted closes bytes starts every
 says-title p l t h =
     let y : List ℕ = h.text ++ (34 ∷ h.trail) in
@@ -166,9 +166,9 @@ row-form l x y z h =
 -- ---- a line's own law, both ways
 
 says-bounds : (side : Bounds → Item) (b : Bounds) (ws : List (List ℕ)) → ThreeNumbers bound_places bound_limit ws b.red.0 b.green.0 b.blue.0
-    → bounds_of side ws ≡ Says (side b)
+    → bounds_of side ws ≡ Ok (side b)
 unfolding bounds_of
-says-bounds side b ws h = say-values ParametersWrong DomainNumberWrong DomainNumberWrong bound_places bound_limit (λ x y z. Says (side (bounds_at x y z))) ws _ _ _ h
+says-bounds side b ws h = say-values ParametersWrong DomainNumberWrong DomainNumberWrong bound_places bound_limit (λ x y z. Ok (side (bounds_at x y z))) ws _ _ _ h
 
 pub found : (p : ℕ) (l : List ℕ) (i : Item) → Line p l i → Found p l i
 unfolding form_of content_by parameters samples_on
@@ -198,24 +198,24 @@ found p l (OfSize s) h = record {
 found p l (OfRow r) h = record {
   bytes-pass = bytes-pass l h.short h.permitted_so;
   form = row-form l _ _ _ h.gives;
-  content = say-values NotThreeNumbers SampleBeyond SampleTooFine sample_places sample_limit (λ x y z. Says (OfRow (row_of x y z))) (words_of l) _ _ _ h.gives;
+  content = say-values NotThreeNumbers SampleBeyond SampleTooFine sample_places sample_limit (λ x y z. Ok (OfRow (row_of x y z))) (words_of l) _ _ _ h.gives;
 }
 
 idle-line : (l : List ℕ) → form_of l ≡ Idle → IdleLine l
 idle-line [] h = empty refl
 idle-line (b ∷ rest) h = comment rest (ap (λ (c : ℕ). c ∷ rest) (form-idle b rest h))
 
-says-item : (i j : Item) → Says i ≡ Says j → i ≡ j
+says-item : (i j : Item) → ◌≡◌ {A = Content} (Ok i) (Ok j) → i ≡ j
 says-item i j h = cc
 
-bounds-say : (side : Bounds → Item) (l : List ℕ) (k : Keyword) (ws : List (List ℕ)) (i : Item) → words_of l ≡ named k ∷ ws → bounds_of side (parameters (words_of l)) ≡ Says i
+bounds-say : (side : Bounds → Item) (l : List ℕ) (k : Keyword) (ws : List (List ℕ)) (i : Item) → words_of l ≡ named k ∷ ws → bounds_of side (parameters (words_of l)) ≡ Ok i
     → (b : Bounds) × (side b ≡ i) × BoundsLine k l b
 unfolding bounds_of parameters
 bounds-say side l k ws i h g =
-    let t = values-say ParametersWrong DomainNumberWrong DomainNumberWrong bound_places bound_limit (λ x y z. Says (side (bounds_at x y z))) ws i (rw h at g) in
+    let t = values-say ParametersWrong DomainNumberWrong DomainNumberWrong bound_places bound_limit (λ x y z. Ok (side (bounds_at x y z))) ws i (rw h at g) in
     (bounds_at t.x t.y t.z, says-item _ i t.said, record { parameters = ws; words = h; numbers = t.numbers })
 
-speaks : (p : ℕ) (l : List ℕ) (i : Item) (f : Form) → form_of l ≡ f → content_by f p l ≡ Says i → Gives p l i
+speaks : (p : ℕ) (l : List ℕ) (i : Item) (f : Form) → form_of l ≡ f → content_by f p l ≡ Ok i → Gives p l i
 unfolding content_by samples_on parameters
 speaks p l i Idle e h = subst (λ (j : Item). Gives p l j) (says-item Nothing i h) (idle-line l e)
 speaks p l i (Keyed ATitle) e h =
@@ -242,11 +242,11 @@ speaks p l i (Keyed (ASize kind)) e h =
       range = t.range;
     })
 speaks p l i Data e h =
-    let t = values-say NotThreeNumbers SampleBeyond SampleTooFine sample_places sample_limit (λ x y z. Says (OfRow (row_of x y z))) (words_of l) i h in
+    let t = values-say NotThreeNumbers SampleBeyond SampleTooFine sample_places sample_limit (λ x y z. Ok (OfRow (row_of x y z))) (words_of l) i h in
     subst (λ (j : Item). Gives p l j) (says-item _ i t.said) t.numbers
 speaks p l i Neither e h = absurd (no-wrong _ i h)
 
-pub find : (p : ℕ) (l : List ℕ) (i : Item) → byte_fault l ≡ none → content_of p l ≡ Says i → Line p l i
+pub find : (p : ℕ) (l : List ℕ) (i : Item) → byte_fault l ≡ None → content_of p l ≡ Ok i → Line p l i
 unfolding byte_fault
 find p l i b c =
     let a = need-none _ _ _ b in

@@ -3,7 +3,6 @@ use Prim.Native.Nat.{ℕ, ◌+◌, ◌≤◌, ◌<◌}
 use mathlib.Core.Path.{◌≡◌, refl, sym, ap, ◌∙◌}
 use mathlib.Core.Bool.{Bool, true, false, cond, not}
 use mathlib.Core.List.{List, [], ◌∷◌}
-use mathlib.Core.Option.{Option, none, some}
 use native.Mathlib.Omega.{arith}
 use borrow.Author.Tests.{ltb-true, lt-ltb, eqb-true, eqb-false}
 use lib.Dec.{eqb}
@@ -25,6 +24,7 @@ use Rattle.rules.specs.declared.Size.{Size}
 use Rattle.rules.specs.declared.Row.{Row}
 use Rattle.rules.proofs.Reading.Sorts.{title-item, lower-item, upper-item, size-item}
 use Rattle.rules.proofs.Tests.{no-some, no_true, need-none, none-need, first-none, none_first}
+use Rattle.std.specs.Prelude.{None, Option, Some}
 
 -- the form of a line that gives an item
 abbrev pub form_for : Item → Form
@@ -36,7 +36,7 @@ form_for (OfSize s) = Keyed (ASize s.kind)
 form_for (OfRow r) = Data
 
 abbrev pub Admits : ℕ → State → Item → Type 0
-Admits places st i = order_fault places st (form_for i) ≡ none
+Admits places st i = order_fault places st (form_for i) ≡ None
 
 abbrev pub Admitted : ℕ → State → List Item → Type 0
 Admitted places st [] = Unit
@@ -50,35 +50,35 @@ final st (i ∷ is) = final (add st i) is
 
 abbrev pub Once : {A : Type 0} → Option A → List A → Option A → Type 0
 Once s [] r = r ≡ s
-Once s (a ∷ xs) r = (s ≡ none) × Once (some a) xs r
+Once s (a ∷ xs) r = (s ≡ None) × Once (Some a) xs r
 
-pub given-once : {A : Type 0} (default : A) (xs : List A) (o : Option A) → Once none xs o → AtMostOne xs default (given_or default o)
+pub given-once : {A : Type 0} (default : A) (xs : List A) (o : Option A) → Once None xs o → AtMostOne xs default (given_or default o)
 given-once default [] o h = rw h
 given-once default (a ∷ []) o h = rw h.1
 given-once default (a ∷ b ∷ more) o h = absurd (no-some a h.1.0)
 
-pub once-given : {A : Type 0} (default : A) (xs : List A) (x : A) → AtMostOne xs default x → (o : Option A) × Once none xs o × (x ≡ given_or default o)
-once-given default [] x h = (none, refl, h)
-once-given default (a ∷ []) x h = (some a, (refl, refl), h)
+pub once-given : {A : Type 0} (default : A) (xs : List A) (x : A) → AtMostOne xs default x → (o : Option A) × Once None xs o × (x ≡ given_or default o)
+once-given default [] x h = (None, refl, h)
+once-given default (a ∷ []) x h = (Some a, (refl, refl), h)
 once-given default (a ∷ b ∷ more) x h = absurd h
 
-not-given : {A : Type 0} (o : Option A) → not (given o) ≡ true → o ≡ none
-not-given none h = refl
-not-given (some a) h = absurd (no_true (sym h))
+not-given : {A : Type 0} (o : Option A) → not (given o) ≡ true → o ≡ None
+not-given None h = refl
+not-given (Some a) h = absurd (no_true (sym h))
 
 -- one that was given is the one
-once-some : {A : Type 0} (a : A) (xs : List A) (o : Option A) → Once (some a) xs o → o ≡ some a
+once-some : {A : Type 0} (a : A) (xs : List A) (o : Option A) → Once (Some a) xs o → o ≡ Some a
 once-some a [] o h = h
 once-some a (b ∷ xs) o h = absurd (no-some a h.0)
 
 -- of two sorts both are there or neither, in the fields as among the items
-pub fields-items : {A B : Type 0} (xs : List A) (ys : List B) (o : Option A) (u : Option B) → Once none xs o → Once none ys u → together o u ≡ true → BothOrNeither xs ys
+pub fields-items : {A B : Type 0} (xs : List A) (ys : List B) (o : Option A) (u : Option B) → Once None xs o → Once None ys u → together o u ≡ true → BothOrNeither xs ys
 fields-items [] [] o u h k t = tt
 fields-items [] (b ∷ ys) o u h k t = no_true (sym (rw (h, once-some b ys u k.1) at t))
 fields-items (a ∷ xs) [] o u h k t = no_true (sym (rw (once-some a xs o h.1, k) at t))
 fields-items (a ∷ xs) (b ∷ ys) o u h k t = tt
 
-pub items-fields : {A B : Type 0} (xs : List A) (ys : List B) (o : Option A) (u : Option B) → Once none xs o → Once none ys u → BothOrNeither xs ys → together o u ≡ true
+pub items-fields : {A B : Type 0} (xs : List A) (ys : List B) (o : Option A) (u : Option B) → Once None xs o → Once None ys u → BothOrNeither xs ys → together o u ≡ true
 items-fields [] [] o u h k t = rw (h, k)
 items-fields [] (b ∷ ys) o u h k t = absurd t
 items-fields (a ∷ xs) [] o u h k t = absurd t
@@ -90,7 +90,7 @@ record Sort (A : Type 0) : Type 0 where
   make : A → Item
   key : A → Keyword
   slot : State → Option A
-  item : (i : Item) (a : A) → pick i ≡ some a → i ≡ make a
+  item : (i : Item) (a : A) → pick i ≡ Some a → i ≡ make a
   form : (a : A) → form_for (make a) ≡ Keyed (key a)
   keyword : (a : A) → is_keyword (make a) ≡ true
   adds : (st : State) (i : Item) → slot (add st i) ≡ newer (pick i) (slot st)
@@ -114,19 +114,19 @@ sizes = record { pick = size_in; make = OfSize; key = λ a. ASize a.kind; slot =
 
 module _ {A : Type 0} (S : Sort A) where
   -- an item of the sort is admitted only where there was none
-  once : (places : ℕ) (st : State) (i : Item) (a : A) → Admits places st i → S.pick i ≡ some a → S.slot st ≡ none
+  once : (places : ℕ) (st : State) (i : Item) (a : A) → Admits places st i → S.pick i ≡ Some a → S.slot st ≡ None
   unfolding order_fault
   once places st i a h e =
-      let g : order_fault places st (Keyed (S.key a)) ≡ none = rw (S.item i a e, S.form a) at h in
+      let g : order_fault places st (Keyed (S.key a)) ≡ None = rw (S.item i a e, S.form a) at h in
       not-given (S.slot st) (rw (S.repeated a st) at (need-none _ _ _ (need-none _ _ _ g).1).0)
 
   -- an item that is no keyword's is none of the sort
-  no-keyword : (i : Item) → is_keyword i ≡ false → S.pick i ≡ none
+  no-keyword : (i : Item) → is_keyword i ≡ false → S.pick i ≡ None
   no-keyword i k = split (S.pick i) refl
     where
-      split : (o : Option A) → S.pick i ≡ o → o ≡ none
-      split none e = refl
-      split (some a) e = absurd (no_true (sym (S.keyword a) ∙ ap is_keyword (sym (S.item i a e)) ∙ k))
+      split : (o : Option A) → S.pick i ≡ o → o ≡ None
+      split None e = refl
+      split (Some a) e = absurd (no_true (sym (S.keyword a) ∙ ap is_keyword (sym (S.item i a e)) ∙ k))
 
   filled : (places : ℕ) (st : State) (is : List Item) → Admitted places st is → Once (S.slot st) (gather S.pick is) (S.slot (final st is))
   unfolding gather
@@ -135,8 +135,8 @@ module _ {A : Type 0} (S : Sort A) where
     where
       split : (o : Option A) → S.pick i ≡ o → Once (newer (S.pick i) (S.slot st)) (gather S.pick is) (S.slot (final st (i ∷ is)))
           → Once (S.slot st) (put o (gather S.pick is)) (S.slot (final st (i ∷ is)))
-      split none e r = rw e at r
-      split (some a) e r = (once places st i a h.0 e, rw e at r)
+      split None e r = rw e at r
+      split (Some a) e r = (once places st i a h.0 e, rw e at r)
 
   -- an item taken in leaves what the rest must give
   passed : (st : State) (i : Item) (is : List Item) (r : Option A) → Once (S.slot st) (gather S.pick (i ∷ is)) r → Once (S.slot (add st i)) (gather S.pick is) r
@@ -144,10 +144,10 @@ module _ {A : Type 0} (S : Sort A) where
   passed st i is r h = rw (S.adds st i) (split (S.pick i) h)
     where
       split : (o : Option A) → Once (S.slot st) (put o (gather S.pick is)) r → Once (newer o (S.slot st)) (gather S.pick is) r
-      split none g = g
-      split (some a) g = g.1
+      split None g = g
+      split (Some a) g = g.1
 
-  open-slot : (st : State) (i : Item) (is : List Item) (r : Option A) (a : A) → Once (S.slot st) (gather S.pick (i ∷ is)) r → S.pick i ≡ some a → S.slot st ≡ none
+  open-slot : (st : State) (i : Item) (is : List Item) (r : Option A) (a : A) → Once (S.slot st) (gather S.pick (i ∷ is)) r → S.pick i ≡ Some a → S.slot st ≡ None
   unfolding gather
   open-slot st i is r a h e = (rw e at h).0
 
@@ -181,12 +181,12 @@ unfolding add
 rows-add st i = split (row_in i)
   where
     split : (o : Option Row) → counted o st.rows ≡ st.rows + length (put o [])
-    split none = omega arith
-    split (some r) = omega arith
+    split None = omega arith
+    split (Some r) = omega arith
 
 length-put : (o : Option Row) (xs : List Row) → length (put o xs) ≡ length (put o []) + length xs
-length-put none xs = omega arith
-length-put (some a) xs = omega arith
+length-put None xs = omega arith
+length-put (Some a) xs = omega arith
 
 pub rows-final : (st : State) (is : List Item) → (final st is).rows ≡ st.rows + length (gather row_in is)
 unfolding gather
@@ -216,28 +216,28 @@ keywords-first places st (i ∷ is) h =
 pub record HeadOk (places : ℕ) (st : State) : Type 0 where
   pub sized : given st.size ≡ true
   pub whole : together st.lower st.upper ≡ true
-  pub sound : domain_fault places (describe st) ≡ none
+  pub sound : domain_fault places (describe st) ≡ None
 
 pub record Inv (places : ℕ) (st : State) : Type 0 where
   pub head : 0 < st.rows → HeadOk places st
   pub count : st.rows ≤ rows (describe st)
 
-pub head_ok : (places : ℕ) (st : State) → head_fault places st ≡ none → (0 < st.rows → HeadOk places st) → HeadOk places st
+pub head_ok : (places : ℕ) (st : State) → head_fault places st ≡ None → (0 < st.rows → HeadOk places st) → HeadOk places st
 unfolding head_fault given_fault
 head_ok places st h k = split (eqb st.rows 0) refl h
   where
-    split : (t : Bool) → eqb st.rows 0 ≡ t → cond t (given_fault places st) none ≡ none → HeadOk places st
+    split : (t : Bool) → eqb st.rows 0 ≡ t → cond t (given_fault places st) None ≡ None → HeadOk places st
     split true e g =
         let (sized, rest) = need-none _ _ _ g in
         let (whole, sound) = need-none _ _ _ rest in
         record { sized = sized; whole = whole; sound = sound }
     split false e g = k (omega (arith, eqb-false st.rows 0 e))
 
-pub ok-head : (places : ℕ) (st : State) → HeadOk places st → head_fault places st ≡ none
+pub ok-head : (places : ℕ) (st : State) → HeadOk places st → head_fault places st ≡ None
 unfolding head_fault given_fault
 ok-head places st h = split (eqb st.rows 0)
   where
-    split : (t : Bool) → cond t (given_fault places st) none ≡ none
+    split : (t : Bool) → cond t (given_fault places st) None ≡ None
     split true = none-need _ _ _ h.sized (none-need _ _ _ h.whole h.sound)
     split false = refl
 
@@ -299,7 +299,7 @@ admitted-due places st is h = record {
 }
 
 module _ (places : ℕ) (t : Option Title) (lo up : Option Bounds) (s : Option Size)
-    (sized : given s ≡ true) (whole : together lo up ≡ true) (sound : domain_fault places (told t lo up s) ≡ none) where
+    (sized : given s ≡ true) (whole : together lo up ≡ true) (sound : domain_fault places (told t lo up s) ≡ None) where
   due-next : (st : State) (i : Item) (is : List Item) → Due places st (i ∷ is) t lo up s → Due places (add st i) is t lo up s
   unfolding titles lowest-bounds highest-bounds sizes
   due-next st i is h = record {

@@ -4,7 +4,6 @@ use mathlib.Core.Path.{◌≡◌, refl, sym, ap, subst, ◌∙◌}
 use mathlib.Core.Logic.{◌⊎◌, inl, inr}
 use mathlib.Core.Bool.{Bool, true, false, cond}
 use mathlib.Core.List.{List, [], ◌∷◌, ◌++◌, append_assoc}
-use mathlib.Core.Option.{Option, none, some}
 use native.Mathlib.Omega.{arith}
 use borrow.Author.Tests.{eqb-true}
 use lib.Dec.{eqb}
@@ -23,6 +22,7 @@ use Rattle.rules.specs.declared.Title.{Title}
 use Rattle.rules.specs.declared.Description.{Description}
 use Rattle.rules.proofs.Reading.Sorts.{title-item}
 use Rattle.rules.proofs.Tests.{no_true}
+use Rattle.std.specs.Prelude.{None, Option, Some}
 
 -- a file is its first line, and then a newline and the other lines, or nothing
 pub data Cut (s l : List ℕ) (ls : List (List ℕ)) : Type 0 where
@@ -116,7 +116,7 @@ titled-lines pre s (l ∷ ls) (i ∷ is) t ts b e h g = split (title_in i) refl 
     split : (o : Option Title) → title_in i ≡ o → put o (gather title_in is) ≡ t ∷ ts → Cut s l ls
         → ((pre' s' : List ℕ) → Begins pre' → lines_of s' ≡ ls → Lines (length pre') ls is → gather title_in is ≡ t ∷ ts → OnItsLine (pre' ++ s') t)
         → OnItsLine (pre ++ s) t
-    split (some u) a q c again = here c
+    split (Some u) a q c again = here c
       where
         r : u ≡ t
         r = cc
@@ -127,8 +127,8 @@ titled-lines pre s (l ∷ ls) (i ∷ is) t ts b e h g = split (title_in i) refl 
         here : Cut s l ls → OnItsLine (pre ++ s) t
         here (last x y) = rw y (titled-line pre l [] t b (inl refl) k)
         here (more s' x y) = rw x (titled-line pre l (10 ∷ s') t b (inr (s', refl)) k)
-    split none a q (last x y) again = absurd (no-title (length pre + length l + 1) ls is t ts x h.1 q)
-    split none a q (more s' x y) again =
+    split None a q (last x y) again = absurd (no-title (length pre + length l + 1) ls is t ts x h.1 q)
+    split None a q (more s' x y) again =
         let pre' : List ℕ = pre ++ (l ++ (10 ∷ [])) in
         let n : length pre + length l + 1 ≡ length pre' = sym (simp length-append (omega arith)) in
         let f : pre' ++ s' ≡ pre ++ s = rw x (simp append_assoc) in

@@ -3,7 +3,6 @@ use Prim.Native.Nat.{ℕ}
 use mathlib.Core.Path.{◌≡◌, refl, sym, ap, ◌∙◌}
 use mathlib.Core.Bool.{Bool, true, false, cond, not}
 use mathlib.Core.List.{List, [], ◌∷◌, ◌++◌}
-use mathlib.Core.Option.{Option, none, some}
 use native.Mathlib.Omega.{arith}
 use borrow.Author.Tests.{eqb-true, not-true}
 use lib.Dec.{eqb}
@@ -16,6 +15,7 @@ use Rattle.rules.specs.declared.Keyword.TheVariants.{ATitle, ALower, AnUpper, AS
 use Rattle.rules.specs.declared.Kind.TheVariants.{OneD, ThreeD}
 use Rattle.rules.proofs.Tests.{no-some, no_true, and_both}
 use Rattle.rules.proofs.Reading.Runs.{run-after, run-every, after-stops, run-starts}
+use Rattle.std.specs.Prelude.{None, Option, Some}
 
 -- ---- words
 
@@ -106,20 +106,20 @@ same-eq (x ∷ xs) (y ∷ ys) h =
     cc
 
 -- one keyword tried: the word is its name, or what follows decides
-tried : (w : List ℕ) (k k' : Keyword) (next : Option Keyword) → or_else_try w k next ≡ some k' → (next ≡ some k' → w ≡ named k') → w ≡ named k'
+tried : (w : List ℕ) (k k' : Keyword) (next : Option Keyword) → or_else_try w k next ≡ Some k' → (next ≡ Some k' → w ≡ named k') → w ≡ named k'
 tried w k k' next h f = split (same w (named k)) refl h
   where
-    split : (t : Bool) → same w (named k) ≡ t → cond t (some k) next ≡ some k' → w ≡ named k'
+    split : (t : Bool) → same w (named k) ≡ t → cond t (Some k) next ≡ Some k' → w ≡ named k'
     split true s g = let q : k ≡ k' = cc in same-eq w (named k) s ∙ ap named q
     split false s g = f g
 
-pub keyword-named : (w : List ℕ) (k : Keyword) → keyword_of w ≡ some k → w ≡ named k
+pub keyword-named : (w : List ℕ) (k : Keyword) → keyword_of w ≡ Some k → w ≡ named k
 unfolding keyword_of
 keyword-named w k h =
-    tried w ATitle k _ h (λ h₁. tried w ALower k _ h₁ (λ h₂. tried w AnUpper k _ h₂ (λ h₃. tried w (ASize OneD) k _ h₃ (λ h₄. tried w (ASize ThreeD) k none h₄ (λ h₅. absurd (no-some k (sym h₅)))))))
+    tried w ATitle k _ h (λ h₁. tried w ALower k _ h₁ (λ h₂. tried w AnUpper k _ h₂ (λ h₃. tried w (ASize OneD) k _ h₃ (λ h₄. tried w (ASize ThreeD) k None h₄ (λ h₅. absurd (no-some k (sym h₅)))))))
 
 pub record Named (k : Keyword) : Type 0 where
-  pub known : keyword_of (named k) ≡ some k
+  pub known : keyword_of (named k) ≡ Some k
   pub no_number : starts number_byte (named k) ≡ false
   pub no-hash : starts hash (named k) ≡ false
 
@@ -148,8 +148,8 @@ form-named (w ∷ ws) k h = split (starts number_byte w) (keyword_of w) refl h
   where
     split : (t : Bool) (o : Option Keyword) → keyword_of w ≡ o → cond t Data (keyword_form o) ≡ Keyed k → (vs : List (List ℕ)) × (w ∷ ws ≡ named k ∷ vs)
     split true o e g = let z : ◌≡◌ {A = ℕ} 0 1 = cc in absurd (omega arith)
-    split false none e g = no-form k _ g
-    split false (some k') e g = let q : k' ≡ k = cc in (ws, ap (λ (v : List ℕ). v ∷ ws) (keyword-named w k (e ∙ ap {B = Option Keyword} some q)))
+    split false None e g = no-form k _ g
+    split false (Some k') e g = let q : k' ≡ k = cc in (ws, ap (λ (v : List ℕ). v ∷ ws) (keyword-named w k (e ∙ ap {B = Option Keyword} Some q)))
 
 pub form-keyword : (l : List ℕ) (k : Keyword) → form_of l ≡ Keyed k → (vs : List (List ℕ)) × (words_of l ≡ named k ∷ vs)
 unfolding form_of
@@ -168,8 +168,8 @@ words-not-idle (w ∷ ws) h = split (starts number_byte w) (keyword_of w) h
   where
     split : (t : Bool) (o : Option Keyword) → cond t Data (keyword_form o) ≡ Idle → ⊥
     split true o g = let z : ◌≡◌ {A = ℕ} 0 1 = cc in omega arith
-    split false none g = let z : ◌≡◌ {A = ℕ} 0 1 = cc in omega arith
-    split false (some k) g = let z : ◌≡◌ {A = ℕ} 0 1 = cc in omega arith
+    split false None g = let z : ◌≡◌ {A = ℕ} 0 1 = cc in omega arith
+    split false (Some k) g = let z : ◌≡◌ {A = ℕ} 0 1 = cc in omega arith
 
 pub form-idle : (b : ℕ) (rest : List ℕ) → form_of (b ∷ rest) ≡ Idle → b ≡ 35
 unfolding form_of

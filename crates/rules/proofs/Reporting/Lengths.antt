@@ -3,7 +3,6 @@ use Prim.Native.Nat.{ℕ, ◌+◌, ◌≤◌, ◌<◌}
 use mathlib.Core.Path.{◌≡◌, refl, ap, subst}
 use mathlib.Core.Bool.{Bool, true, false, cond}
 use mathlib.Core.List.{List, [], ◌∷◌}
-use mathlib.Core.Option.{some}
 use native.Mathlib.Omega.{arith}
 use borrow.Author.Tests.{leb-true}
 use lib.Dec.{leb, eqb}
@@ -26,8 +25,6 @@ use Rattle.rules.specs.declared.Domain.{Domain}
 use Rattle.rules.specs.declared.Item.{Item}
 use Rattle.rules.specs.declared.Kind.{Kind}
 use Rattle.rules.specs.declared.Kind.TheVariants.{OneD, ThreeD}
-use Rattle.rules.specs.declared.Read.{Read}
-use Rattle.rules.specs.declared.Read.TheVariants.{Accepted, Refused}
 use Rattle.rules.specs.declared.Refusal.{Refusal}
 use Rattle.rules.specs.declared.Refusal.TheVariants.{InputTooLong}
 use Rattle.rules.specs.declared.Title.{Title}
@@ -40,6 +37,8 @@ use Rattle.rules.proofs.Sound.{bounds-within, every-each}
 use Rattle.rules.proofs.Reading.Bridge.{gathered, only_one, in-range, bounds-fit}
 use Rattle.rules.proofs.Answers.{number-below}
 use Rattle.rules.proofs.Decimals.{decimal-within, signed-within}
+use Rattle.std.specs.Prelude.{Err, Ok, Some}
+use Rattle.rules.specs.Results.{Read, refused_on}
 
 -- the text stands whole in the bytes
 pub text-inside : {input out out' : List ℕ} {n : ℕ} → Reports input out n out' → n ≤ length out'
@@ -72,7 +71,7 @@ refused-length number line = simp length-append (omega arith)
 
 -- ---- what an accepted file tells: the title lies within it, and every line is short
 
-module _ (file : List ℕ) (places : ℕ) (d : Description) (accepted : read file places ≡ Accepted d) where
+module _ (file : List ℕ) (places : ℕ) (d : Description) (accepted : read file places ≡ Ok d) where
   kept : Keeps file places d (samples_of (lines_of file))
   kept = accepted-keeps file places d accepted
 
@@ -87,7 +86,7 @@ module _ (file : List ℕ) (places : ℕ) (d : Description) (accepted : read fil
       only_one (λ t. t.length ≤ line_limit) (gather title_in kept.items) no_title d.title (omega arith)
       (gathered title_in _ short 0 (lines_of file) kept.items kept.lines) kept.title
     where
-      short : (p : ℕ) (l : List ℕ) (i : Item) (t : Title) → title_in i ≡ some t → Line p l i → t.length ≤ line_limit
+      short : (p : ℕ) (l : List ℕ) (i : Item) (t : Title) → title_in i ≡ Some t → Line p l i → t.length ≤ line_limit
       short p l i t e h =
           let k = subst (λ (j : Item). Line p l j) (title-item i t e) h in
           let g = simp length-append at (ap length k.gives.line) in
@@ -110,7 +109,7 @@ module _ (file : List ℕ) (places : ℕ) (d : Description) (accepted : read fil
 -- ---- the text fits 512 bytes
 
 -- at most five digits for N, and four for the rows, three times which are at most 8,190
-accepted-fits : (file : List ℕ) (d : Description) → read file report_places ≡ Accepted d → length (answer_text file (Accepted d)) ≤ 365
+accepted-fits : (file : List ℕ) (d : Description) → read file report_places ≡ Ok d → length (answer_text file (Ok d)) ≤ 365
 unfolding answer_text domain_lines
 accepted-fits file d e =
     let short = domain-short file report_places d e in
@@ -137,7 +136,7 @@ newlines-within (b ∷ rest) = split (eqb b 10) (newlines-within rest)
     split false h = omega arith
 
 -- a line's number is at most 1 plus all bytes
-pub line-within : (file : List ℕ) (places : ℕ) (r : Refusal) (line : ℕ) → read file places ≡ Refused r line → line ≤ 1 + length file
+pub line-within : (file : List ℕ) (places : ℕ) (r : Refusal) (line : ℕ) → read file places ≡ refused_on r line → line ≤ 1 + length file
 line-within file places r line refused = split (refused-first file places r line refused)
   where
     split : Stopped places 0 0 start (lines_of file) r line → line ≤ 1 + length file
@@ -145,7 +144,7 @@ line-within file places r line refused = split (refused-first file places r line
     split (at-end is m x y z) = omega (arith, lines-count file, newlines-within file)
 
 -- two digits for the number, and five for the line
-refused-fits : (file : List ℕ) (r : Refusal) (line : ℕ) → line < 100_000 → length (answer_text file (Refused r line)) ≤ 17
+refused-fits : (file : List ℕ) (r : Refusal) (line : ℕ) → line < 100_000 → length (answer_text file (refused_on r line)) ≤ 17
 unfolding answer_text
 refused-fits file r line h =
     omega (arith, refused-length (refusal_number r) line, decimal-within 1 (refusal_number r) (omega (arith, number-below r)), decimal-within 4 line (omega arith))
@@ -155,9 +154,9 @@ unfolding report_text report
 report-fits input = by_length (leb (length input) report_bytes) refl
   where
     by_answer : length input ≤ report_bytes → (r : Read) → read input report_places ≡ r → length (answer_text input r) ≤ 512
-    by_answer h (Accepted d) e = omega (arith, accepted-fits input d e)
-    by_answer h (Refused r line) e = omega (arith, refused-fits input r line (omega (arith, line-within input report_places r line e)))
+    by_answer h (Ok d) e = omega (arith, accepted-fits input d e)
+    by_answer h (Err x) e = omega (arith, refused-fits input x.reason x.line (omega (arith, line-within input report_places x.reason x.line e)))
 
-    by_length : (t : Bool) → leb (length input) report_bytes ≡ t → length (answer_text input (cond t (read input report_places) (Refused InputTooLong 0))) ≤ 512
+    by_length : (t : Bool) → leb (length input) report_bytes ≡ t → length (answer_text input (cond t (read input report_places) (refused_on InputTooLong 0))) ≤ 512
     by_length true e = by_answer (leb-true _ _ e) (read input report_places) refl
     by_length false e = omega (arith, refused-fits input InputTooLong 0 (omega arith))

@@ -28,10 +28,10 @@ use Rattle.rules.specs.declared.Keyword.TheVariants.{ATitle, ALower, AnUpper, AS
 use Rattle.rules.specs.declared.Kind.{Kind}
 use Rattle.rules.specs.declared.Kind.TheVariants.{OneD, ThreeD}
 use Rattle.rules.specs.declared.Thousandths.{Thousandths}
-use Rattle.rules.specs.declared.Write.TheVariants.{Accepted}
 use Rattle.rules.proofs.Tests.{and_both, both-and}
 use Rattle.rules.proofs.Decimals.{decimal-within, decimals-within}
 use Rattle.rules.proofs.Sound.{each-first-fit, greatest-most, range-most, sound-of}
+use Rattle.std.specs.Prelude.{Ok}
 
 -- ---- numbers
 
@@ -220,6 +220,6 @@ module _ (d : Description) (table : List ℤ) (title : List ℕ) (could : could_
       omega (arith, length-append (head_text d title) (rows_text samples), head-most, rows-text-most (rows d) samples (omega (arith, so-many)) fit)
 
   -- with so many bytes write never answers 13
-  pub room-enough : (places : ℕ) → 333 + 39 * rows d ≤ places → write d table title places ≡ Accepted (length (file_text d table title))
+  pub room-enough : (places : ℕ) → 333 + 39 * rows d ≤ places → write d table title places ≡ Ok (length (file_text d table title))
   unfolding write
   room-enough places h = rw (could, fits, le-leb (length (file_text d table title)) places (omega (arith, text-most)))

@@ -1,7 +1,6 @@
 -- Documents 000, 01 and 02, as properties: what a line is, and what a file is that keeps the specification within the limits. Nothing here is run.
-use Rattle.std.specs.Prelude.{ℕ, ◌+◌, ◌*◌, ◌≤◌, ◌≡◌, Bool, true, false, length, ℤ}
+use Rattle.std.specs.Prelude.{ℕ, ◌+◌, ◌*◌, ◌≤◌, ◌≡◌, Bool, true, false, length, ℤ, None, Option, Some}
 use mathlib.Core.List.{List, [], ◌∷◌, ◌++◌, map, flatten}
-use Rattle.std.proofs.Math.Option.{Option, none, some}
 use Rattle.rules.specs.Units.{sample_places, sample_limit, bound_places, bound_limit, in_range}
 use Rattle.rules.specs.Descriptions.{lowest, highest, no_title, rows, every_colour, ordered, narrow, agree}
 use Rattle.rules.specs.Reading.Lines.{line_limit, permitted, blank, in_title, every, lines_of, words_of}
@@ -91,8 +90,8 @@ Lines p (l ∷ ls) (i ∷ is) = Line p l i × Lines (p + length l + 1) ls is
 -- ---- the lines together
 
 abbrev pub put : {A : Type 0} → Option A → List A → List A
-put none xs = xs
-put (some a) xs = a ∷ xs
+put None xs = xs
+put (Some a) xs = a ∷ xs
 
 -- the items of one sort among all, in order
 unfoldable pub gather : {A : Type 0} → (Item → Option A) → List Item → List A

@@ -1,6 +1,5 @@
 -- What the lines of a file give.
-use Rattle.std.specs.Prelude.{ℕ, List, [], ◌∷◌, ℤ}
-use Rattle.std.proofs.Math.Option.{Option, none, some}
+use Rattle.std.specs.Prelude.{ℕ, List, [], ◌∷◌, ℤ, None, Option, Some}
 use Rattle.rules.specs.Reading.Lines.{bytes}
 use Rattle.rules.specs.declared.Bounds.{Bounds}
 use Rattle.rules.specs.declared.Item.{Item}
@@ -22,44 +21,44 @@ named (ASize ThreeD) = bytes "LUT_3D_SIZE"
 
 -- the title, bounds, size or row of an item, if it is one
 abbrev pub title_in : Item → Option Title
-title_in Nothing = none
-title_in (OfTitle t) = some t
-title_in (OfLower b) = none
-title_in (OfUpper b) = none
-title_in (OfSize s) = none
-title_in (OfRow r) = none
+title_in Nothing = None
+title_in (OfTitle t) = Some t
+title_in (OfLower b) = None
+title_in (OfUpper b) = None
+title_in (OfSize s) = None
+title_in (OfRow r) = None
 
 abbrev pub lower_in : Item → Option Bounds
-lower_in Nothing = none
-lower_in (OfTitle t) = none
-lower_in (OfLower b) = some b
-lower_in (OfUpper b) = none
-lower_in (OfSize s) = none
-lower_in (OfRow r) = none
+lower_in Nothing = None
+lower_in (OfTitle t) = None
+lower_in (OfLower b) = Some b
+lower_in (OfUpper b) = None
+lower_in (OfSize s) = None
+lower_in (OfRow r) = None
 
 abbrev pub upper_in : Item → Option Bounds
-upper_in Nothing = none
-upper_in (OfTitle t) = none
-upper_in (OfLower b) = none
-upper_in (OfUpper b) = some b
-upper_in (OfSize s) = none
-upper_in (OfRow r) = none
+upper_in Nothing = None
+upper_in (OfTitle t) = None
+upper_in (OfLower b) = None
+upper_in (OfUpper b) = Some b
+upper_in (OfSize s) = None
+upper_in (OfRow r) = None
 
 abbrev pub size_in : Item → Option Size
-size_in Nothing = none
-size_in (OfTitle t) = none
-size_in (OfLower b) = none
-size_in (OfUpper b) = none
-size_in (OfSize s) = some s
-size_in (OfRow r) = none
+size_in Nothing = None
+size_in (OfTitle t) = None
+size_in (OfLower b) = None
+size_in (OfUpper b) = None
+size_in (OfSize s) = Some s
+size_in (OfRow r) = None
 
 abbrev pub row_in : Item → Option Row
-row_in Nothing = none
-row_in (OfTitle t) = none
-row_in (OfLower b) = none
-row_in (OfUpper b) = none
-row_in (OfSize s) = none
-row_in (OfRow r) = some r
+row_in Nothing = None
+row_in (OfTitle t) = None
+row_in (OfLower b) = None
+row_in (OfUpper b) = None
+row_in (OfSize s) = None
+row_in (OfRow r) = Some r
 
 -- red, green, blue
 abbrev pub numbers_of : Row → List ℤ

@@ -16,8 +16,6 @@ use Rattle.rules.specs.Answers.{places_needed, read_number, read_line, read_desc
 use Rattle.rules.specs.Promises.{Checks}
 use Rattle.rules.specs.Boundary.{eleven_of, ChecksC, ReadsC}
 use Rattle.rules.specs.declared.Description.{Description}
-use Rattle.rules.specs.declared.Read.{Read}
-use Rattle.rules.specs.declared.Read.TheVariants as R
 use Rattle.rules.proofs.Answers.{checks-is, is-checks, refused-not-0}
 use Rattle.signature.specs.HalfDomains.{HalfAt}
 use Rattle.signature.specs.MixedDomains.{DifferAt}
@@ -25,6 +23,8 @@ use Rattle.signature.proofs.Reading.HalfDomains.{numbers-half}
 use Rattle.signature.proofs.Reading.MixedDomains.{numbers-differ}
 use Rattle.signature.proofs.Reading.Checking.{check-keeps, check-places, checked-then-read, lent-enough, lent-too-few, long-enough, read-accepts, refused-alike}
 use Rattle.signature.proofs.Boundary.Reads.{ReadLaid, read-laid}
+use Rattle.std.specs.Prelude.{Err, Ok}
+use Rattle.rules.specs.Results.{Read}
 
 -- a file's judgement with its answer laid out as numbers
 pub record CheckLaid (file : List ℕ) (number : ℕ) (eleven' : List ℤ) (line' places' : ℕ) : Type 0 where
@@ -73,15 +73,15 @@ module _ {file : List ℕ} {eleven' : List ℤ} {number line' places' : ℕ} (h 
   check-refused not-0 = by laid.answer laid.number_so laid.eleven-so laid.places_so
     where
       by : (r : Read) → number ≡ read_number r → eleven' ≡ eleven_of (read_description r) → places' ≡ places_needed r → (eleven' ≡ pos 1 ∷ replicate 10 (pos 0)) × (places' ≡ 0)
-      by (R.Accepted d) e v p = absurd (not-0 e)
-      by (R.Refused reason n) e v p = (v, p)
+      by (Ok d) e v p = absurd (not-0 e)
+      by (Err x) e v p = (v, p)
 
   pub check-accepted : number ≡ 0 → CheckAccepted file eleven' line' places'
   check-accepted z = by laid.answer laid.checks laid.number_so laid.eleven-so laid.line_so laid.places_so
     where
       by : (r : Read) → Checks file r → number ≡ read_number r → eleven' ≡ eleven_of (read_description r) → line' ≡ read_line r → places' ≡ places_needed r
           → CheckAccepted file eleven' line' places'
-      by (R.Accepted d) checks e v n p =
+      by (Ok d) checks e v n p =
           let accepted = sym (checks-is checks) in
           record {
             d = d;
@@ -91,7 +91,7 @@ module _ {file : List ℕ} {eleven' : List ℤ} {number line' places' : ℕ} (h 
             places_so = p;
             places-range = rw p (check-places file d accepted);
           }
-      by (R.Refused reason n) checks e v m p = absurd (refused-not-0 reason (sym e ∙ z))
+      by (Err x) checks e v m p = absurd (refused-not-0 x.reason (sym e ∙ z))
 
 -- ---- check, and then read
 

@@ -3,7 +3,6 @@ use Prim.Native.Nat.{ℕ}
 use mathlib.Core.Path.{◌≡◌, refl, sym, ap, ◌∙◌}
 use mathlib.Core.Logic.{◌↔◌}
 use mathlib.Core.List.{List}
-use mathlib.Core.Option.{Option, none, some}
 use borrow.Author.Tests.{ne_eqb}
 use lib.Dec.{eqb}
 use lib.IntN.{ℤ, pos, negsuc}
@@ -23,17 +22,18 @@ use Rattle.rules.specs.declared.Domain.{Domain}
 use Rattle.rules.specs.declared.Title.{Title}
 use Rattle.rules.proofs.Tests.{no-some}
 use Rattle.rules.proofs.Boundary.Described.{called-described}
+use Rattle.std.specs.Prelude.{None, Option, Some}
 
 -- a description by its kind, for which eleven numbers have 1 and 3, and by its mark, for which they have 0 and 1
 crosses-by : (k : Kind) (there : Bool) (n place span : ℕ) (red green blue : Domain)
-    → let d : Description = record { kind = k; n = n; red = red; green = green; blue = blue; title = record { there = there; place = place; length = span } } in described_in (eleven_of d) ≡ some d
+    → let d : Description = record { kind = k; n = n; red = red; green = green; blue = blue; title = record { there = there; place = place; length = span } } in described_in (eleven_of d) ≡ Some d
 unfolding described_in
 crosses-by OneD true n place span red green blue = refl
 crosses-by OneD false n place span red green blue = refl
 crosses-by ThreeD true n place span red green blue = refl
 crosses-by ThreeD false n place span red green blue = refl
 
-pub crosses : (d : Description) → described_in (eleven_of d) ≡ some d
+pub crosses : (d : Description) → described_in (eleven_of d) ≡ Some d
 crosses d = crosses-by d.kind d.title.there d.n d.title.place d.title.length d.red d.green d.blue
 
 -- and so does its title
@@ -49,39 +49,39 @@ title-crosses d = by d.title.there
 
 -- the kind that a number names
 abbrev pub kind_at : ℤ → Option Kind
-kind_at z = cond (eqb (up z) 1) (some OneD) (cond (eqb (up z) 3) (some ThreeD) none)
+kind_at z = cond (eqb (up z) 1) (Some OneD) (cond (eqb (up z) 3) (Some ThreeD) None)
 
-kind-none : (z : ℤ) → (kind_at z ≡ none) ↔ ((z ≡ pos 1 → ⊥) × (z ≡ pos 3 → ⊥))
+kind-none : (z : ℤ) → (kind_at z ≡ None) ↔ ((z ≡ pos 1 → ⊥) × (z ≡ pos 3 → ⊥))
 kind-none z = (λ e. (λ q. no-some OneD (ap kind_at (sym q) ∙ e), λ q. no-some ThreeD (ap kind_at (sym q) ∙ e)), by z)
   where
-    by : (z : ℤ) → (z ≡ pos 1 → ⊥) × (z ≡ pos 3 → ⊥) → kind_at z ≡ none
+    by : (z : ℤ) → (z ≡ pos 1 → ⊥) × (z ≡ pos 3 → ⊥) → kind_at z ≡ None
     by (pos n) other = rw (ne_eqb n 1 (λ q. other.0 (ap pos q)), ne_eqb n 3 (λ q. other.1 (ap pos q)))
     by (negsuc n) other = refl
 
 module _ (eleven : List ℤ) where
   -- a first number that names a kind gives a description of it, and one that names none gives none
-  pub described-kind : (k : Kind) → kind_in eleven ≡ some k → described_in eleven ≡ some (description_in eleven k)
+  pub described-kind : (k : Kind) → kind_in eleven ≡ Some k → described_in eleven ≡ Some (description_in eleven k)
   unfolding described_in
   described-kind k e = rw e
 
-  pub described-none : kind_in eleven ≡ none → described_in eleven ≡ none
+  pub described-none : kind_in eleven ≡ None → described_in eleven ≡ None
   unfolding described_in
   described-none e = rw e
 
   -- and of that kind alone
-  pub kind-given : (k : Kind) → kind_in eleven ≡ some k → (d : Description) → described_in eleven ≡ some d → d.kind ≡ k
+  pub kind-given : (k : Kind) → kind_in eleven ≡ Some k → (d : Description) → described_in eleven ≡ Some d → d.kind ≡ k
   kind-given k e d described =
-      let same : ◌≡◌ {A = Option Description} (some d) (some (description_in eleven k)) = sym described ∙ described-kind k e in
+      let same : ◌≡◌ {A = Option Description} (Some d) (Some (description_in eleven k)) = sym described ∙ described-kind k e in
       let one : d ≡ description_in eleven k = cc in
       ap (λ x. x.kind) one
 
   -- they give no description exactly where the first is neither 1 nor 3
-  pub no-description : (described_in eleven ≡ none) ↔ ((number_at eleven 0 ≡ pos 1 → ⊥) × (number_at eleven 0 ≡ pos 3 → ⊥))
+  pub no-description : (described_in eleven ≡ None) ↔ ((number_at eleven 0 ≡ pos 1 → ⊥) × (number_at eleven 0 ≡ pos 3 → ⊥))
   no-description = (λ e. (kind-none (number_at eleven 0)).0 (by (kind_in eleven) refl e), λ other. described-none ((kind-none (number_at eleven 0)).1 other))
     where
-      by : (o : Option Kind) → kind_in eleven ≡ o → described_in eleven ≡ none → kind_in eleven ≡ none
-      by none q e = q
-      by (some k) q e = absurd (no-some (description_in eleven k) (sym (described-kind k q) ∙ e))
+      by : (o : Option Kind) → kind_in eleven ≡ o → described_in eleven ≡ None → kind_in eleven ≡ None
+      by None q e = q
+      by (Some k) q e = absurd (no-some (description_in eleven k) (sym (described-kind k q) ∙ e))
 
 -- ---- calls
 

@@ -4,7 +4,6 @@ use Prim.Native.Nat.{ℕ}
 use mathlib.Core.Path.{◌≡◌, refl, sym, ap, ap₂, subst, ◌∙◌}
 use mathlib.Core.Logic.{inl, inr, ◌↔◌}
 use mathlib.Core.List.{List, [], ◌∷◌, map}
-use mathlib.Core.Option.{Option, none, some}
 use native.Mathlib.Omega.{arith}
 use lib.IntN.{ℤ, pos}
 use lib.ListN.{replicate}
@@ -15,14 +14,9 @@ use Rattle.rules.specs.Boundary.{described_in, eleven_of, pixel_in, shares_in, a
 use Rattle.rules.specs.declared.Bits.{Bits}
 use Rattle.rules.specs.declared.Codes.{Codes}
 use Rattle.rules.specs.declared.Depths.{Depths}
-use Rattle.rules.specs.declared.DepthsFound.TheVariants.{Both}
 use Rattle.rules.specs.declared.Description.{Description}
-use Rattle.rules.specs.declared.FirstHalf.{FirstHalf}
-use Rattle.rules.specs.declared.FirstHalf.TheVariants as F
-use Rattle.rules.specs.declared.Look.TheVariants as L
 use Rattle.rules.specs.declared.Refusal.{Refusal}
 use Rattle.rules.specs.declared.Refusal.TheVariants.{CouldNotBeRead}
-use Rattle.rules.specs.declared.SecondHalf.TheVariants as S
 use Rattle.rules.specs.declared.Share.{Share}
 use Rattle.rules.specs.declared.Shares.{Shares}
 use Rattle.rules.proofs.Answers.{refused-not-0, is-finds, is-gives}
@@ -34,6 +28,8 @@ use Rattle.signature.proofs.Looking.FirstRight.{FirstRight, finds-right}
 use Rattle.signature.proofs.Looking.SecondRight.{SecondRight, gives-right}
 use Rattle.signature.proofs.Boundary.Crossing.{call-crosses}
 use Rattle.signature.proofs.Boundary.Reads.{read-accepted, read-bridge}
+use Rattle.std.specs.Prelude.{Err, None, Ok, Option, Some}
+use Rattle.rules.specs.Results.{FirstHalf, look_of}
 
 -- ---- a description that crosses comes to the same call
 
@@ -58,7 +54,7 @@ gives-c-one p q = (p.number_so ∙ sym q.number_so, p.codes_so ∙ sym q.codes_s
 -- what acceptance says: the rows and weights are right
 pub record RowsAccepted (eleven table : List ℤ) (raw : ℕ) (pixel rows' : List ℕ) (weights' : List ℤ) : Type 0 where
   pub d : Description
-  pub described : described_in eleven ≡ some d
+  pub described : described_in eleven ≡ Some d
   pub shares : Shares
   pub rows_so : rows' ≡ map (λ (s : Share). s.row) (shares_of shares)
   pub weights_so : weights' ≡ map (λ (s : Share). s.weight) (shares_of shares)
@@ -76,7 +72,7 @@ module _
         (called-each OfFirst (inr (inr (inr (inl refl)))) (λ d. first-numbers d table raw (pixel_in pixel)) eleven)
 
     -- with a description, each where the first half gives it
-    pub finds-c-exactly : {d : Description} → described_in eleven ≡ some d → (n : ℕ) → (number ≡ n) ↔ FirstGiven d table raw (pixel_in pixel) n
+    pub finds-c-exactly : {d : Description} → described_in eleven ≡ Some d → (n : ℕ) → (number ≡ n) ↔ FirstGiven d table raw (pixel_in pixel) n
     finds-c-exactly {d} described n =
         let e = h.number_so ∙ ap first_number (called-described _ (λ d. first_half d table raw (pixel_in pixel)) eleven described) in
         let exactly = finds-exactly {r = first_half d table raw (pixel_in pixel)} (is-finds refl) n in
@@ -107,7 +103,7 @@ module _
 -- what acceptance says: the codes of these rows and weights are right
 pub record CodesAccepted (eleven table : List ℤ) (bits : Bits) (rows : List ℕ) (weights : List ℤ) (codes' : List ℕ) : Type 0 where
   pub d : Description
-  pub described : described_in eleven ≡ some d
+  pub described : described_in eleven ≡ Some d
   pub codes : Codes
   pub codes_so : codes' ≡ codes_of codes
   pub right : SecondRight d table bits (shares_in rows weights) codes
@@ -115,7 +111,7 @@ pub record CodesAccepted (eleven table : List ℤ) (bits : Bits) (rows : List �
 -- what 26 says: one of its three conditions holds of these rows and weights
 pub record Codes26 (eleven table : List ℤ) (bits : Bits) (rows : List ℕ) (weights : List ℤ) : Type 0 where
   pub d : Description
-  pub described : described_in eleven ≡ some d
+  pub described : described_in eleven ≡ Some d
   pub judged : Judged26 d table bits (shares_in rows weights)
 
 module _
@@ -130,7 +126,7 @@ module _
         (called-each OfSecond (inr (inr (inl refl))) (λ d. second-numbers d table bits (shares_in rows weights)) eleven)
 
     -- with a description, each where the second half gives it
-    pub gives-c-exactly : {d : Description} → described_in eleven ≡ some d → (n : ℕ) → (number ≡ n) ↔ SecondGiven d table bits (shares_in rows weights) n
+    pub gives-c-exactly : {d : Description} → described_in eleven ≡ Some d → (n : ℕ) → (number ≡ n) ↔ SecondGiven d table bits (shares_in rows weights) n
     gives-c-exactly {d} described n =
         let e = h.number_so ∙ ap second_number (called-described _ (λ d. second_half d table bits (shares_in rows weights)) eleven described) in
         let exactly = gives-exactly {r = second_half d table bits (shares_in rows weights)} (is-gives refl) n in
@@ -190,38 +186,38 @@ module _ {file : List ℕ} {table table' eleven' : List ℤ} {line' : ℕ} (h : 
 
 -- ---- one after the other, at known depths
 
-module _ (eleven table : List ℤ) (bits : Bits) (pixel : Codes) (depths : Depths) (known : depths_of bits ≡ Both depths) where
+module _ (eleven table : List ℤ) (bits : Bits) (pixel : Codes) (depths : Depths) (known : depths_of bits ≡ Some depths) where
   -- of eleven numbers too: what the first half refuses look refuses
-  refused-in : {r : Refusal} → first_in eleven table bits.raw pixel ≡ F.Refused r → look_in eleven table bits pixel ≡ L.Refused r
+  refused-in : {r : Refusal} → first_in eleven table bits.raw pixel ≡ Err r → look_in eleven table bits pixel ≡ Err r
   refused-in {r} = by (described_in eleven)
     where
-      by : (o : Option Description) → answered (F.Refused CouldNotBeRead) (λ d. first_half d table bits.raw pixel) o ≡ F.Refused r
-          → answered (L.Refused CouldNotBeRead) (λ d. look d table bits pixel) o ≡ L.Refused r
-      by none e = let same : CouldNotBeRead ≡ r = cc in ap L.Refused same
-      by (some d) e = J.first-refused d table bits pixel depths known e
+      by : (o : Option Description) → answered (Err CouldNotBeRead) (λ d. first_half d table bits.raw pixel) o ≡ Err r
+          → answered (Err CouldNotBeRead) (λ d. look d table bits pixel) o ≡ Err r
+      by None e = let same : CouldNotBeRead ≡ r = cc in ap Err same
+      by (Some d) e = J.first-refused d table bits pixel depths known e
 
   -- and of what it finds the second half gives the codes of look
-  accepted-in : {shares : Shares} → first_in eleven table bits.raw pixel ≡ F.Accepted shares
-      → (codes : Codes) × (second_in eleven table bits shares ≡ S.Accepted codes) × (look_in eleven table bits pixel ≡ L.Accepted codes shares)
+  accepted-in : {shares : Shares} → first_in eleven table bits.raw pixel ≡ Ok shares
+      → (codes : Codes) × (second_in eleven table bits shares ≡ Ok codes) × (look_in eleven table bits pixel ≡ look_of codes shares)
   accepted-in {shares} = by (described_in eleven)
     where
-      by : (o : Option Description) → answered (F.Refused CouldNotBeRead) (λ d. first_half d table bits.raw pixel) o ≡ F.Accepted shares
-          → (codes : Codes) × (answered (S.Refused CouldNotBeRead) (λ d. second_half d table bits shares) o ≡ S.Accepted codes)
-          × (answered (L.Refused CouldNotBeRead) (λ d. look d table bits pixel) o ≡ L.Accepted codes shares)
-      by none e = let z : ◌≡◌ {A = ℕ} 0 1 = cc in absurd (omega arith)
-      by (some d) e = let a = J.first-accepted d table bits pixel depths known e in (a.codes, a.second, a.looked)
+      by : (o : Option Description) → answered (Err CouldNotBeRead) (λ d. first_half d table bits.raw pixel) o ≡ Ok shares
+          → (codes : Codes) × (answered (Err CouldNotBeRead) (λ d. second_half d table bits shares) o ≡ Ok codes)
+          × (answered (Err CouldNotBeRead) (λ d. look d table bits pixel) o ≡ look_of codes shares)
+      by None e = let z : ◌≡◌ {A = ℕ} 0 1 = cc in absurd (omega arith)
+      by (Some d) e = let a = J.first-accepted d table bits pixel depths known e in (a.codes, a.second, a.looked)
 
 module _
     {eleven table : List ℤ} {bits : Bits} {depths : Depths} {pixel : List ℕ} {number : ℕ} {rows' : List ℕ} {weights' : List ℤ}
-    (known : depths_of bits ≡ Both depths) (f : FindsRowsC eleven table bits.raw pixel number rows' weights')
+    (known : depths_of bits ≡ Some depths) (f : FindsRowsC eleven table bits.raw pixel number rows' weights')
   where
     -- where `erythmoda_rows` refuses, its number and zeros, and three zeros for the codes, are what `erythmoda_look` answers
     pub halves-refused-c : (number ≡ 0 → ⊥) → LooksC eleven table bits pixel number (replicate 3 0) rows' weights'
     halves-refused-c not-0 = by (first_in eleven table bits.raw (pixel_in pixel)) refl
       where
         by : (x : FirstHalf) → first_in eleven table bits.raw (pixel_in pixel) ≡ x → LooksC eleven table bits pixel number (replicate 3 0) rows' weights'
-        by (F.Accepted shares) e = absurd (not-0 (f.number_so ∙ ap first_number e))
-        by (F.Refused r) e =
+        by (Ok shares) e = absurd (not-0 (f.number_so ∙ ap first_number e))
+        by (Err r) e =
             let looked = refused-in eleven table bits (pixel_in pixel) depths known e in
             record {
               number_so = f.number_so ∙ ap first_number e ∙ sym (ap look_number looked);
@@ -236,8 +232,8 @@ module _
     halves-joined-c {n} {codes'} z g = by (first_in eleven table bits.raw (pixel_in pixel)) refl
       where
         by : (x : FirstHalf) → first_in eleven table bits.raw (pixel_in pixel) ≡ x → (n ≡ 0) × LooksC eleven table bits pixel n codes' rows' weights'
-        by (F.Refused r) e = absurd (refused-not-0 r (sym (f.number_so ∙ ap first_number e) ∙ z))
-        by (F.Accepted shares) e =
+        by (Err r) e = absurd (refused-not-0 r (sym (f.number_so ∙ ap first_number e) ∙ z))
+        by (Ok shares) e =
             let (codes, second, looked) = accepted-in eleven table bits (pixel_in pixel) depths known e in
             let rows_so = f.rows_so ∙ ap first_rows e in
             let weights_so = f.weights_so ∙ ap first_weights e in

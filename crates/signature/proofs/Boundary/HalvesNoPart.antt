@@ -4,7 +4,6 @@ use Prim.Native.Nat.{ℕ, ◌*◌, ◌<◌}
 use mathlib.Core.Path.{◌≡◌, sym, ap, ◌∙◌}
 use mathlib.Core.Bool.{true}
 use mathlib.Core.List.{List}
-use mathlib.Core.Option.{some}
 use native.Mathlib.Omega.{arith}
 use lib.IntN.{ℤ, pos}
 use lib.ListN.{take, get_or}
@@ -19,11 +18,12 @@ use Rattle.rules.specs.declared.Kind.TheVariants.{ThreeD}
 use Rattle.signature.proofs.Looking.HalvesNoPart.{SameFour, samples-no-part, last-two-no-part, later_first, later_second}
 use Rattle.signature.proofs.Boundary.Crossing.{kind_at, kind-given}
 use Rattle.signature.proofs.Boundary.NoPart.{same-of-both}
+use Rattle.std.specs.Prelude.{Some}
 
 -- ---- what keeps the promise of one input keeps that of another with the same answer, by the description that eleven numbers give
 
 same-finds-c : {eleven table table₂ : List ℤ} {raw : ℕ} {pixel : List ℕ} {number : ℕ} {rows' : List ℕ} {weights' : List ℤ}
-    → ((d : Description) → described_in eleven ≡ some d → first_half d table raw (pixel_in pixel) ≡ first_half d table₂ raw (pixel_in pixel))
+    → ((d : Description) → described_in eleven ≡ Some d → first_half d table raw (pixel_in pixel) ≡ first_half d table₂ raw (pixel_in pixel))
     → FindsRowsC eleven table raw pixel number rows' weights' → FindsRowsC eleven table₂ raw pixel number rows' weights'
 same-finds-c {eleven} {table} {table₂} {raw} {pixel} so h =
     let same : first_in eleven table raw (pixel_in pixel) ≡ first_in eleven table₂ raw (pixel_in pixel)
@@ -31,7 +31,7 @@ same-finds-c {eleven} {table} {table₂} {raw} {pixel} so h =
     record { number_so = h.number_so ∙ ap first_number same; rows_so = h.rows_so ∙ ap first_rows same; weights_so = h.weights_so ∙ ap first_weights same }
 
 same-gives-c : {eleven table table₂ : List ℤ} {bits : Bits} {rows rows₂ : List ℕ} {weights weights₂ : List ℤ} {number : ℕ} {codes' : List ℕ}
-    → ((d : Description) → described_in eleven ≡ some d → second_half d table bits (shares_in rows weights) ≡ second_half d table₂ bits (shares_in rows₂ weights₂))
+    → ((d : Description) → described_in eleven ≡ Some d → second_half d table bits (shares_in rows weights) ≡ second_half d table₂ bits (shares_in rows₂ weights₂))
     → GivesCodesC eleven table bits rows weights number codes' → GivesCodesC eleven table₂ bits rows₂ weights₂ number codes'
 same-gives-c {eleven} {table} {table₂} {bits} {rows} {rows₂} {weights} {weights₂} so h =
     let same : second_in eleven table bits (shares_in rows weights) ≡ second_in eleven table₂ bits (shares_in rows₂ weights₂)
@@ -42,18 +42,18 @@ same-gives-c {eleven} {table} {table₂} {bits} {rows} {rows₂} {weights} {weig
 
 -- any two that could be read
 pub samples-no-part-c : {eleven table table₂ : List ℤ} {raw : ℕ} {pixel : List ℕ} {number : ℕ} {rows' : List ℕ} {weights' : List ℤ}
-    → ((d : Description) → described_in eleven ≡ some d → (could_be_read d table ≡ true) × (could_be_read d table₂ ≡ true))
+    → ((d : Description) → described_in eleven ≡ Some d → (could_be_read d table ≡ true) × (could_be_read d table₂ ≡ true))
     → FindsRowsC eleven table raw pixel number rows' weights' → FindsRowsC eleven table₂ raw pixel number rows' weights'
 samples-no-part-c {eleven} {table} {table₂} {raw} {pixel} both = same-finds-c (λ d e. samples-no-part d table table₂ (both d e).0 (both d e).1 raw (pixel_in pixel))
 
 -- places past 3·rows
 pub later-first-c : {eleven table table₂ : List ℤ} {raw : ℕ} {pixel : List ℕ} {number : ℕ} {rows' : List ℕ} {weights' : List ℤ}
-    → ((d : Description) → described_in eleven ≡ some d → take (3 * rows d) table ≡ take (3 * rows d) table₂)
+    → ((d : Description) → described_in eleven ≡ Some d → take (3 * rows d) table ≡ take (3 * rows d) table₂)
     → FindsRowsC eleven table raw pixel number rows' weights' → FindsRowsC eleven table₂ raw pixel number rows' weights'
 later-first-c {eleven} {table} {table₂} {raw} {pixel} same = same-finds-c (λ d e. later_first d table table₂ (same d e) raw (pixel_in pixel))
 
 pub later-second-c : {eleven table table₂ : List ℤ} {bits : Bits} {numbers : List ℕ} {weights : List ℤ} {number : ℕ} {codes' : List ℕ}
-    → ((d : Description) → described_in eleven ≡ some d → take (3 * rows d) table ≡ take (3 * rows d) table₂)
+    → ((d : Description) → described_in eleven ≡ Some d → take (3 * rows d) table ≡ take (3 * rows d) table₂)
     → GivesCodesC eleven table bits numbers weights number codes' → GivesCodesC eleven table₂ bits numbers weights number codes'
 later-second-c {eleven} {table} {table₂} {bits} {numbers} {weights} same = same-gives-c (λ d e. later_second d table table₂ (same d e) bits (shares_in numbers weights))
 

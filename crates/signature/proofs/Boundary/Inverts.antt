@@ -4,7 +4,6 @@ use Prim.Native.Nat.{ℕ, zero, suc, ◌+◌, ◌≤◌, ◌<◌}
 use mathlib.Core.Path.{◌≡◌, refl, sym, ap, subst, ◌∙◌}
 use mathlib.Core.Logic.{inl, inr, ◌↔◌}
 use mathlib.Core.List.{List, [], ◌∷◌}
-use mathlib.Core.Option.{Option, none, some}
 use borrow.Author.Tests.{ne_eqb}
 use native.Mathlib.Omega.{arith}
 use lib.IntN.{ℤ, pos}
@@ -18,10 +17,7 @@ use Rattle.rules.specs.declared.Bits.{Bits}
 use Rattle.rules.specs.declared.Colour.{Colour}
 use Rattle.rules.specs.declared.Colour.TheVariants.{Red, Green, Blue}
 use Rattle.rules.specs.declared.Depths.{Depths}
-use Rattle.rules.specs.declared.DepthsFound.TheVariants.{Both}
 use Rattle.rules.specs.declared.Description.{Description}
-use Rattle.rules.specs.declared.Inverse.{Inverse}
-use Rattle.rules.specs.declared.Inverse.TheVariants as I
 use Rattle.rules.specs.declared.Kind.TheVariants.{OneD}
 use Rattle.rules.specs.declared.Refusal.TheVariants.{CouldNotBeRead}
 use Rattle.rules.proofs.KnownDepths.{depths-bounds}
@@ -33,19 +29,21 @@ use Rattle.rules.proofs.Inverting.Right.{InversePassed, ReachedIn, InverseGiven,
 use Rattle.signature.proofs.Inverting.Numbers.{NumberGiven, given-28, inverts-exactly, inverts-numbers, inverts-not-24, count-28, count-before, refused-code}
 use Rattle.signature.proofs.Boundary.Crossing.{kind_at, kind-given, call-crosses}
 use Rattle.signature.proofs.Boundary.Reads.{ReadAccepted, read-accepted, read-bridge}
+use Rattle.std.specs.Prelude.{Err, None, Ok, Option, Some}
+use Rattle.rules.specs.Results.{Inverse, inverse_of, no_inverse}
 
 -- ---- a colour as a number
 
-pub colour-crosses : (c : Colour) → colour_in (colour_place c) ≡ some c
+pub colour-crosses : (c : Colour) → colour_in (colour_place c) ≡ Some c
 colour-crosses Red = refl
 colour-crosses Green = refl
 colour-crosses Blue = refl
 
 -- anything above 2 is no colour, and nothing else is none
-pub no-colour : (n : ℕ) → (colour_in n ≡ none) ↔ (2 < n)
+pub no-colour : (n : ℕ) → (colour_in n ≡ None) ↔ (2 < n)
 no-colour n = (above n, λ h. rw (ne_eqb n 0 (λ e. omega (arith, h, e)), ne_eqb n 1 (λ e. omega (arith, h, e)), ne_eqb n 2 (λ e. omega (arith, h, e))))
   where
-    above : (n : ℕ) → colour_in n ≡ none → 2 < n
+    above : (n : ℕ) → colour_in n ≡ None → 2 < n
     above zero e = absurd (no-some Red e)
     above (suc zero) e = absurd (no-some Green e)
     above (suc (suc zero)) e = absurd (no-some Blue e)
@@ -63,24 +61,24 @@ inverse-crosses d table bits c wanted tolerance =
 -- the description and the colour that the numbers give
 pub record Aimed (eleven : List ℤ) (colour : ℕ) : Type 0 where
   pub d : Description
-  pub described : described_in eleven ≡ some d
+  pub described : described_in eleven ≡ Some d
   pub c : Colour
-  pub coloured : colour_in colour ≡ some c
+  pub coloured : colour_in colour ≡ Some c
 
 module _ (eleven table : List ℤ) (bits : Bits) (colour wanted tolerance : ℕ) where
   abbrev answer : Inverse
   answer = inverse_in eleven table bits colour wanted tolerance
 
   abbrev unread : Inverse
-  unread = I.Refused CouldNotBeRead 0
+  unread = no_inverse CouldNotBeRead 0
 
   -- with a description and a colour it is the inverse of these
-  inverse-aimed : {d : Description} {c : Colour} → described_in eleven ≡ some d → colour_in colour ≡ some c → answer ≡ inverse d table bits (aim_at c wanted tolerance)
+  inverse-aimed : {d : Description} {c : Colour} → described_in eleven ≡ Some d → colour_in colour ≡ Some c → answer ≡ inverse d table bits (aim_at c wanted tolerance)
   inverse-aimed {d} described coloured =
       called-described _ (λ d. inverse_for d table bits wanted tolerance (colour_in colour)) eleven described ∙ ap (inverse_for d table bits wanted tolerance) coloured
 
   -- without either it is 24
-  inverse-undescribed : described_in eleven ≡ none → answer ≡ unread
+  inverse-undescribed : described_in eleven ≡ None → answer ≡ unread
   inverse-undescribed e = called-none _ (λ d. inverse_for d table bits wanted tolerance (colour_in colour)) eleven e
 
   inverse-uncoloured : 2 < colour → answer ≡ unread
@@ -91,8 +89,8 @@ module _ (eleven table : List ℤ) (bits : Bits) (colour wanted tolerance : ℕ)
   inverse-each P r each = called-each P r (λ d. by d (colour_in colour)) eleven
     where
       by : (d : Description) (o : Option Colour) → P (inverse_for d table bits wanted tolerance o)
-      by d none = r
-      by d (some c) = each d (aim_at c wanted tolerance)
+      by d None = r
+      by d (Some c) = each d (aim_at c wanted tolerance)
 
   -- and where something holds of the call and not of that refusal, a description and a colour were given
   aimed : (Fine : Inverse → Type 0) → (Fine unread → ⊥) → Fine answer → Aimed eleven colour
@@ -102,8 +100,8 @@ module _ (eleven table : List ℤ) (bits : Bits) (colour wanted tolerance : ℕ)
       g = given eleven Fine not-fine fine
 
       by : (o : Option Colour) → colour_in colour ≡ o → Aimed eleven colour
-      by none e = absurd (not-fine (subst Fine (g.answer-so ∙ ap (inverse_for g.d table bits wanted tolerance) e) fine))
-      by (some c) e = record { d = g.d; described = g.described; c = c; coloured = e }
+      by None e = absurd (not-fine (subst Fine (g.answer-so ∙ ap (inverse_for g.d table bits wanted tolerance) e) fine))
+      by (Some c) e = record { d = g.d; described = g.described; c = c; coloured = e }
 
 -- ---- two answers of the call that meet its promise are equal, and so is everything that was lent
 
@@ -152,12 +150,12 @@ module _
     so-answered e = (h.number_so ∙ ap inverse_number e, h.code_so ∙ ap inverse_code e, h.count_so ∙ ap inverse_count e)
 
     -- the call is that of the description that the eleven numbers give, and of the colour: 0 is red, 1 green, 2 blue
-    pub inverts-c-aimed : {d : Description} {c : Colour} → described_in eleven ≡ some d → colour_in colour ≡ some c → let r = inverse d table bits (aim_at c wanted tolerance) in
+    pub inverts-c-aimed : {d : Description} {c : Colour} → described_in eleven ≡ Some d → colour_in colour ≡ Some c → let r = inverse d table bits (aim_at c wanted tolerance) in
         (number ≡ inverse_number r) × (code' ≡ inverse_code r) × (count' ≡ inverse_count r)
     inverts-c-aimed described coloured = so-answered (inverse-aimed eleven table bits colour wanted tolerance described coloured)
 
     -- where they give none, or the number is that of no colour, it is 24 with zeros
-    pub inverts-c-undescribed : described_in eleven ≡ none → (number ≡ 24) × (code' ≡ 0) × (count' ≡ 0)
+    pub inverts-c-undescribed : described_in eleven ≡ None → (number ≡ 24) × (code' ≡ 0) × (count' ≡ 0)
     unfolding refusal_number
     inverts-c-undescribed e = so-answered (inverse-undescribed eleven table bits colour wanted tolerance e)
 
@@ -177,7 +175,7 @@ module _
         kept d aim = is-inverts refl
 
     -- with a description and a colour, each where the inverse gives it
-    pub inverts-c-exactly : {d : Description} {c : Colour} → described_in eleven ≡ some d → colour_in colour ≡ some c → (n : ℕ)
+    pub inverts-c-exactly : {d : Description} {c : Colour} → described_in eleven ≡ Some d → colour_in colour ≡ Some c → (n : ℕ)
         → (number ≡ n) ↔ NumberGiven d table bits (aim_at c wanted tolerance) n
     inverts-c-exactly {d} {c} described coloured n =
         let e = (inverts-c-aimed described coloured).0 in
@@ -209,11 +207,11 @@ module _
         let a = aimed eleven table bits colour wanted tolerance (λ r. inverse_number r ≡ 0) (refused-not-0 CouldNotBeRead) (sym h.number_so ∙ z) in
         let so = inverts-c-aimed a.described a.coloured in
         let accepted = by-its-numbers (inverse a.d table bits (aim_at a.c wanted tolerance)) (sym so.0 ∙ z) in
-        record { aim = a; right = inverse-right (accepted ∙ (λ i. I.Accepted (sym so.1 i) (sym so.2 i))) }
+        record { aim = a; right = inverse-right (accepted ∙ (λ i. inverse_of (sym so.1 i) (sym so.2 i))) }
       where
-        by-its-numbers : (r : Inverse) → inverse_number r ≡ 0 → r ≡ I.Accepted (inverse_code r) (inverse_count r)
-        by-its-numbers (I.Accepted code count) e = refl
-        by-its-numbers (I.Refused reason count) e = absurd (refused-not-0 reason e)
+        by-its-numbers : (r : Inverse) → inverse_number r ≡ 0 → r ≡ inverse_of (inverse_code r) (inverse_count r)
+        by-its-numbers (Ok x) e = refl
+        by-its-numbers (Err x) e = absurd (refused-not-0 x.reason e)
 
     -- 28 exactly where no raw code comes within the tolerance
     pub inverts-c-28 : (number ≡ 28) ↔ Inverse28 eleven table bits colour wanted tolerance
@@ -230,7 +228,7 @@ module _
             by (given-28 p unreached) = record { aim = a; passed = p; none-reached = unreached }
 
     -- and then the count is that of all of them
-    pub inverse-count-28 : number ≡ 28 → (depths : Depths) → depths_of bits ≡ Both depths → count' ≡ raw_m depths + 1
+    pub inverse-count-28 : number ≡ 28 → (depths : Depths) → depths_of bits ≡ Some depths → count' ≡ raw_m depths + 1
     inverse-count-28 z depths known =
         let t = inverts-c-28.0 z in
         let so = inverts-c-aimed t.aim.described t.aim.coloured in
@@ -250,7 +248,7 @@ read-then-inverse {file} {table} {table'} {eleven'} {line'} h one {bits} {colour
     line = kind-given eleven' OneD (ap kind_at one) a.d (read-bridge a).0
 
     by : (o : Option Colour) → colour_in colour ≡ o → ⊥
-    by none c = omega (arith, inside, (no-colour colour).0 c)
-    by (some c) coloured =
+    by None c = omega (arith, inside, (no-colour colour).0 c)
+    by (Some c) coloured =
         inverts-not-24 {r = inverse a.d table' bits (aim_at c wanted tolerance)} (is-inverts refl) line (read-bridge a).1
         (sym (inverts-c-aimed v (read-bridge a).0 coloured).0 ∙ e)

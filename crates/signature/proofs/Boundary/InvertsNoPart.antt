@@ -2,7 +2,6 @@
 use Prim.Native.Nat.{ℕ, ◌*◌}
 use mathlib.Core.Path.{◌≡◌, refl, ap, ◌∙◌}
 use mathlib.Core.List.{List}
-use mathlib.Core.Option.{Option, none, some}
 use lib.IntN.{ℤ}
 use lib.ListN.{take}
 use Rattle.rules.specs.Descriptions.{rows}
@@ -13,16 +12,17 @@ use Rattle.rules.specs.declared.Colour.{Colour}
 use Rattle.rules.specs.declared.Description.{Description}
 use Rattle.signature.proofs.Inverting.SameLines.{later-inverse}
 use Rattle.signature.proofs.Boundary.NoPart.{same-of-both}
+use Rattle.std.specs.Prelude.{None, Option, Some}
 
 pub later-inverse-c : {eleven table table₂ : List ℤ} {bits : Bits} {colour wanted tolerance number code' count' : ℕ}
-    → ((d : Description) → described_in eleven ≡ some d → take (3 * rows d) table ≡ take (3 * rows d) table₂)
+    → ((d : Description) → described_in eleven ≡ Some d → take (3 * rows d) table ≡ take (3 * rows d) table₂)
     → InvertsC eleven table bits colour wanted tolerance number code' count' → InvertsC eleven table₂ bits colour wanted tolerance number code' count'
 later-inverse-c {eleven} {table} {table₂} {bits} {colour} {wanted} {tolerance} same h =
     record { number_so = h.number_so ∙ ap inverse_number alike; code_so = h.code_so ∙ ap inverse_code alike; count_so = h.count_so ∙ ap inverse_count alike }
   where
-    by : (d : Description) → described_in eleven ≡ some d → (o : Option Colour) → inverse_for d table bits wanted tolerance o ≡ inverse_for d table₂ bits wanted tolerance o
-    by d e none = refl
-    by d e (some c) = later-inverse d table table₂ (same d e) bits (aim_at c wanted tolerance)
+    by : (d : Description) → described_in eleven ≡ Some d → (o : Option Colour) → inverse_for d table bits wanted tolerance o ≡ inverse_for d table₂ bits wanted tolerance o
+    by d e None = refl
+    by d e (Some c) = later-inverse d table table₂ (same d e) bits (aim_at c wanted tolerance)
 
     alike : inverse_in eleven table bits colour wanted tolerance ≡ inverse_in eleven table₂ bits colour wanted tolerance
     alike =

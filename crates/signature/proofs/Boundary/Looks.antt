@@ -2,7 +2,6 @@
 use Prim.Native.Nat.{ℕ}
 use mathlib.Core.Path.{◌≡◌, refl, sym, ap, ◌∙◌}
 use mathlib.Core.List.{List, map}
-use mathlib.Core.Option.{some}
 use lib.IntN.{ℤ, pos}
 use lib.ListN.{replicate}
 use Rattle.rules.specs.Units.{depths_of, raw_m}
@@ -14,10 +13,7 @@ use Rattle.rules.specs.declared.Codes.{Codes}
 use Rattle.rules.specs.declared.Colour.{Colour}
 use Rattle.rules.specs.declared.Bits.{Bits}
 use Rattle.rules.specs.declared.Depths.{Depths}
-use Rattle.rules.specs.declared.DepthsFound.TheVariants.{Both}
 use Rattle.rules.specs.declared.Description.{Description}
-use Rattle.rules.specs.declared.Look.{Look}
-use Rattle.rules.specs.declared.Look.TheVariants as L
 use Rattle.rules.specs.declared.Refusal.TheVariants.{CouldNotBeRead}
 use Rattle.rules.specs.declared.Share.{Share}
 use Rattle.rules.specs.declared.Shares.{Shares}
@@ -26,13 +22,15 @@ use Rattle.rules.proofs.Boundary.Described.{called-described, given}
 use Rattle.rules.proofs.Looking.Demand3.{looks-right}
 use Rattle.signature.specs.Beyond.{AlikePixels}
 use Rattle.signature.proofs.Looking.DomainEnds.{beyond-alike}
+use Rattle.std.specs.Prelude.{Err, Ok, Some}
+use Rattle.rules.specs.Results.{Look}
 
 -- what acceptance says: the codes, rows and weights are right
 pub record LookAccepted (eleven table : List ℤ) (bits : Bits) (pixel codes' rows' : List ℕ) (weights' : List ℤ) : Type 0 where
   pub d : Description
-  pub described : described_in eleven ≡ some d
+  pub described : described_in eleven ≡ Some d
   pub depths : Depths
-  pub known : depths_of bits ≡ Both depths
+  pub known : depths_of bits ≡ Some depths
   pub codes : Codes
   pub shares : Shares
   pub codes_so : codes' ≡ codes_of codes
@@ -50,8 +48,8 @@ module _
       where
         by : (r : Look) → number ≡ look_number r → codes' ≡ look_codes r → rows' ≡ look_rows r → weights' ≡ look_weights r
             → (codes' ≡ replicate 3 0) × (rows' ≡ replicate 6 0) × (weights' ≡ replicate 6 (pos 0))
-        by (L.Accepted c s) n codes rows weights = absurd (not-0 n)
-        by (L.Refused r) n codes rows weights = (codes, rows, weights)
+        by (Ok x) n codes rows weights = absurd (not-0 n)
+        by (Err r) n codes rows weights = (codes, rows, weights)
 
     pub look-accepted : number ≡ 0 → LookAccepted eleven table bits pixel codes' rows' weights'
     look-accepted z =
@@ -73,7 +71,7 @@ module _
 
 -- two pixels within the depth that are alike in each colour have the same number, codes, rows and weights
 pub looks-c-alike : {eleven table v w : List ℤ} {bits : Bits} {d : Description} {depths : Depths} {m n : ℕ} {pixel other a b r s : List ℕ}
-    → described_in eleven ≡ some d → depths_of bits ≡ Both depths → AlikePixels (raw_m depths) d (pixel_in pixel) (pixel_in other)
+    → described_in eleven ≡ Some d → depths_of bits ≡ Some depths → AlikePixels (raw_m depths) d (pixel_in pixel) (pixel_in other)
     → LooksC eleven table bits pixel m a r v → LooksC eleven table bits other n b s w → (m ≡ n) × (a ≡ b) × (r ≡ s) × (v ≡ w)
 looks-c-alike {eleven} {table} {bits = bits} {d} {pixel = pixel} {other} described known alike p q =
     let at : (x : Codes) → look_in eleven table bits x ≡ look d table bits x = λ x. called-described _ (λ d. look d table bits x) eleven described in

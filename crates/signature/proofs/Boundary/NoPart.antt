@@ -5,7 +5,6 @@ use mathlib.Core.Path.{◌≡◌, refl, sym, ap, subst, ◌∙◌}
 use mathlib.Core.Logic.{◌↔◌}
 use mathlib.Core.Bool.{Bool, true, false, not, true≢false}
 use mathlib.Core.List.{List}
-use mathlib.Core.Option.{Option, none, some}
 use native.Mathlib.Omega.{arith}
 use borrow.Author.Tests.{eqb-true, not-false}
 use lib.Dec.{eqb}
@@ -25,6 +24,7 @@ use Rattle.signature.proofs.Untitled.{retitled}
 use Rattle.signature.proofs.Writing.NoPart.{WrittenAlike, later-places, own-title, unmarked}
 use Rattle.signature.proofs.Boundary.Crossing.{described-kind, described-none, kind_at}
 use Rattle.signature.proofs.Boundary.Writes.{by-description}
+use Rattle.std.specs.Prelude.{None, Option, Some}
 
 -- ---- calls that are the same
 
@@ -36,7 +36,7 @@ same-promise answer memory h =
     record { number_so = h.number_so ∙ ap write_number answer; length_so = h.length_so ∙ ap written_length answer; memory = h.memory ∙ memory }
 
 -- two calls that are the same of the description that eleven numbers give
-pub same-of-both : (eleven : List ℤ) {A : Type 0} (refusal : A) (call call₂ : Description → A) → ((d : Description) → described_in eleven ≡ some d → call d ≡ call₂ d)
+pub same-of-both : (eleven : List ℤ) {A : Type 0} (refusal : A) (call call₂ : Description → A) → ((d : Description) → described_in eleven ≡ Some d → call d ≡ call₂ d)
     → called refusal call eleven ≡ called refusal call₂ eleven
 same-of-both eleven refusal call call₂ so =
     by-description eleven (λ e. called-none refusal call eleven e ∙ sym (called-none refusal call₂ eleven e))
@@ -44,7 +44,7 @@ same-of-both eleven refusal call call₂ so =
 
 -- another table or title that is written alike, by that description
 alike-promised-c : {eleven table table₂ : List ℤ} {title words out out' : List ℕ} {number length' : ℕ}
-    → ((d : Description) → described_in eleven ≡ some d → WrittenAlike d table title d table₂ words)
+    → ((d : Description) → described_in eleven ≡ Some d → WrittenAlike d table title d table₂ words)
     → WritesC eleven table title out number out' length' → WritesC eleven table₂ words out number out' length'
 alike-promised-c {eleven} {table} {table₂} {title} {words} {out} alike =
     same-promise (same-of-both eleven _ (λ d. write d table title (length out)) (λ d. write d table₂ words (length out)) (λ d e. (alike d e).answer (length out)))
@@ -62,16 +62,16 @@ mark-number z = (by z, λ e. ap (λ y. not (eqb (nat_abs y) 0)) e)
     by (negsuc n) e = let z : suc n ≡ 0 = eqb-true (suc n) 0 (not-false (eqb (suc n) 0) e) in absurd (omega arith)
 
 abbrev title_given : Option Description → Title
-title_given none = no_title
-title_given (some d) = d.title
+title_given None = no_title
+title_given (Some d) = d.title
 
 -- the mark is set exactly where place 8 is not 0
-pub mark-described : (eleven : List ℤ) (d : Description) → described_in eleven ≡ some d → (d.title.there ≡ false) ↔ (number_at eleven 8 ≡ pos 0)
+pub mark-described : (eleven : List ℤ) (d : Description) → described_in eleven ≡ Some d → (d.title.there ≡ false) ↔ (number_at eleven 8 ≡ pos 0)
 mark-described eleven d e = subst (λ (t : Title). (t.there ≡ false) ↔ (number_at eleven 8 ≡ pos 0)) (by (kind_in eleven) refl) (mark-number (number_at eleven 8))
   where
     by : (o : Option Kind) → kind_in eleven ≡ o → title_at eleven ≡ d.title
-    by none q = absurd (no-some d (sym e ∙ described-none eleven q))
-    by (some k) q = ap title_given (sym (described-kind eleven k q) ∙ e)
+    by None q = absurd (no-some d (sym e ∙ described-none eleven q))
+    by (Some k) q = ap title_given (sym (described-kind eleven k q) ∙ e)
 
 -- where it is 0 the title's bytes are neither written nor judged
 pub unmarked-c : {eleven table : List ℤ} {title out out' : List ℕ} {number length' : ℕ} → number_at eleven 8 ≡ pos 0 → (words : List ℕ)
@@ -80,7 +80,7 @@ unmarked-c {eleven} {table} {title} mark words = alike-promised-c (λ d e. unmar
 
 -- table places past 3·rows play no part
 pub later-places-c : {eleven table table₂ : List ℤ} {title out out' : List ℕ} {number length' : ℕ}
-    → ((d : Description) → described_in eleven ≡ some d → take (3 * rows d) table ≡ take (3 * rows d) table₂)
+    → ((d : Description) → described_in eleven ≡ Some d → take (3 * rows d) table ≡ take (3 * rows d) table₂)
     → WritesC eleven table title out number out' length' → WritesC eleven table₂ title out number out' length'
 later-places-c {eleven} {table} {table₂} {title} same = alike-promised-c (λ d e. later-places d table title table₂ (same d e))
 
@@ -127,8 +127,8 @@ module _ {eleven other : List ℤ} (same : SameMarked eleven other) where
     same-call {A} refusal call so = by (kind_in eleven) refl
       where
         by : (o : Option Kind) → kind_in eleven ≡ o → called refusal call eleven ≡ called refusal call other
-        by none q = called-none refusal call eleven (described-none eleven q) ∙ sym (called-none refusal call other (described-none other (same_kind ∙ q)))
-        by (some k) q =
+        by None q = called-none refusal call eleven (described-none eleven q) ∙ sym (called-none refusal call other (described-none other (same_kind ∙ q)))
+        by (Some k) q =
             called-described refusal call eleven (described-kind eleven k q)
             ∙ sym (so k)
             ∙ sym (called-described refusal call other (described-kind other k (same_kind ∙ q)))

@@ -2,7 +2,6 @@
 use Prim.Native.Nat.{ℕ}
 use mathlib.Core.Path.{◌≡◌, refl, sym, ap, ◌∙◌}
 use mathlib.Core.List.{List}
-use mathlib.Core.Option.{Option, none, some}
 use lib.IntN.{ℤ}
 use lib.ListN.{length}
 use Rattle.rules.specs.Picturing.{picture, output_after}
@@ -11,25 +10,25 @@ use Rattle.rules.specs.Boundary.{described_in, output_in, PicturesC}
 use Rattle.rules.specs.Demands.{RightPicture}
 use Rattle.rules.specs.declared.Bits.{Bits}
 use Rattle.rules.specs.declared.Description.{Description}
-use Rattle.rules.specs.declared.Picture.{Picture}
-use Rattle.rules.specs.declared.Picture.TheVariants as P
 use Rattle.rules.specs.declared.Refusal.TheVariants.{CouldNotBeRead}
 use Rattle.rules.proofs.Answers.{refused-not-0, is-pictures}
 use Rattle.rules.proofs.Boundary.Described.{called-described, called-none, given}
 use Rattle.signature.proofs.Picturing.Promised.{pictures-right}
+use Rattle.std.specs.Prelude.{Err, None, Ok, Option, Some}
+use Rattle.rules.specs.Results.{Picture}
 
 -- what acceptance says: the eleven numbers describe a table, and the picture is right by it
 pub record PictureAccepted (eleven table : List ℤ) (bits : Bits) (src dst dst' : List ℕ) : Type 0 where
   pub d : Description
-  pub described : described_in eleven ≡ some d
+  pub described : described_in eleven ≡ Some d
   pub picture-right : RightPicture d table bits src dst dst'
 
-pub accepted-by : (r : Picture) → picture_number r ≡ 0 → r ≡ P.Accepted
-accepted-by P.Accepted z = refl
-accepted-by (P.Refused r) z = absurd (refused-not-0 r z)
+pub accepted-by : (r : Picture) → picture_number r ≡ 0 → r ≡ (Ok tt)
+accepted-by (Ok _) z = refl
+accepted-by (Err r) z = absurd (refused-not-0 r z)
 
 -- the output of eleven numbers is that of their description, where they give one
-pub output-given : (eleven table : List ℤ) (bits : Bits) (src dst : List ℕ) (d : Description) → described_in eleven ≡ some d
+pub output-given : (eleven table : List ℤ) (bits : Bits) (src dst : List ℕ) (d : Description) → described_in eleven ≡ Some d
     → output_in eleven table bits src dst ≡ output_after d table bits src dst (picture d table bits src (length dst))
 output-given eleven table bits src dst d e = called-described dst (λ d. output_after d table bits src dst (picture d table bits src (length dst))) eleven e
 
@@ -40,12 +39,12 @@ module _ {eleven table : List ℤ} {bits : Bits} {src dst : List ℕ} {number : 
   picture-refused not-0 = by (described_in eleven) refl
     where
       left : (d : Description) (r : Picture) → number ≡ picture_number r → output_after d table bits src dst r ≡ dst
-      left d P.Accepted e = absurd (not-0 e)
-      left d (P.Refused r) e = refl
+      left d (Ok _) e = absurd (not-0 e)
+      left d (Err r) e = refl
 
       by : (o : Option Description) → described_in eleven ≡ o → dst' ≡ dst
-      by none e = h.memory ∙ called-none dst (λ d. output_after d table bits src dst (picture d table bits src (length dst))) eleven e
-      by (some d) e =
+      by None e = h.memory ∙ called-none dst (λ d. output_after d table bits src dst (picture d table bits src (length dst))) eleven e
+      by (Some d) e =
           h.memory ∙ output-given eleven table bits src dst d e
           ∙ left d (picture d table bits src (length dst)) (h.number_so ∙ ap picture_number (called-described _ (λ d. picture d table bits src (length dst)) eleven e))
 

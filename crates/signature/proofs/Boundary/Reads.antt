@@ -4,7 +4,6 @@ use mathlib.Core.Path.{◌≡◌, refl, sym, ap, ◌∙◌}
 use mathlib.Core.Bool.{true, false}
 use mathlib.Core.Logic.{◌↔◌}
 use mathlib.Core.List.{List, ◌∷◌}
-use mathlib.Core.Option.{some}
 use lib.IntN.{ℤ, pos}
 use lib.ListN.{length, replicate}
 use Rattle.rules.specs.Descriptions.{could_be_read}
@@ -15,8 +14,6 @@ use Rattle.rules.specs.Promises.{Reads}
 use Rattle.rules.specs.Boundary.{eleven_of, described_in, ReadsC}
 use Rattle.rules.specs.Demands.{Kept}
 use Rattle.rules.specs.declared.Description.{Description}
-use Rattle.rules.specs.declared.Read.{Read}
-use Rattle.rules.specs.declared.Read.TheVariants as R
 use Rattle.rules.specs.declared.Refusal.{Refusal}
 use Rattle.rules.proofs.Reading.Acceptance.{keeps-accepted}
 use Rattle.rules.proofs.Answers.{refused-not-0, reads-is, is-reads}
@@ -29,6 +26,8 @@ use Rattle.signature.proofs.Boundary.Crossing.{crosses}
 use Rattle.signature.specs.HalfDomains.{HalfAt}
 use Rattle.signature.specs.MixedDomains.{DifferAt}
 use Rattle.signature.specs.Order.{FailsFirst}
+use Rattle.std.specs.Prelude.{Err, Ok, Some}
+use Rattle.rules.specs.Results.{Read}
 
 -- a reading with its answer laid out as numbers
 pub record ReadLaid (file : List ℕ) (table : List ℤ) (number : ℕ) (table' eleven' : List ℤ) (line' : ℕ) : Type 0 where
@@ -73,16 +72,16 @@ module _ {file : List ℕ} {table table' eleven' : List ℤ} {number line' : ℕ
   read-refused not-0 = by laid.answer laid.reads laid.number_so laid.eleven-so
     where
       by : (r : Read) → Reads file table r table' → number ≡ read_number r → eleven' ≡ eleven_of (read_description r) → (table' ≡ table) × (eleven' ≡ pos 1 ∷ replicate 10 (pos 0))
-      by (R.Accepted d) reads e v = absurd (not-0 e)
-      by (R.Refused reason n) reads e v = (refused-unchanged reads, v)
+      by (Ok d) reads e v = absurd (not-0 e)
+      by (Err x) reads e v = (refused-unchanged reads, v)
 
   pub read-accepted : number ≡ 0 → ReadAccepted file table table' eleven' line'
   read-accepted z = by laid.answer laid.reads laid.number_so laid.eleven-so laid.line_so
     where
       by : (r : Read) → Reads file table r table' → number ≡ read_number r → eleven' ≡ eleven_of (read_description r) → line' ≡ read_line r
           → ReadAccepted file table table' eleven' line'
-      by (R.Accepted d) reads e v n = record { d = d; kept = reads-accepted.0 reads; eleven-so = v; line_so = n }
-      by (R.Refused reason n) reads e v m = absurd (refused-not-0 reason (sym e ∙ z))
+      by (Ok d) reads e v n = record { d = d; kept = reads-accepted.0 reads; eleven-so = v; line_so = n }
+      by (Err x) reads e v m = absurd (refused-not-0 x.reason (sym e ∙ z))
 
   -- every file that keeps the specification is accepted
   pub read_keeps : (d : Description) (samples : List ℤ) → Keeps file (length table) d samples → number ≡ 0
@@ -105,5 +104,5 @@ reads-c-differ {file} {table} h n = numbers-differ (length table) file n h.numbe
 
 -- what acceptance wrote gives the description back, and is not 24
 pub read-bridge : {file : List ℕ} {table table' eleven' : List ℤ} {line' : ℕ} (a : ReadAccepted file table table' eleven' line')
-    → (described_in eleven' ≡ some a.d) × (could_be_read a.d table' ≡ true)
+    → (described_in eleven' ≡ Some a.d) × (could_be_read a.d table' ≡ true)
 read-bridge a = (ap described_in a.eleven-so ∙ crosses a.d, reads-bridge (reads-accepted.1 a.kept))

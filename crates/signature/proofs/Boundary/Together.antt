@@ -5,7 +5,6 @@ use mathlib.Core.Path.{◌≡◌, refl, sym, ap, ◌∙◌}
 use mathlib.Core.Bool.{true, true≢false}
 use mathlib.Core.Logic.{inl, inr}
 use mathlib.Core.List.{List, [], ◌∷◌, ◌++◌}
-use mathlib.Core.Option.{some}
 use native.Mathlib.Omega.{arith}
 use lib.IntN.{ℤ}
 use lib.ListN.{length, drop, get_or, get_or-append}
@@ -21,9 +20,6 @@ use Rattle.rules.specs.declared.Bits.{Bits}
 use Rattle.rules.specs.declared.Colour.{Colour}
 use Rattle.rules.specs.declared.Depths.{Depths}
 use Rattle.rules.specs.declared.Description.{Description}
-use Rattle.rules.specs.declared.DepthsFound.TheVariants.{Both}
-use Rattle.rules.specs.declared.Look.TheVariants as L
-use Rattle.rules.specs.declared.Picture.TheVariants as P
 use Rattle.rules.proofs.Colours.{place-below, code-at-place}
 use Rattle.rules.proofs.Looking.Checks.{look-0}
 use Rattle.rules.proofs.Picturing.Checks.{within_all, picture-0}
@@ -39,9 +35,11 @@ use Rattle.signature.proofs.Boundary.Writes.{write-laid}
 use Rattle.signature.proofs.Boundary.Reads.{read-accepted, read-bridge}
 use Rattle.signature.proofs.Boundary.Looks.{LookAccepted, look-accepted}
 use Rattle.signature.proofs.Boundary.Pictures.{PictureAccepted, accepted-by, output-given, picture-accepted}
+use Rattle.std.specs.Prelude.{Ok, Some}
+use Rattle.rules.specs.Results.{look_of}
 
 module _ {file : List ℕ} {table table' eleven' : List ℤ} {line' : ℕ} (h : ReadsC file table 0 table' eleven' line') where
-  abbrev bridged : (described_in eleven' ≡ some (read-accepted h refl).d) × (could_be_read (read-accepted h refl).d table' ≡ true)
+  abbrev bridged : (described_in eleven' ≡ Some (read-accepted h refl).d) × (could_be_read (read-accepted h refl).d table' ≡ true)
   bridged = read-bridge (read-accepted h refl)
 
   pub read-then-look : {bits : Bits} {pixel : List ℕ} {number : ℕ} {codes' rows' : List ℕ} {weights' : List ℤ}
@@ -77,7 +75,7 @@ module _ {file : List ℕ} {table table' eleven' : List ℤ} {line' : ℕ} (h : 
 
   -- ---- demand 3 in one piece
 
-  module _ {bits : Bits} {depths : Depths} (known : depths_of bits ≡ Both depths) where
+  module _ {bits : Bits} {depths : Depths} (known : depths_of bits ≡ Some depths) where
     pub read-then-look-right : {pixel : List ℕ} {number : ℕ} {codes' rows' : List ℕ} {weights' : List ℤ} → within (raw_m depths) (pixel_in pixel) ≡ true
         → LooksC eleven' table' bits pixel number codes' rows' weights' → (number ≡ 0) × LookAccepted eleven' table' bits pixel codes' rows' weights'
     read-then-look-right {pixel} inside l =
@@ -102,13 +100,13 @@ module _
     abbrev a : PictureAccepted eleven table bits src dst dst'
     a = picture-accepted p refl
 
-    accepted : picture a.d table bits src (length dst) ≡ P.Accepted
+    accepted : picture a.d table bits src (length dst) ≡ (Ok tt)
     accepted = accepted-by _ (sym (p.number_so ∙ ap picture_number (called-described _ (λ d. picture d table bits src (length dst)) eleven a.described)))
 
     q : PictureCodes a.d table bits src
     q = picture-codes a.d table bits src (length dst) accepted
 
-    looked : look_in eleven table bits (pixel_in pixel) ≡ L.Accepted (correct a.d table q.depths (pixel_at src k)) (shown a.d (raw_m q.depths) (pixel_at src k) a.d.kind)
+    looked : look_in eleven table bits (pixel_in pixel) ≡ look_of (correct a.d table q.depths (pixel_at src k)) (shown a.d (raw_m q.depths) (pixel_at src k) a.d.kind)
     looked = called-described _ (λ d. look d table bits (pixel_in pixel)) eleven a.described ∙ ap (look a.d table bits) same ∙ q.accepts k inside
 
     output : dst' ≡ corrected a.d table bits src ++ drop (length src) dst

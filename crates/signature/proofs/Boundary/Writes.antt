@@ -4,7 +4,6 @@ use Prim.Native.Nat.{ℕ, ◌*◌, ◌≤◌}
 use mathlib.Core.Path.{◌≡◌, refl, sym, ap, ap₂, subst, ◌∙◌}
 use mathlib.Core.Logic.{◌↔◌}
 use mathlib.Core.List.{List, ◌++◌}
-use mathlib.Core.Option.{Option, none, some}
 use native.Mathlib.Omega.{arith}
 use lib.IntN.{ℤ}
 use lib.ListN.{length, take, drop}
@@ -14,8 +13,6 @@ use Rattle.rules.specs.Answers.{read_description, read_line, read_number, refusa
 use Rattle.rules.specs.Promises.{Reads, Writes}
 use Rattle.rules.specs.Boundary.{described_in, eleven_of, title_at, ReadsC, WritesC}
 use Rattle.rules.specs.declared.Description.{Description}
-use Rattle.rules.specs.declared.Read.TheVariants as R
-use Rattle.rules.specs.declared.Write.{Write}
 use Rattle.rules.proofs.Answers.{is-writes}
 use Rattle.rules.proofs.Boundary.Described.{called-described, called-none}
 use Rattle.signature.proofs.Writing.Numbers.{WriteGiven, Wrote, writes-exactly}
@@ -23,16 +20,18 @@ use Rattle.signature.proofs.Writing.Promised.{all-passed, as_long, later-kept, l
 use Rattle.signature.proofs.Writing.RoundTrip.{reads-written, writes_again}
 use Rattle.signature.proofs.Boundary.Crossing.{crosses, title-crosses}
 use Rattle.signature.proofs.Boundary.Reads.{ReadLaid, read-laid}
+use Rattle.std.specs.Prelude.{None, Ok, Option, Some}
+use Rattle.rules.specs.Results.{Write}
 
 -- ---- the call of eleven numbers by the description that they give
 
 -- they give one, or none
-pub by-description : (eleven : List ℤ) {A : Type 0} → (described_in eleven ≡ none → A) → ((d : Description) → described_in eleven ≡ some d → A) → A
+pub by-description : (eleven : List ℤ) {A : Type 0} → (described_in eleven ≡ None → A) → ((d : Description) → described_in eleven ≡ Some d → A) → A
 by-description eleven {A} f g = by (described_in eleven) refl
   where
     by : (o : Option Description) → described_in eleven ≡ o → A
-    by none e = f e
-    by (some d) e = g d e
+    by None e = f e
+    by (Some d) e = g d e
 
 -- a write with its answer laid out as numbers
 pub record WriteLaid (d : Description) (table : List ℤ) (title out : List ℕ) (number : ℕ) (out' : List ℕ) (length' : ℕ) : Type 0 where
@@ -43,7 +42,7 @@ pub record WriteLaid (d : Description) (table : List ℤ) (title out : List ℕ)
 
 module _ {eleven table : List ℤ} {title out : List ℕ} {number : ℕ} {out' : List ℕ} {length' : ℕ} (h : WritesC eleven table title out number out' length') where
   -- the call is a write of that description
-  pub write-laid : {d : Description} → described_in eleven ≡ some d → WriteLaid d table title out number out' length'
+  pub write-laid : {d : Description} → described_in eleven ≡ Some d → WriteLaid d table title out number out' length'
   write-laid {d} e =
       let so = called-described _ (λ d. write d table title (length out)) eleven e in
       record {
@@ -54,7 +53,7 @@ module _ {eleven table : List ℤ} {title out : List ℕ} {number : ℕ} {out' :
       }
 
   -- eleven numbers that give no description: 24, length 0, and the bytes as they were
-  pub write-undescribed : described_in eleven ≡ none → (number ≡ 24) × (length' ≡ 0) × (out' ≡ out)
+  pub write-undescribed : described_in eleven ≡ None → (number ≡ 24) × (length' ≡ 0) × (out' ≡ out)
   unfolding refusal_number
   write-undescribed e =
       let so = called-none _ (λ d. write d table title (length out)) eleven e in (
@@ -67,7 +66,7 @@ module _ {eleven table : List ℤ} {title out : List ℕ} {number : ℕ} {out' :
   pub write-c-refused : (number ≡ 0 → ⊥) → (length' ≡ 0) × (out' ≡ out)
   write-c-refused not-0 = by-description eleven (λ e. let (n, l, m) = write-undescribed e in (l, m)) by
     where
-      by : (d : Description) → described_in eleven ≡ some d → (length' ≡ 0) × (out' ≡ out)
+      by : (d : Description) → described_in eleven ≡ Some d → (length' ≡ 0) × (out' ≡ out)
       by d e =
           let l = write-laid e in
           let (zero-long, kept) = write-refused l.writes (λ z. not-0 (l.number_so ∙ z)) in
@@ -76,7 +75,7 @@ module _ {eleven table : List ℤ} {title out : List ℕ} {number : ℕ} {out' :
 -- what acceptance says: the eleven numbers describe a table whose text fits; it stands first, and every later byte is as it was
 pub record WriteAccepted (eleven table : List ℤ) (title out out' : List ℕ) (length' : ℕ) : Type 0 where
   pub d : Description
-  pub described : described_in eleven ≡ some d
+  pub described : described_in eleven ≡ Some d
   pub wrote : Wrote d table title (length out)
   pub length_so : length' ≡ length (file_text d table title)
   pub text : take length' out' ≡ file_text d table title
@@ -88,7 +87,7 @@ pub write-c-accepted : {eleven table : List ℤ} {title out out' : List ℕ} {le
     → WriteAccepted eleven table title out out' length'
 write-c-accepted {eleven} {table} {title} {out} {out'} {length'} h = by-description eleven (λ e. absurd (omega (arith, (write-undescribed h e).0))) by
   where
-    by : (d : Description) → described_in eleven ≡ some d → WriteAccepted eleven table title out out' length'
+    by : (d : Description) → described_in eleven ≡ Some d → WriteAccepted eleven table title out out' length'
     by d e =
         let l = write-laid h e in
         let z = sym l.number_so in
@@ -106,9 +105,9 @@ write-c-accepted {eleven} {table} {title} {out} {out'} {length'} h = by-descript
 
 pub data WriteGivenC (eleven table : List ℤ) (title : List ℕ) (places : ℕ) : ℕ → Type 0 where
   -- eleven numbers that give no description
-  undescribed : described_in eleven ≡ none → WriteGivenC eleven table title places 24
+  undescribed : described_in eleven ≡ None → WriteGivenC eleven table title places 24
   -- as write gives it, of the description that they give
-  described : (d : Description) → described_in eleven ≡ some d → (n : ℕ) → WriteGiven d table title places n → WriteGivenC eleven table title places n
+  described : (d : Description) → described_in eleven ≡ Some d → (n : ℕ) → WriteGiven d table title places n → WriteGivenC eleven table title places n
 
 -- a number is answered exactly where it is given
 pub writes-c-exactly : {eleven table : List ℤ} {title out out' : List ℕ} {number length' : ℕ} → WritesC eleven table title out number out' length' → (n : ℕ)
@@ -118,10 +117,10 @@ writes-c-exactly {eleven} {table} {title} {out} {out'} {number} h n = (λ e. sub
     Given : ℕ → Type 0
     Given = WriteGivenC eleven table title (length out)
 
-    none_so : described_in eleven ≡ none → Given number
+    none_so : described_in eleven ≡ None → Given number
     none_so e = subst Given (sym (write-undescribed h e).0) (undescribed e)
 
-    some-so : (d : Description) → described_in eleven ≡ some d → Given number
+    some-so : (d : Description) → described_in eleven ≡ Some d → Given number
     some-so d e = let l = write-laid h e in described d e number ((writes-exactly l.writes number).0 (sym l.number_so))
 
     of : (n : ℕ) → Given n → number ≡ n
@@ -132,7 +131,7 @@ writes-c-exactly {eleven} {table} {title} {out} {out'} {number} h n = (λ e. sub
 
 module _
     {eleven table : List ℤ} {title out out' : List ℕ} {length' : ℕ} (h : WritesC eleven table title out 0 out' length')
-    {d : Description} (described : described_in eleven ≡ some d) {table' : List ℤ} (room : 3 * rows d ≤ length table')
+    {d : Description} (described : described_in eleven ≡ Some d) {table' : List ℤ} (room : 3 * rows d ≤ length table')
     {number : ℕ} {table'' eleven'' : List ℤ} {line' : ℕ} (reads : ReadsC (take length' out') table' number table'' eleven'' line')
   where
     l : WriteLaid d table title out 0 out' length'
@@ -144,7 +143,7 @@ module _
     reads_so : Reads (take (written_length l.answer) out') table' m.answer table''
     reads_so = subst (λ n. Reads (take n out') table' m.answer table'') l.length_so m.reads
 
-    read_so : (m.answer ≡ R.Accepted (fitted d title)) × (table'' ≡ take (3 * rows d) table ++ drop (3 * rows d) table')
+    read_so : (m.answer ≡ Ok (fitted d title)) × (table'' ≡ take (3 * rows d) table ++ drop (3 * rows d) table')
     read_so = reads-written l.writes (sym l.number_so) room reads_so
 
     fitted-so : eleven'' ≡ eleven_of (fitted d title)

@@ -16,9 +16,7 @@ use Rattle.rules.specs.declared.Bits.{Bits}
 use Rattle.rules.specs.declared.Codes.{Codes}
 use Rattle.rules.specs.declared.Colour.{Colour}
 use Rattle.rules.specs.declared.Depths.{Depths}
-use Rattle.rules.specs.declared.DepthsFound.TheVariants.{Both}
 use Rattle.rules.specs.declared.Description.{Description}
-use Rattle.rules.specs.declared.Inverse.TheVariants as I
 use Rattle.rules.specs.declared.Kind.TheVariants.{OneD}
 use Rattle.rules.proofs.Colours.{grey, grey-code, grey-within}
 use Rattle.rules.proofs.KnownDepths.{depths-one}
@@ -26,6 +24,8 @@ use Rattle.rules.proofs.Looking.Checks.{look-passed, look-0}
 use Rattle.rules.proofs.Looking.Demand3.{line-looked}
 use Rattle.signature.proofs.Looking.Numbers.{of-above}
 use Rattle.rules.proofs.Inverting.Right.{InversePassed, inverse-right, right-at}
+use Rattle.std.specs.Prelude.{Some}
+use Rattle.rules.specs.Results.{inverse_of}
 
 module _ (d : Description) (table : List ℤ) (line : d.kind ≡ OneD) where
   -- an accepted look, for one colour
@@ -33,7 +33,7 @@ module _ (d : Description) (table : List ℤ) (line : d.kind ≡ OneD) where
     inside : code_in pixel c ≤ raw_m depths
     corrected : code_in (codes_in (look d table bits pixel)) c ≡ line_code d table depths c (code_in pixel c)
 
-  look-line : (bits : Bits) (depths : Depths) → depths_of bits ≡ Both depths → (pixel : Codes) → look_number (look d table bits pixel) ≡ 0
+  look-line : (bits : Bits) (depths : Depths) → depths_of bits ≡ Some depths → (pixel : Codes) → look_number (look d table bits pixel) ≡ 0
       → (c : Colour) → LineLook bits depths pixel c
   look-line bits depths known pixel z c =
       let p = look-passed d table bits pixel z in
@@ -59,8 +59,8 @@ pub record AnswerLooked (d : Description) (table : List ℤ) (bits : Bits) (aim 
   pub none_lower : (other : Codes) → look_number (look d table bits other) ≡ 0 → code_in other aim.colour < code_in pixel aim.colour
       → look_off d table bits aim pixel < look_off d table bits aim other
 
-pub inverse-looked : (d : Description) (table : List ℤ) (bits : Bits) (aim : Aim) (code count : ℕ) → inverse d table bits aim ≡ I.Accepted code count
-    → (depths : Depths) → depths_of bits ≡ Both depths → (pixel : Codes) → code_in pixel aim.colour ≡ code → within (raw_m depths) pixel ≡ true
+pub inverse-looked : (d : Description) (table : List ℤ) (bits : Bits) (aim : Aim) (code count : ℕ) → inverse d table bits aim ≡ inverse_of code count
+    → (depths : Depths) → depths_of bits ≡ Some depths → (pixel : Codes) → code_in pixel aim.colour ≡ code → within (raw_m depths) pixel ≡ true
     → AnswerLooked d table bits aim pixel
 inverse-looked d table bits aim code count e depths known pixel code_so inside = record {
   accepted = accepted;
@@ -91,7 +91,7 @@ inverse-looked d table bits aim code count e depths known pixel code_so inside =
     answer-off = other-off pixel accepted ∙ ap (off_by d table depths aim) code_so
 
 -- there is such a pixel, with that code in each colour
-pub answer-pixel : (d : Description) (table : List ℤ) (bits : Bits) (aim : Aim) (code count : ℕ) → inverse d table bits aim ≡ I.Accepted code count
+pub answer-pixel : (d : Description) (table : List ℤ) (bits : Bits) (aim : Aim) (code count : ℕ) → inverse d table bits aim ≡ inverse_of code count
     → AnswerLooked d table bits aim (grey code)
 answer-pixel d table bits aim code count e =
     let a = inverse-right e in

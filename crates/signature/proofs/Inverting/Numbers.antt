@@ -14,15 +14,14 @@ use Rattle.rules.specs.Promises.{Inverts}
 use Rattle.rules.specs.declared.Aim.{Aim}
 use Rattle.rules.specs.declared.Bits.{Bits}
 use Rattle.rules.specs.declared.Depths.{Depths}
-use Rattle.rules.specs.declared.DepthsFound.TheVariants.{Both}
 use Rattle.rules.specs.declared.Description.{Description}
-use Rattle.rules.specs.declared.Inverse.{Inverse}
-use Rattle.rules.specs.declared.Inverse.TheVariants as I
 use Rattle.rules.specs.declared.Kind.TheVariants.{OneD, ThreeD}
 use Rattle.rules.proofs.KnownDepths.{OneUnknown, not-both, unknown-not-both, depths-one}
 use Rattle.rules.proofs.Answers.{inverts-is}
 use Rattle.signature.specs.Numbers.{OneOf}
 use Rattle.rules.proofs.Inverting.Right.{InversePassed, ReachedIn, InverseGiven, not-read, unknown, too-great, none_within, answered, reached-accepted, inverse-exactly}
+use Rattle.std.specs.Prelude.{Err, Ok, Some}
+use Rattle.rules.specs.Results.{Inverse}
 
 -- ---- when each number is given
 
@@ -32,7 +31,7 @@ pub data NumberGiven (d : Description) (table : List ℤ) (bits : Bits) (aim : A
   -- a depth that is unknown, whatever is wanted
   given-20 : d.kind ≡ OneD → could_be_read d table ≡ true → OneUnknown bits → NumberGiven d table bits aim 20
   -- a wanted code above the corrected M
-  given-23 : d.kind ≡ OneD → could_be_read d table ≡ true → (depths : Depths) → depths_of bits ≡ Both depths → corrected_m depths < aim.wanted
+  given-23 : d.kind ≡ OneD → could_be_read d table ≡ true → (depths : Depths) → depths_of bits ≡ Some depths → corrected_m depths < aim.wanted
       → NumberGiven d table bits aim 23
   -- no raw code comes within the tolerance
   given-28 : (p : InversePassed d table bits aim) → (ReachedIn d table p.depths aim → ⊥) → NumberGiven d table bits aim 28
@@ -95,7 +94,7 @@ module _ {d : Description} {table : List ℤ} {bits : Bits} {aim : Aim} {r : Inv
   given_so = (inverse-exactly d table bits aim r).0 (sym (inverts-is h))
 
   -- 28 has tried all raw codes
-  pub count-28 : (depths : Depths) → depths_of bits ≡ Both depths → inverse_number r ≡ 28 → inverse_count r ≡ raw_m depths + 1
+  pub count-28 : (depths : Depths) → depths_of bits ≡ Some depths → inverse_number r ≡ 28 → inverse_count r ≡ raw_m depths + 1
   unfolding refusal_number
   count-28 depths known e = by r given_so e
     where
@@ -120,5 +119,5 @@ module _ {d : Description} {table : List ℤ} {bits : Bits} {aim : Aim} {r : Inv
 
 -- whatever is refused has code 0
 pub refused-code : (r : Inverse) → (inverse_number r ≡ 0 → ⊥) → inverse_code r ≡ 0
-refused-code (I.Accepted code count) not-0 = absurd (not-0 refl)
-refused-code (I.Refused r count) not-0 = refl
+refused-code (Ok x) not-0 = absurd (not-0 refl)
+refused-code (Err x) not-0 = refl

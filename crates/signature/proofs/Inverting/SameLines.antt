@@ -18,11 +18,7 @@ use Rattle.rules.specs.declared.Aim.{Aim}
 use Rattle.rules.specs.declared.Bits.{Bits}
 use Rattle.rules.specs.declared.Colour.{Colour}
 use Rattle.rules.specs.declared.Depths.{Depths}
-use Rattle.rules.specs.declared.DepthsFound.{DepthsFound}
-use Rattle.rules.specs.declared.DepthsFound.TheVariants.{Both, NotBoth}
 use Rattle.rules.specs.declared.Description.{Description}
-use Rattle.rules.specs.declared.Inverse.{Inverse}
-use Rattle.rules.specs.declared.Inverse.TheVariants as I
 use Rattle.rules.specs.declared.Kind.{Kind}
 use Rattle.rules.specs.declared.Kind.TheVariants.{OneD, ThreeD}
 use Rattle.rules.specs.declared.Refusal.TheVariants.{CodeTooGreat, CouldNotBeRead}
@@ -30,6 +26,8 @@ use Rattle.rules.proofs.Tests.{and_both}
 use Rattle.rules.proofs.Sound.{sound-of}
 use Rattle.rules.proofs.Looking.RowsAndWeights.{pair-rows}
 use Rattle.signature.proofs.LaterPlaces.{later-24, later-total}
+use Rattle.std.specs.Prelude.{None, Option, Some}
+use Rattle.rules.specs.Results.{Inverse, no_inverse}
 
 -- ---- two that have the same
 
@@ -37,7 +35,7 @@ use Rattle.signature.proofs.LaterPlaces.{later-24, later-total}
 abbrev inverse_with : (ℕ → ℕ) → Depths → Aim → Inverse
 inverse_with corrected depths aim =
     let s : Search = search corrected aim.wanted (raw_m depths) in
-    cond (leb aim.wanted (corrected_m depths)) (if_within (off corrected aim.wanted s.nearest) aim.tolerance s) (I.Refused CodeTooGreat 0)
+    cond (leb aim.wanted (corrected_m depths)) (if_within (off corrected aim.wanted s.nearest) aim.tolerance s) (no_inverse CodeTooGreat 0)
 
 is-line : (k : Kind) → is_line k ≡ true → k ≡ OneD
 is-line OneD e = refl
@@ -49,14 +47,14 @@ module _ (d e : Description) (table other : List ℤ) (bits : Bits) (aim : Aim) 
       → inverse d table bits aim ≡ inverse e other bits aim
   unfolding inverse inverse_at
   same_lines kinds could lines =
-      by (is_line d.kind && could_be_read d table) refl ∙ ap₂ (λ k t. cond (is_line k && t) (inverse_at e other aim (depths_of bits)) (I.Refused CouldNotBeRead 0)) kinds could
+      by (is_line d.kind && could_be_read d table) refl ∙ ap₂ (λ k t. cond (is_line k && t) (inverse_at e other aim (depths_of bits)) (no_inverse CouldNotBeRead 0)) kinds could
     where
-      at : d.kind ≡ OneD → could_be_read d table ≡ true → (x : DepthsFound) → inverse_at d table aim x ≡ inverse_at e other aim x
-      at line read NotBoth = refl
-      at line read (Both depths) = ap (λ corrected. inverse_with corrected depths aim) (lines line read depths)
+      at : d.kind ≡ OneD → could_be_read d table ≡ true → (x : Option Depths) → inverse_at d table aim x ≡ inverse_at e other aim x
+      at line read None = refl
+      at line read (Some depths) = ap (λ corrected. inverse_with corrected depths aim) (lines line read depths)
 
       by : (t : Bool) → is_line d.kind && could_be_read d table ≡ t
-          → cond t (inverse_at d table aim (depths_of bits)) (I.Refused CouldNotBeRead 0) ≡ cond t (inverse_at e other aim (depths_of bits)) (I.Refused CouldNotBeRead 0)
+          → cond t (inverse_at d table aim (depths_of bits)) (no_inverse CouldNotBeRead 0) ≡ cond t (inverse_at e other aim (depths_of bits)) (no_inverse CouldNotBeRead 0)
       by true q = let (line, read) = and_both (is_line d.kind) (could_be_read d table) q in at (is-line d.kind line) read (depths_of bits)
       by false q = refl
 

@@ -8,8 +8,8 @@ use Rattle.rules.specs.Inverting.{inverse}
 use Rattle.rules.specs.declared.Aim.{Aim}
 use Rattle.rules.specs.declared.Bits.{Bits}
 use Rattle.rules.specs.declared.Description.{Description}
-use Rattle.rules.specs.declared.Inverse.TheVariants as I
 use Rattle.rules.proofs.Inverting.Right.{inverse-right, right-inverse}
+use Rattle.rules.specs.Results.{inverse_of}
 
 -- the same aim with another tolerance
 abbrev pub tolerating : ℕ → Aim → Aim
@@ -17,7 +17,7 @@ tolerating tolerance aim = record { colour = aim.colour; wanted = aim.wanted; to
 
 -- an accepted answer is the answer with every greater tolerance
 pub wider-tolerance : (d : Description) (table : List ℤ) (bits : Bits) (aim : Aim) (code count wider : ℕ) → aim.tolerance ≤ wider
-    → inverse d table bits aim ≡ I.Accepted code count → inverse d table bits (tolerating wider aim) ≡ I.Accepted code count
+    → inverse d table bits aim ≡ inverse_of code count → inverse d table bits (tolerating wider aim) ≡ inverse_of code count
 wider-tolerance d table bits aim code count wider h e =
     let a = inverse-right e in
     let p = a.passed in

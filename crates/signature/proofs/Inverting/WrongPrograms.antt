@@ -15,9 +15,9 @@ use Rattle.rules.specs.declared.Bits.{Bits}
 use Rattle.rules.specs.declared.Colour.{Colour}
 use Rattle.rules.specs.declared.Colour.TheVariants.{Red, Green, Blue}
 use Rattle.rules.specs.declared.Description.{Description}
-use Rattle.rules.specs.declared.Inverse.{Inverse}
 use Rattle.signature.specs.Cases.{described_by, table_from, one_row, corner, three_slopes, falling, peak}
 use Rattle.signature.proofs.Cases.{opened}
+use Rattle.rules.specs.Results.{Inverse}
 
 abbrev pub Inverter : Type 0
 Inverter = Description → List ℤ → Bits → Aim → Inverse

@@ -26,7 +26,6 @@ use Rattle.rules.specs.declared.Description.{Description}
 use Rattle.rules.specs.declared.Domain.{Domain}
 use Rattle.rules.specs.declared.Kind.{Kind}
 use Rattle.rules.specs.declared.Kind.TheVariants.{OneD, ThreeD}
-use Rattle.rules.specs.declared.Look.TheVariants.{Refused}
 use Rattle.rules.specs.declared.Refusal.TheVariants.{CouldNotBeRead}
 use Rattle.rules.specs.declared.Shares.{Shares}
 use Rattle.rules.proofs.Tests.{no_true, or-none, none_or}
@@ -37,6 +36,7 @@ use Rattle.rules.proofs.Looking.Checks.{look-24}
 use Rattle.rules.proofs.Looking.Demand3.{one-den, den-above-0}
 use Rattle.signature.specs.OneDomain.{own_den, own_position, own_fraction}
 use Rattle.signature.proofs.Looking.OneDomain.{own-some}
+use Rattle.std.specs.Prelude.{Err}
 
 -- ---- two fractions: x parts of c are a parts of p, and y parts of c are b parts of q
 
@@ -178,5 +178,5 @@ module _ (d : Description) where
       pub uneven-24 : could_be_read d table ≡ false
       uneven-24 = unsound d table (λ s. no_true (sym (agreed-agree d d.kind s.agreed) ∙ (disagree d.kind).1 (cube, differ, uneven)))
 
-      pub look-uneven : (bits : Bits) (pixel : Codes) → look d table bits pixel ≡ Refused CouldNotBeRead
+      pub look-uneven : (bits : Bits) (pixel : Codes) → look d table bits pixel ≡ Err CouldNotBeRead
       look-uneven bits pixel = look-24 d table bits pixel uneven-24

@@ -15,31 +15,30 @@ use Rattle.rules.specs.declared.Bits.{Bits}
 use Rattle.rules.specs.declared.Codes.{Codes}
 use Rattle.rules.specs.declared.Colour.{Colour}
 use Rattle.rules.specs.declared.Depth.{Depth}
-use Rattle.rules.specs.declared.DepthFound.TheVariants.{Known, Unknown}
 use Rattle.rules.specs.declared.Depths.{Depths}
-use Rattle.rules.specs.declared.DepthsFound.TheVariants.{Both}
 use Rattle.rules.specs.declared.Description.{Description}
-use Rattle.rules.specs.declared.Look.{Look}
 use Rattle.rules.proofs.KnownDepths.{OneUnknown, depths-one}
 use Rattle.rules.proofs.Looking.Demand3.{looks-right}
 use Rattle.signature.proofs.Looking.Numbers.{LookGiven, given-20, given-23, look-given, given-look}
+use Rattle.std.specs.Prelude.{None, Some}
+use Rattle.rules.specs.Results.{Look}
 
 -- ---- 20 and 23
 
 -- known depths, and a code above the M of raw codes
 pub record AboveRaw (bits : Bits) (pixel : Codes) : Type 0 where
   pub depths : Depths
-  pub known : depths_of bits ≡ Both depths
+  pub known : depths_of bits ≡ Some depths
   pub colour : Colour
   pub above : raw_m depths < code_in pixel colour
 
 module _ (d : Description) (table : List ℤ) (bits : Bits) (pixel : Codes) where
   -- the raw depth is unknown
-  pub look-20-raw : could_be_read d table ≡ true → depth_of bits.raw ≡ Unknown → look_number (look d table bits pixel) ≡ 20
+  pub look-20-raw : could_be_read d table ≡ true → depth_of bits.raw ≡ None → look_number (look d table bits pixel) ≡ 20
   look-20-raw could u = given-look d table bits pixel 20 (given-20 could (inl u))
 
   -- the raw depth is known and the corrected is not, also where a code is above M
-  pub look-20-corrected : could_be_read d table ≡ true → (raw : Depth) → depth_of bits.raw ≡ Known raw → depth_of bits.corrected ≡ Unknown
+  pub look-20-corrected : could_be_read d table ≡ true → (raw : Depth) → depth_of bits.raw ≡ Some raw → depth_of bits.corrected ≡ None
       → look_number (look d table bits pixel) ≡ 20
   look-20-corrected could raw k u = given-look d table bits pixel 20 (given-20 could (inr (raw, k, u)))
 
@@ -63,7 +62,7 @@ module _ (d : Description) (table : List ℤ) (bits : Bits) (pixel : Codes) wher
 -- ---- the codes
 
 -- every code of an accepted look is at most the corrected M
-pub looks-most : {d : Description} {table : List ℤ} {bits : Bits} {depths : Depths} {pixel : Codes} {r : Look} → depths_of bits ≡ Both depths
+pub looks-most : {d : Description} {table : List ℤ} {bits : Bits} {depths : Depths} {pixel : Codes} {r : Look} → depths_of bits ≡ Some depths
     → Looks d table bits pixel r → look_number r ≡ 0 → (c : Colour) → code_in (codes_in r) c ≤ corrected_m depths
 looks-most {bits = bits} {depths} {r = r} known l z c =
     let a = looks-right l z in

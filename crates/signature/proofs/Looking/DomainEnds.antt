@@ -17,13 +17,10 @@ use Rattle.rules.specs.declared.Bits.{Bits}
 use Rattle.rules.specs.declared.Codes.{Codes}
 use Rattle.rules.specs.declared.Colour.{Colour}
 use Rattle.rules.specs.declared.Depths.{Depths}
-use Rattle.rules.specs.declared.DepthsFound.TheVariants.{Both}
 use Rattle.rules.specs.declared.Description.{Description}
 use Rattle.rules.specs.declared.Domain.{Domain}
 use Rattle.rules.specs.declared.Kind.{Kind}
 use Rattle.rules.specs.declared.Kind.TheVariants.{OneD, ThreeD}
-use Rattle.rules.specs.declared.Look.{Look}
-use Rattle.rules.specs.declared.Look.TheVariants.{Refused}
 use Rattle.rules.specs.declared.Refusal.TheVariants.{CouldNotBeRead}
 use Rattle.rules.proofs.Answers.{looks-is}
 use Rattle.rules.proofs.Sound.{sound-of}
@@ -32,6 +29,8 @@ use Rattle.rules.proofs.Looking.Demand3.{own_line, own-point, row_own}
 use Rattle.signature.specs.Beyond.{Alike, AlikePixels, AtLower, AtUpper, high, low, same}
 use Rattle.signature.proofs.Looking.SamePlaces.{SamePlaces, same-look}
 use Rattle.signature.proofs.Looking.OneDomain.{own-some}
+use Rattle.std.specs.Prelude.{Err, Some}
+use Rattle.rules.specs.Results.{Look}
 
 -- ---- a code at an end
 
@@ -110,14 +109,14 @@ alike-places {m} {d} h = record {
   fractions = λ c. ap (brought (den m (domain d c)) (den_of d m c)) (alike-fraction m (domain d c) d.n (h.alike c));
 }
 
-module _ (d : Description) (table : List ℤ) (bits : Bits) {depths : Depths} (known : depths_of bits ≡ Both depths) {a b : Codes}
+module _ (d : Description) (table : List ℤ) (bits : Bits) {depths : Depths} (known : depths_of bits ≡ Some depths) {a b : Codes}
     (alike : AlikePixels (raw_m depths) d a b)
   where
     -- look answers the same of both: codes, rows and weights
     pub beyond-alike : look d table bits a ≡ look d table bits b
     unfolding look
     beyond-alike =
-        ap (λ x. cond (could_be_read d table) x (Refused CouldNotBeRead))
+        ap (λ x. cond (could_be_read d table) x (Err CouldNotBeRead))
         (ap (look_at d table a) known ∙ same-look table depths (alike-places alike) ∙ sym (ap (look_at d table b) known))
 
     -- and so does every call that keeps its promise

@@ -15,16 +15,15 @@ use Rattle.rules.specs.Demands.{ByReading, Weighable}
 use Rattle.rules.specs.declared.Codes.{Codes}
 use Rattle.rules.specs.declared.Colour.{Colour}
 use Rattle.rules.specs.declared.Depth.{Depth}
-use Rattle.rules.specs.declared.DepthFound.TheVariants.{Known}
 use Rattle.rules.specs.declared.Description.{Description}
-use Rattle.rules.specs.declared.FirstHalf.{FirstHalf}
-use Rattle.rules.specs.declared.FirstHalf.TheVariants as F
 use Rattle.rules.specs.declared.Shares.{Shares}
 use Rattle.rules.proofs.Answers.{refused-not-0, finds-is}
 use Rattle.rules.proofs.KnownDepths.{depth-bounds}
 use Rattle.rules.proofs.Looking.Demand3.{one_value, rule-reading, rule-weighable, used-shown}
 use Rattle.rules.proofs.Looking.Halves.{first-with, rows-0}
 use Rattle.signature.proofs.Looking.HalvesNumbers.{FirstGiven, finds-0, first-exactly}
+use Rattle.std.specs.Prelude.{Err, Ok, Some}
+use Rattle.rules.specs.Results.{FirstHalf}
 
 -- what a colour's code is to be made of, at the M of raw codes
 pub record RowsRight (d : Description) (table : List ℤ) (m : ℕ) (pixel : Codes) (shares : Shares) (c : Colour) : Type 0 where
@@ -39,7 +38,7 @@ pub record RowsRight (d : Description) (table : List ℤ) (m : ℕ) (pixel : Cod
 -- rows and weights that were found: the raw depth is known, and those of each colour are right
 pub record FirstRight (d : Description) (table : List ℤ) (raw : ℕ) (pixel : Codes) (shares : Shares) : Type 0 where
   pub depth : Depth
-  pub known : depth_of raw ≡ Known depth
+  pub known : depth_of raw ≡ Some depth
   pub all_right : (c : Colour) → RowsRight d table depth.greatest pixel shares c
 
 -- ---- of the definition
@@ -57,7 +56,7 @@ rule-right d table m pixel could deep c =
     }
 
 -- and the first half finds these
-pub first-right : (d : Description) (table : List ℤ) (raw : ℕ) (pixel : Codes) (shares : Shares) → first_half d table raw pixel ≡ F.Accepted shares
+pub first-right : (d : Description) (table : List ℤ) (raw : ℕ) (pixel : Codes) (shares : Shares) → first_half d table raw pixel ≡ Ok shares
     → FirstRight d table raw pixel shares
 first-right d table raw pixel shares accepted = by ((first-exactly d table raw pixel 0).0 (ap first_number accepted))
   where
@@ -73,7 +72,7 @@ first-right d table raw pixel shares accepted = by ((first-exactly d table raw p
 -- its rows and weights are right
 pub record FoundRight (d : Description) (table : List ℤ) (raw : ℕ) (pixel : Codes) (r : FirstHalf) : Type 0 where
   pub shares : Shares
-  pub accepted : r ≡ F.Accepted shares
+  pub accepted : r ≡ Ok shares
   pub right : FirstRight d table raw pixel shares
 
 pub finds-right : {d : Description} {table : List ℤ} {raw : ℕ} {pixel : Codes} {r : FirstHalf} → FindsRows d table raw pixel r → first_number r ≡ 0
@@ -81,5 +80,5 @@ pub finds-right : {d : Description} {table : List ℤ} {raw : ℕ} {pixel : Code
 finds-right {d} {table} {raw} {pixel} {r} f z = by r refl
   where
     by : (x : FirstHalf) → r ≡ x → FoundRight d table raw pixel r
-    by (F.Accepted shares) e = record { shares = shares; accepted = e; right = first-right d table raw pixel shares (sym (finds-is f) ∙ e) }
-    by (F.Refused why) e = absurd (refused-not-0 why (sym (ap first_number e) ∙ z))
+    by (Ok shares) e = record { shares = shares; accepted = e; right = first-right d table raw pixel shares (sym (finds-is f) ∙ e) }
+    by (Err why) e = absurd (refused-not-0 why (sym (ap first_number e) ∙ z))

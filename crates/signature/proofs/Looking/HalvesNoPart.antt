@@ -17,21 +17,16 @@ use Rattle.rules.specs.declared.Codes.{Codes}
 use Rattle.rules.specs.declared.Colour.{Colour}
 use Rattle.rules.specs.declared.Colour.TheVariants.{Red, Green, Blue}
 use Rattle.rules.specs.declared.Depths.{Depths}
-use Rattle.rules.specs.declared.DepthsFound.{DepthsFound}
-use Rattle.rules.specs.declared.DepthsFound.TheVariants.{Both, NotBoth}
 use Rattle.rules.specs.declared.Description.{Description}
-use Rattle.rules.specs.declared.FirstHalf.{FirstHalf}
-use Rattle.rules.specs.declared.FirstHalf.TheVariants as F
-use Rattle.rules.specs.declared.Judged.TheVariants.{Fit}
 use Rattle.rules.specs.declared.Kind.TheVariants.{ThreeD}
 use Rattle.rules.specs.declared.Refusal.TheVariants.{CouldNotBeRead}
-use Rattle.rules.specs.declared.SecondHalf.{SecondHalf}
-use Rattle.rules.specs.declared.SecondHalf.TheVariants as S
 use Rattle.rules.specs.declared.Shares.{Shares}
 use Rattle.rules.proofs.Answers.{finds-is, is-finds, gives-is, is-gives}
 use Rattle.rules.proofs.Looking.Judging.{all-weighable}
 use Rattle.signature.proofs.LaterPlaces.{later-24, later-total}
 use Rattle.signature.proofs.Looking.SameShares.{SameShares, same_if, same_second}
+use Rattle.std.specs.Prelude.{Err, None, Ok, Option, Some}
+use Rattle.rules.specs.Results.{FirstHalf, SecondHalf}
 
 -- ---- what keeps the promise of one input keeps that of another with the same answer
 
@@ -48,7 +43,7 @@ gives-alike same h = is-gives (gives-is h ∙ same)
 module _ (d : Description) (table other : List ℤ) where
   first-by-24 : could_be_read d table ≡ could_be_read d other → (raw : ℕ) (pixel : Codes) → first_half d table raw pixel ≡ first_half d other raw pixel
   unfolding first_half
-  first-by-24 same raw pixel = ap (λ could. cond could (rows_at d pixel (depth_of raw)) (F.Refused CouldNotBeRead)) same
+  first-by-24 same raw pixel = ap (λ could. cond could (rows_at d pixel (depth_of raw)) (Err CouldNotBeRead)) same
 
   -- the rows and weights are the same of any two tables that could be read: samples only have to be within their range
   pub samples-no-part : could_be_read d table ≡ true → could_be_read d other ≡ true → (raw : ℕ) (pixel : Codes) → first_half d table raw pixel ≡ first_half d other raw pixel
@@ -60,7 +55,7 @@ module _ (d : Description) (table other : List ℤ) where
     later_first = first-by-24 (later-24 table other d same)
 
     -- whoever wrote the rows, they are below the count of rows where the second half comes to the table
-    later-codes : (depths : Depths) (shares : Shares) → judged_all d (raw_m depths) shares ≡ Fit → codes_by d table depths shares ≡ codes_by d other depths shares
+    later-codes : (depths : Depths) (shares : Shares) → judged_all d (raw_m depths) shares ≡ (Ok tt) → codes_by d table depths shares ≡ codes_by d other depths shares
     unfolding code_by
     later-codes depths shares fit i = record { red = each Red i; green = each Green i; blue = each Blue i }
       where
@@ -71,11 +66,11 @@ module _ (d : Description) (table other : List ℤ) where
 
     pub later_second : (bits : Bits) (shares : Shares) → second_half d table bits shares ≡ second_half d other bits shares
     unfolding second_half
-    later_second bits shares = ap₂ (λ could x. cond could x (S.Refused CouldNotBeRead)) (later-24 table other d same) (by (depths_of bits))
+    later_second bits shares = ap₂ (λ could x. cond could x (Err CouldNotBeRead)) (later-24 table other d same) (by (depths_of bits))
       where
-        by : (x : DepthsFound) → codes_at d table shares x ≡ codes_at d other shares x
-        by NotBoth = refl
-        by (Both depths) = same_if d d table other depths shares shares (judged_all d (raw_m depths) shares) (later-codes depths shares)
+        by : (x : Option Depths) → codes_at d table shares x ≡ codes_at d other shares x
+        by None = refl
+        by (Some depths) = same_if d d table other depths shares shares (judged_all d (raw_m depths) shares) (later-codes depths shares)
 
 -- ---- the six rows and weights
 

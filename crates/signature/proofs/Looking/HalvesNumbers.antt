@@ -19,24 +19,16 @@ use Rattle.rules.specs.declared.Codes.{Codes}
 use Rattle.rules.specs.declared.Colour.{Colour}
 use Rattle.rules.specs.declared.Colour.TheVariants.{Red, Green, Blue}
 use Rattle.rules.specs.declared.Depth.{Depth}
-use Rattle.rules.specs.declared.DepthFound.{DepthFound}
-use Rattle.rules.specs.declared.DepthFound.TheVariants.{Known, Unknown}
 use Rattle.rules.specs.declared.Depths.{Depths}
-use Rattle.rules.specs.declared.DepthsFound.{DepthsFound}
-use Rattle.rules.specs.declared.DepthsFound.TheVariants.{Both, NotBoth}
 use Rattle.rules.specs.declared.Description.{Description}
-use Rattle.rules.specs.declared.FirstHalf.{FirstHalf}
-use Rattle.rules.specs.declared.FirstHalf.TheVariants as F
-use Rattle.rules.specs.declared.Judged.{Judged}
-use Rattle.rules.specs.declared.Judged.TheVariants.{Fit}
-use Rattle.rules.specs.declared.SecondHalf.{SecondHalf}
-use Rattle.rules.specs.declared.SecondHalf.TheVariants as S
 use Rattle.rules.specs.declared.Shares.{Shares}
 use Rattle.rules.proofs.KnownDepths.{OneUnknown, not-both, unknown-not-both}
 use Rattle.rules.proofs.Looking.Halves.{rows-23, rows-0, first-24, first-20, first-with, second-24, second-20, second-26, second-0}
 use Rattle.rules.proofs.Looking.Judging.{is-fit, fit-both, weighable-fit, not-fit-unfit, unfit-not-fit, all-weighable, weighable-all}
 use Rattle.signature.specs.Numbers.{OneOf}
 use Rattle.signature.proofs.Looking.Numbers.{above_of, of-above}
+use Rattle.std.specs.Prelude.{Err, None, Ok, Option, Some}
+use Rattle.rules.specs.Results.{FirstHalf, Judged, SecondHalf}
 
 -- ---- the first half: when each number is given
 
@@ -44,11 +36,11 @@ pub data FirstGiven (d : Description) (table : List ℤ) (raw : ℕ) (pixel : Co
   -- what could not be read
   finds-24 : could_be_read d table ≡ false → FirstGiven d table raw pixel 24
   -- a raw depth that is unknown, whatever the pixel
-  finds-20 : could_be_read d table ≡ true → depth_of raw ≡ Unknown → FirstGiven d table raw pixel 20
+  finds-20 : could_be_read d table ≡ true → depth_of raw ≡ None → FirstGiven d table raw pixel 20
   -- a code above the raw M
-  finds-23 : could_be_read d table ≡ true → (depth : Depth) → depth_of raw ≡ Known depth → (c : Colour) → depth.greatest < code_in pixel c → FirstGiven d table raw pixel 23
+  finds-23 : could_be_read d table ≡ true → (depth : Depth) → depth_of raw ≡ Some depth → (c : Colour) → depth.greatest < code_in pixel c → FirstGiven d table raw pixel 23
   -- none above it
-  finds-0 : could_be_read d table ≡ true → (depth : Depth) → depth_of raw ≡ Known depth → within depth.greatest pixel ≡ true → FirstGiven d table raw pixel 0
+  finds-0 : could_be_read d table ≡ true → (depth : Depth) → depth_of raw ≡ Some depth → within depth.greatest pixel ≡ true → FirstGiven d table raw pixel 0
 
 module _ (d : Description) (table : List ℤ) (raw : ℕ) (pixel : Codes) where
   -- the number of a first half is one that is given there
@@ -59,16 +51,16 @@ module _ (d : Description) (table : List ℤ) (raw : ℕ) (pixel : Codes) where
       Answer : FirstHalf → Type 0
       Answer r = FirstGiven d table raw pixel (first_number r)
 
-      by-23 : (depth : Depth) (t : Bool) → could_be_read d table ≡ true → depth_of raw ≡ Known depth → within depth.greatest pixel ≡ t → Answer (first_half d table raw pixel)
+      by-23 : (depth : Depth) (t : Bool) → could_be_read d table ≡ true → depth_of raw ≡ Some depth → within depth.greatest pixel ≡ t → Answer (first_half d table raw pixel)
       by-23 depth true e k w = subst Answer (sym (first-with d table raw pixel depth e k ∙ rows-0 d depth.greatest pixel w)) (finds-0 e depth k w)
       by-23 depth false e k w =
           let (c, above) = above_of depth.greatest pixel w in
           subst Answer (sym (first-with d table raw pixel depth e k ∙ rows-23 d depth.greatest pixel w)) (finds-23 e depth k c above)
 
-      by : (t : Bool) → could_be_read d table ≡ t → (x : DepthFound) → depth_of raw ≡ x → Answer (first_half d table raw pixel)
+      by : (t : Bool) → could_be_read d table ≡ t → (x : Option Depth) → depth_of raw ≡ x → Answer (first_half d table raw pixel)
       by false e x k = subst Answer (sym (first-24 d table raw pixel e)) (finds-24 e)
-      by true e Unknown k = subst Answer (sym (first-20 d table raw pixel e k)) (finds-20 e k)
-      by true e (Known depth) k = by-23 depth (within depth.greatest pixel) e k refl
+      by true e None k = subst Answer (sym (first-20 d table raw pixel e k)) (finds-20 e k)
+      by true e (Some depth) k = by-23 depth (within depth.greatest pixel) e k refl
 
   -- and no other is given there
   given-first : (n : ℕ) → FirstGiven d table raw pixel n → first_number (first_half d table raw pixel) ≡ n
@@ -117,8 +109,8 @@ first-not-24 d table raw pixel could z = by ((first-exactly d table raw pixel 24
 
 -- whatever is refused has six rows and six weights of 0
 pub first-zeros : (r : FirstHalf) → (first_number r ≡ 0 → ⊥) → (first_rows r ≡ replicate 6 0) × (first_weights r ≡ replicate 6 (pos 0))
-first-zeros (F.Accepted shares) not-0 = absurd (not-0 refl)
-first-zeros (F.Refused r) not-0 = (refl, refl)
+first-zeros (Ok shares) not-0 = absurd (not-0 refl)
+first-zeros (Err r) not-0 = (refl, refl)
 
 -- ---- the second half: 26 is one of three conditions
 
@@ -131,20 +123,20 @@ module _ (d : Description) (m : ℕ) (shares : Shares) where
   abbrev pub UnfitFor : Colour → Type 0
   UnfitFor c = Unfit (rows d) (den_of d m c) (used d.kind c shares)
 
-  some-unfit : (judged_all d m shares ≡ Fit → ⊥) → (c : Colour) × UnfitFor c
+  some-unfit : (judged_all d m shares ≡ (Ok tt) → ⊥) → (c : Colour) × UnfitFor c
   unfolding judged_all
   some-unfit h = by (is-fit (judged_for d m shares Red)) (is-fit (judged_for d m shares Green)) (is-fit (judged_for d m shares Blue))
     where
-      unfit : (c : Colour) → (judged_for d m shares c ≡ Fit → ⊥) → (c : Colour) × UnfitFor c
+      unfit : (c : Colour) → (judged_for d m shares c ≡ (Ok tt) → ⊥) → (c : Colour) × UnfitFor c
       unfit c not-fit = (c, not-fit-unfit (rows d) (den_of d m c) (used d.kind c shares) not-fit)
 
-      by : Dec (judged_for d m shares Red ≡ Fit) → Dec (judged_for d m shares Green ≡ Fit) → Dec (judged_for d m shares Blue ≡ Fit) → (c : Colour) × UnfitFor c
+      by : Dec (judged_for d m shares Red ≡ (Ok tt)) → Dec (judged_for d m shares Green ≡ (Ok tt)) → Dec (judged_for d m shares Blue ≡ (Ok tt)) → (c : Colour) × UnfitFor c
       by (no r) g b = unfit Red r
       by (yes r) (no g) b = unfit Green g
       by (yes r) (yes g) (no b) = unfit Blue b
       by (yes r) (yes g) (yes b) = absurd (h (fit-both (judged_for d m shares Red) _ r (fit-both (judged_for d m shares Green) _ g b)))
 
-  unfit-some : (c : Colour) → UnfitFor c → judged_all d m shares ≡ Fit → ⊥
+  unfit-some : (c : Colour) → UnfitFor c → judged_all d m shares ≡ (Ok tt) → ⊥
   unfit-some c u e =
       unfit-not-fit (rows d) (den_of d m c) (used d.kind c shares) u
       (weighable-fit (rows d) (den_of d m c) (used d.kind c shares) (all-weighable d m shares e c))
@@ -155,7 +147,7 @@ module _ (d : Description) (m : ℕ) (shares : Shares) where
 pub record Judged26 (d : Description) (table : List ℤ) (bits : Bits) (shares : Shares) : Type 0 where
   pub readable : could_be_read d table ≡ true
   pub depths : Depths
-  pub known : depths_of bits ≡ Both depths
+  pub known : depths_of bits ≡ Some depths
   pub colour : Colour
   pub unfit : UnfitFor d (raw_m depths) shares colour
 
@@ -163,7 +155,7 @@ pub record Judged26 (d : Description) (table : List ℤ) (bits : Bits) (shares :
 pub record Judged0 (d : Description) (table : List ℤ) (bits : Bits) (shares : Shares) : Type 0 where
   pub readable : could_be_read d table ≡ true
   pub depths : Depths
-  pub known : depths_of bits ≡ Both depths
+  pub known : depths_of bits ≡ Some depths
   pub fit : (c : Colour) → FitFor d (raw_m depths) shares c
 
 pub data SecondGiven (d : Description) (table : List ℤ) (bits : Bits) (shares : Shares) : ℕ → Type 0 where
@@ -185,25 +177,25 @@ module _ (d : Description) (table : List ℤ) (bits : Bits) (shares : Shares) wh
       Answer : SecondHalf → Type 0
       Answer r = SecondGiven d table bits shares (second_number r)
 
-      by-26 : (depths : Depths) (j : Judged) → could_be_read d table ≡ true → depths_of bits ≡ Both depths → judged_all d (raw_m depths) shares ≡ j
+      by-26 : (depths : Depths) (j : Judged) → could_be_read d table ≡ true → depths_of bits ≡ Some depths → judged_all d (raw_m depths) shares ≡ j
           → Answer (second_half d table bits shares)
       by-26 depths j e k judged = or (is-fit j)
         where
-          or : Dec (j ≡ Fit) → Answer (second_half d table bits shares)
+          or : Dec (j ≡ (Ok tt)) → Answer (second_half d table bits shares)
           or (yes fit) =
               let all = judged ∙ fit in
               subst Answer (sym (second-0 d table bits shares depths e k all))
               (gives-0 (record { readable = e; depths = depths; known = k; fit = all-weighable d (raw_m depths) shares all }))
           or (no not-fit) =
-              let none : judged_all d (raw_m depths) shares ≡ Fit → ⊥ = λ fit. not-fit (sym judged ∙ fit) in
+              let none : judged_all d (raw_m depths) shares ≡ (Ok tt) → ⊥ = λ fit. not-fit (sym judged ∙ fit) in
               let (c, unfit) = some-unfit d (raw_m depths) shares none in
               subst Answer (sym (second-26 d table bits shares depths e k none))
               (gives-26 (record { readable = e; depths = depths; known = k; colour = c; unfit = unfit }))
 
-      by : (t : Bool) → could_be_read d table ≡ t → (x : DepthsFound) → depths_of bits ≡ x → Answer (second_half d table bits shares)
+      by : (t : Bool) → could_be_read d table ≡ t → (x : Option Depths) → depths_of bits ≡ x → Answer (second_half d table bits shares)
       by false e x k = subst Answer (sym (second-24 d table bits shares e)) (gives-24 e)
-      by true e NotBoth k = subst Answer (sym (second-20 d table bits shares e k)) (gives-20 e (not-both bits k))
-      by true e (Both depths) k = by-26 depths (judged_all d (raw_m depths) shares) e k refl
+      by true e None k = subst Answer (sym (second-20 d table bits shares e k)) (gives-20 e (not-both bits k))
+      by true e (Some depths) k = by-26 depths (judged_all d (raw_m depths) shares) e k refl
 
   -- and no other is given there
   given-second : (n : ℕ) → SecondGiven d table bits shares n → second_number (second_half d table bits shares) ≡ n
@@ -267,5 +259,5 @@ second-not-24 d table bits shares could z = by ((second-exactly d table bits sha
 
 -- whatever is refused has three codes of 0
 pub second-zeros : (r : SecondHalf) → (second_number r ≡ 0 → ⊥) → second_codes r ≡ replicate 3 0
-second-zeros (S.Accepted codes) not-0 = absurd (not-0 refl)
-second-zeros (S.Refused r) not-0 = refl
+second-zeros (Ok codes) not-0 = absurd (not-0 refl)
+second-zeros (Err r) not-0 = refl

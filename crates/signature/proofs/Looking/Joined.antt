@@ -15,19 +15,10 @@ use Rattle.rules.specs.declared.Bits.{Bits}
 use Rattle.rules.specs.declared.Codes.{Codes}
 use Rattle.rules.specs.declared.Colour.{Colour}
 use Rattle.rules.specs.declared.Depth.{Depth}
-use Rattle.rules.specs.declared.DepthFound.TheVariants.{Known, Unknown}
 use Rattle.rules.specs.declared.Depths.{Depths}
-use Rattle.rules.specs.declared.DepthsFound.{DepthsFound}
-use Rattle.rules.specs.declared.DepthsFound.TheVariants.{Both, NotBoth}
 use Rattle.rules.specs.declared.Description.{Description}
-use Rattle.rules.specs.declared.FirstHalf.{FirstHalf}
-use Rattle.rules.specs.declared.FirstHalf.TheVariants as F
-use Rattle.rules.specs.declared.Look.{Look}
-use Rattle.rules.specs.declared.Look.TheVariants as L
 use Rattle.rules.specs.declared.Refusal.{Refusal}
 use Rattle.rules.specs.declared.Refusal.TheVariants.{DepthUnknown, CodeTooGreat}
-use Rattle.rules.specs.declared.SecondHalf.{SecondHalf}
-use Rattle.rules.specs.declared.SecondHalf.TheVariants as S
 use Rattle.rules.specs.declared.Shares.{Shares}
 use Rattle.rules.proofs.Answers.{is-looks, finds-is, gives-is}
 use Rattle.rules.proofs.KnownDepths.{OneUnknown, each-known, depths-bounds, not-both, unknown-not-both}
@@ -37,6 +28,8 @@ use Rattle.rules.proofs.Looking.Halves.{rows-23, rows-0, first-24, first-20, fir
 use Rattle.rules.proofs.Looking.Judging.{weighable-all}
 use Rattle.signature.specs.Joined.{beside, then_codes, joined}
 use Rattle.signature.proofs.Looking.Numbers.{above_of, of-above}
+use Rattle.std.specs.Prelude.{Err, None, Ok, Option, Some}
+use Rattle.rules.specs.Results.{FirstHalf, Look, SecondHalf, look_of}
 
 -- the second half after whatever the first answered
 abbrev continued : Description → List ℤ → Bits → FirstHalf → Look
@@ -45,19 +38,19 @@ continued d table bits first = then_codes first (second_half d table bits)
 -- what the second half gives of rows and weights that were found, and what look gives there
 pub record SameCodes (d : Description) (table : List ℤ) (bits : Bits) (pixel : Codes) (shares : Shares) : Type 0 where
   pub codes : Codes
-  pub second : second_half d table bits shares ≡ S.Accepted codes
-  pub looked : look d table bits pixel ≡ L.Accepted codes shares
+  pub second : second_half d table bits shares ≡ Ok codes
+  pub looked : look d table bits pixel ≡ look_of codes shares
 
-module _ (d : Description) (table : List ℤ) (bits : Bits) (pixel : Codes) (depths : Depths) (known : depths_of bits ≡ Both depths) where
+module _ (d : Description) (table : List ℤ) (bits : Bits) (pixel : Codes) (depths : Depths) (known : depths_of bits ≡ Some depths) where
   -- the first half and look, case by case
   data Compared : Type 0 where
-    both-refuse : (r : Refusal) → first_half d table bits.raw pixel ≡ F.Refused r → look d table bits pixel ≡ L.Refused r → Compared
-    both-accept : (shares : Shares) → first_half d table bits.raw pixel ≡ F.Accepted shares → SameCodes d table bits pixel shares → Compared
+    both-refuse : (r : Refusal) → first_half d table bits.raw pixel ≡ Err r → look d table bits pixel ≡ Err r → Compared
+    both-accept : (shares : Shares) → first_half d table bits.raw pixel ≡ Ok shares → SameCodes d table bits pixel shares → Compared
 
   compared : Compared
   compared = by (could_be_read d table) refl (within (raw_m depths) pixel) refl
     where
-      raw-known : depth_of bits.raw ≡ Known depths.raw
+      raw-known : depth_of bits.raw ≡ Some depths.raw
       raw-known = (each-known bits depths known).raw
 
       by : (a : Bool) → could_be_read d table ≡ a → (b : Bool) → within (raw_m depths) pixel ≡ b → Compared
@@ -86,11 +79,11 @@ module _ (d : Description) (table : List ℤ) (bits : Bits) (pixel : Codes) (dep
       by (both-accept shares f a) = a.looked ∙ sym (ap (continued d table bits) f ∙ ap (beside shares) a.second)
 
   -- what the first half refuses look refuses with the same number
-  pub first-refused : {r : Refusal} → first_half d table bits.raw pixel ≡ F.Refused r → look d table bits pixel ≡ L.Refused r
+  pub first-refused : {r : Refusal} → first_half d table bits.raw pixel ≡ Err r → look d table bits pixel ≡ Err r
   first-refused f = halves-joined ∙ ap (continued d table bits) f
 
   -- of what it finds the second half gives the codes of look, and look's rows and weights are these
-  pub first-accepted : {shares : Shares} → first_half d table bits.raw pixel ≡ F.Accepted shares → SameCodes d table bits pixel shares
+  pub first-accepted : {shares : Shares} → first_half d table bits.raw pixel ≡ Ok shares → SameCodes d table bits pixel shares
   first-accepted {shares} f = by compared
     where
       by : Compared → SameCodes d table bits pixel shares
@@ -99,13 +92,13 @@ module _ (d : Description) (table : List ℤ) (bits : Bits) (pixel : Codes) (dep
 
   -- by the promises alone: whatever finds rows and then, of what was found, whatever gives codes, answers as look promises
   pub finds-then-gives : {found : FirstHalf} {gives : Shares → SecondHalf} → FindsRows d table bits.raw pixel found
-      → ((shares : Shares) → found ≡ F.Accepted shares → GivesCodes d table bits shares (gives shares))
+      → ((shares : Shares) → found ≡ Ok shares → GivesCodes d table bits shares (gives shares))
       → Looks d table bits pixel (then_codes found gives)
   finds-then-gives {found} {gives} f g = is-looks (by found refl (finds-is f))
     where
       by : (x : FirstHalf) → found ≡ x → x ≡ first_half d table bits.raw pixel → then_codes x gives ≡ look d table bits pixel
-      by (F.Refused r) e h = sym (first-refused (sym h))
-      by (F.Accepted shares) e h =
+      by (Err r) e h = sym (first-refused (sym h))
+      by (Ok shares) e h =
           ap (beside shares) (gives-is (g shares e)) ∙ ap (continued d table bits) h ∙ sym halves-joined
 
 -- ---- where a depth is unknown
@@ -114,14 +107,14 @@ module _ (d : Description) (table : List ℤ) (bits : Bits) (pixel : Codes) (dep
 pub record Differ (d : Description) (table : List ℤ) (bits : Bits) (pixel : Codes) : Type 0 where
   pub readable : could_be_read d table ≡ true
   pub depth : Depth
-  pub raw : depth_of bits.raw ≡ Known depth
-  pub corrected : depth_of bits.corrected ≡ Unknown
+  pub raw : depth_of bits.raw ≡ Some depth
+  pub corrected : depth_of bits.corrected ≡ None
   pub colour : Colour
   pub above : depth.greatest < code_in pixel colour
 
 module _ (d : Description) (table : List ℤ) (bits : Bits) (pixel : Codes) where
   -- there look refuses with 20, and the halves with 23
-  pub differ-so : Differ d table bits pixel → (look d table bits pixel ≡ L.Refused DepthUnknown) × (joined d table bits pixel ≡ L.Refused CodeTooGreat)
+  pub differ-so : Differ d table bits pixel → (look d table bits pixel ≡ Err DepthUnknown) × (joined d table bits pixel ≡ Err CodeTooGreat)
   differ-so x =
       let m = x.depth.greatest in
       let refused = rows-23 d m pixel (of-above m pixel x.colour x.above) in (
@@ -133,7 +126,7 @@ module _ (d : Description) (table : List ℤ) (bits : Bits) (pixel : Codes) wher
   pub joined-elsewhere : (Differ d table bits pixel → ⊥) → look d table bits pixel ≡ joined d table bits pixel
   joined-elsewhere not_there = by (could_be_read d table) refl (depths_of bits) refl
     where
-      by-23 : (raw : Depth) (t : Bool) → could_be_read d table ≡ true → depths_of bits ≡ NotBoth → depth_of bits.raw ≡ Known raw → depth_of bits.corrected ≡ Unknown
+      by-23 : (raw : Depth) (t : Bool) → could_be_read d table ≡ true → depths_of bits ≡ None → depth_of bits.raw ≡ Some raw → depth_of bits.corrected ≡ None
           → within raw.greatest pixel ≡ t → look d table bits pixel ≡ joined d table bits pixel
       by-23 raw true e u p q w =
           let found = shown d raw.greatest pixel d.kind in
@@ -143,11 +136,11 @@ module _ (d : Description) (table : List ℤ) (bits : Bits) (pixel : Codes) wher
           let (c, above) = above_of raw.greatest pixel w in
           absurd (not_there (record { readable = e; depth = raw; raw = p; corrected = q; colour = c; above = above }))
 
-      by-20 : could_be_read d table ≡ true → depths_of bits ≡ NotBoth → OneUnknown bits → look d table bits pixel ≡ joined d table bits pixel
+      by-20 : could_be_read d table ≡ true → depths_of bits ≡ None → OneUnknown bits → look d table bits pixel ≡ joined d table bits pixel
       by-20 e u (inl p) = look-20 d table bits pixel e u ∙ sym (ap (continued d table bits) (first-20 d table bits.raw pixel e p))
       by-20 e u (inr (raw, p, q)) = by-23 raw (within raw.greatest pixel) e u p q refl
 
-      by : (t : Bool) → could_be_read d table ≡ t → (x : DepthsFound) → depths_of bits ≡ x → look d table bits pixel ≡ joined d table bits pixel
+      by : (t : Bool) → could_be_read d table ≡ t → (x : Option Depths) → depths_of bits ≡ x → look d table bits pixel ≡ joined d table bits pixel
       by false e x k = look-24 d table bits pixel e ∙ sym (ap (continued d table bits) (first-24 d table bits.raw pixel e))
-      by true e NotBoth u = by-20 e u (not-both bits u)
-      by true e (Both depths) k = halves-joined d table bits pixel depths k
+      by true e None u = by-20 e u (not-both bits u)
+      by true e (Some depths) k = halves-joined d table bits pixel depths k

@@ -17,14 +17,13 @@ use Rattle.rules.specs.declared.Codes.{Codes}
 use Rattle.rules.specs.declared.Colour.{Colour}
 use Rattle.rules.specs.declared.Colour.TheVariants.{Red, Green, Blue}
 use Rattle.rules.specs.declared.Depths.{Depths}
-use Rattle.rules.specs.declared.DepthsFound.{DepthsFound}
-use Rattle.rules.specs.declared.DepthsFound.TheVariants.{Both, NotBoth}
 use Rattle.rules.specs.declared.Description.{Description}
-use Rattle.rules.specs.declared.Look.{Look}
 use Rattle.rules.proofs.Tests.{and-fails}
 use Rattle.rules.proofs.KnownDepths.{OneUnknown, not-both, unknown-not-both}
 use Rattle.rules.proofs.Looking.Checks.{look-24, look-20, look-23, look-0}
 use Rattle.signature.specs.Numbers.{OneOf}
+use Rattle.std.specs.Prelude.{None, Option, Some}
+use Rattle.rules.specs.Results.{Look}
 
 -- ---- a code above M
 
@@ -52,9 +51,9 @@ pub data LookGiven (d : Description) (table : List ℤ) (bits : Bits) (pixel : C
   -- a depth that is unknown, whatever the pixel
   given-20 : could_be_read d table ≡ true → OneUnknown bits → LookGiven d table bits pixel 20
   -- a code above the raw M
-  given-23 : could_be_read d table ≡ true → (depths : Depths) → depths_of bits ≡ Both depths → (c : Colour) → raw_m depths < code_in pixel c → LookGiven d table bits pixel 23
+  given-23 : could_be_read d table ≡ true → (depths : Depths) → depths_of bits ≡ Some depths → (c : Colour) → raw_m depths < code_in pixel c → LookGiven d table bits pixel 23
   -- none above it
-  given-0 : could_be_read d table ≡ true → (depths : Depths) → depths_of bits ≡ Both depths → within (raw_m depths) pixel ≡ true → LookGiven d table bits pixel 0
+  given-0 : could_be_read d table ≡ true → (depths : Depths) → depths_of bits ≡ Some depths → within (raw_m depths) pixel ≡ true → LookGiven d table bits pixel 0
 
 module _ (d : Description) (table : List ℤ) (bits : Bits) (pixel : Codes) where
   -- the number of a look is one that is given there
@@ -65,15 +64,15 @@ module _ (d : Description) (table : List ℤ) (bits : Bits) (pixel : Codes) wher
       Answer : Look → Type 0
       Answer r = LookGiven d table bits pixel (look_number r)
 
-      by-23 : (depths : Depths) (b : Bool) → could_be_read d table ≡ true → depths_of bits ≡ Both depths → within (raw_m depths) pixel ≡ b → Answer (look d table bits pixel)
+      by-23 : (depths : Depths) (b : Bool) → could_be_read d table ≡ true → depths_of bits ≡ Some depths → within (raw_m depths) pixel ≡ b → Answer (look d table bits pixel)
       by-23 depths true e k w = subst Answer (sym (look-0 d table bits pixel depths e k w)) (given-0 e depths k w)
       by-23 depths false e k w =
           let (c, above) = above_of (raw_m depths) pixel w in
           subst Answer (sym (look-23 d table bits pixel depths e k w)) (given-23 e depths k c above)
 
-      by-20 : (x : DepthsFound) → could_be_read d table ≡ true → depths_of bits ≡ x → Answer (look d table bits pixel)
-      by-20 NotBoth e u = subst Answer (sym (look-20 d table bits pixel e u)) (given-20 e (not-both bits u))
-      by-20 (Both depths) e k = by-23 depths (within (raw_m depths) pixel) e k refl
+      by-20 : (x : Option Depths) → could_be_read d table ≡ true → depths_of bits ≡ x → Answer (look d table bits pixel)
+      by-20 None e u = subst Answer (sym (look-20 d table bits pixel e u)) (given-20 e (not-both bits u))
+      by-20 (Some depths) e k = by-23 depths (within (raw_m depths) pixel) e k refl
 
       by-24 : (b : Bool) → could_be_read d table ≡ b → Answer (look d table bits pixel)
       by-24 true e = by-20 (depths_of bits) e refl

@@ -14,11 +14,7 @@ use Rattle.rules.specs.declared.Codes.{Codes}
 use Rattle.rules.specs.declared.Colour.{Colour}
 use Rattle.rules.specs.declared.Colour.TheVariants.{Red, Green, Blue}
 use Rattle.rules.specs.declared.Depth.{Depth}
-use Rattle.rules.specs.declared.DepthFound.{DepthFound}
-use Rattle.rules.specs.declared.DepthFound.TheVariants.{Known, Unknown}
 use Rattle.rules.specs.declared.Description.{Description}
-use Rattle.rules.specs.declared.Look.{Look}
-use Rattle.rules.specs.declared.Look.TheVariants.{Accepted, Refused}
 use Rattle.rules.specs.declared.Refusal.TheVariants.{CodeTooGreat, CouldNotBeRead}
 use Rattle.rules.proofs.KnownDepths.{depth-bounds}
 use Rattle.rules.proofs.Answers.{looks-is}
@@ -26,6 +22,8 @@ use Rattle.rules.proofs.Looking.Demand3.{used-shown}
 use Rattle.signature.specs.OneDepth.{code_one, correct_one, look_one_at, look_one}
 use Rattle.signature.proofs.Looking.Undivided.{look-undivided}
 use Rattle.signature.proofs.Looking.ShortDivision.{short-division}
+use Rattle.std.specs.Prelude.{Err, None, Option, Some}
+use Rattle.rules.specs.Results.{Look, look_of}
 
 -- ---- the codes
 
@@ -43,19 +41,19 @@ module _ (d : Description) (table : List ℤ) (depth : Depth) (pixel : Codes) (d
 
 -- ---- the answer
 
-look-one-at : (d : Description) (table : List ℤ) (bits : ℕ) (pixel : Codes) (x : DepthFound) → depth_of bits ≡ x
+look-one-at : (d : Description) (table : List ℤ) (bits : ℕ) (pixel : Codes) (x : Option Depth) → depth_of bits ≡ x
     → look_at d table pixel (together x x) ≡ look_one_at d table pixel x
 unfolding look_at look_one_at
-look-one-at d table bits pixel Unknown e = refl
-look-one-at d table bits pixel (Known depth) e =
+look-one-at d table bits pixel None e = refl
+look-one-at d table bits pixel (Some depth) e =
     let m = depth.greatest in
     look-undivided d table (same_depth depth) pixel
-    ∙ ap (λ codes. cond (within m pixel) (Accepted codes (shown d m pixel d.kind)) (Refused CodeTooGreat))
+    ∙ ap (λ codes. cond (within m pixel) (look_of codes (shown d m pixel d.kind)) (Err CodeTooGreat))
     (correct-one d table depth pixel (depth-bounds bits depth e).0)
 
 pub look-one : (d : Description) (table : List ℤ) (bits : ℕ) (pixel : Codes) → look d table (same_bits bits) pixel ≡ look_one d table bits pixel
 unfolding look look_one
-look-one d table bits pixel = ap (λ r. cond (could_be_read d table) r (Refused CouldNotBeRead)) (look-one-at d table bits pixel (depth_of bits) refl)
+look-one d table bits pixel = ap (λ r. cond (could_be_read d table) r (Err CouldNotBeRead)) (look-one-at d table bits pixel (depth_of bits) refl)
 
 -- so every call that keeps look's promise answers document 01's look there
 pub looks-one-depth : {d : Description} {table : List ℤ} {bits : ℕ} {pixel : Codes} {r : Look} → Looks d table (same_bits bits) pixel r → r ≡ look_one d table bits pixel

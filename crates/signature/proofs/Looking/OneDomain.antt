@@ -15,13 +15,9 @@ use Rattle.rules.specs.Promises.{Looks}
 use Rattle.rules.specs.declared.Bits.{Bits}
 use Rattle.rules.specs.declared.Codes.{Codes}
 use Rattle.rules.specs.declared.Colour.{Colour}
-use Rattle.rules.specs.declared.DepthsFound.{DepthsFound}
-use Rattle.rules.specs.declared.DepthsFound.TheVariants.{Both, NotBoth}
 use Rattle.rules.specs.declared.Description.{Description}
 use Rattle.rules.specs.declared.Kind.{Kind}
 use Rattle.rules.specs.declared.Kind.TheVariants.{OneD, ThreeD}
-use Rattle.rules.specs.declared.Look.{Look}
-use Rattle.rules.specs.declared.Look.TheVariants.{Refused}
 use Rattle.rules.specs.declared.Refusal.TheVariants.{CouldNotBeRead}
 use Rattle.rules.proofs.Answers.{looks-is}
 use Rattle.rules.proofs.KnownDepths.{depths-bounds}
@@ -31,6 +27,9 @@ use Rattle.rules.proofs.Looking.Spans.{span-1d, span-one}
 use Rattle.rules.proofs.Looking.Brought.{brought-same}
 use Rattle.signature.specs.OneDomain.{look_with, agree_before, could_be_read_before, own_den, own_position, own_fraction, look_before_at, look_before}
 use Rattle.signature.proofs.Looking.SamePlaces.{look-with}
+use Rattle.std.specs.Prelude.{Err, None, Option, Some}
+use Rattle.rules.specs.declared.Depths.{Depths}
+use Rattle.rules.specs.Results.{Look}
 
 -- of whatever could have been read the D of a colour's own domain is above 0, as the M of every known depth is
 pub own-some : (d : Description) (table : List ℤ) (m : ℕ) → could_be_read d table ≡ true → 0 < m → (c : Colour) → 0 < own_den d m c
@@ -79,10 +78,10 @@ module _ (d : Description) (one : agree_before d.kind d ≡ true) where
       pub fraction-own : fraction_of d m pixel c ≡ own_fraction d m pixel c
       fraction-own = brought-same (own_den d m c) (den_of d m c) (own-some d table m could deep c) (den-own m c) (own_fraction d m pixel c)
 
-    look-own : could_be_read d table ≡ true → (bits : Bits) (x : DepthsFound) → depths_of bits ≡ x → look_at d table pixel x ≡ look_before_at d table pixel x
+    look-own : could_be_read d table ≡ true → (bits : Bits) (x : Option Depths) → depths_of bits ≡ x → look_at d table pixel x ≡ look_before_at d table pixel x
     unfolding look_at look_before_at
-    look-own could bits NotBoth e = refl
-    look-own could bits (Both depths) e =
+    look-own could bits None e = refl
+    look-own could bits (Some depths) e =
         let m = raw_m depths in
         let deep = (depths-bounds bits depths e).0.0 in
         look-with d table depths pixel
@@ -94,7 +93,7 @@ module _ (d : Description) (one : agree_before d.kind d ≡ true) where
   look-one-domain table bits pixel = by (could_be_read d table) refl
     where
       refused : Look
-      refused = Refused CouldNotBeRead
+      refused = Err CouldNotBeRead
 
       by : (b : Bool) → could_be_read d table ≡ b
           → cond (could_be_read d table) (look_at d table pixel (depths_of bits)) refused ≡ cond (could_be_read_before d table) (look_before_at d table pixel (depths_of bits)) refused
@@ -113,6 +112,6 @@ module _ (d : Description) (table : List ℤ) (differ : agree_before d.kind d �
   before-24 = ap (λ a. a && could_be_read d table) differ
 
   -- 24, whatever the rest
-  pub look-before-24 : (bits : Bits) (pixel : Codes) → look_before d table bits pixel ≡ Refused CouldNotBeRead
+  pub look-before-24 : (bits : Bits) (pixel : Codes) → look_before d table bits pixel ≡ Err CouldNotBeRead
   unfolding look_before
-  look-before-24 bits pixel = ap (λ b. cond b (look_before_at d table pixel (depths_of bits)) (Refused CouldNotBeRead)) before-24
+  look-before-24 bits pixel = ap (λ b. cond b (look_before_at d table pixel (depths_of bits)) (Err CouldNotBeRead)) before-24

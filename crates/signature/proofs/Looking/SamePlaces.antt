@@ -12,16 +12,15 @@ use Rattle.rules.specs.declared.Codes.{Codes}
 use Rattle.rules.specs.declared.Colour.{Colour}
 use Rattle.rules.specs.declared.Colour.TheVariants.{Red, Green, Blue}
 use Rattle.rules.specs.declared.Depths.{Depths}
-use Rattle.rules.specs.declared.DepthsFound.TheVariants.{Both}
 use Rattle.rules.specs.declared.Description.{Description}
 use Rattle.rules.specs.declared.Kind.{Kind}
 use Rattle.rules.specs.declared.Kind.TheVariants.{OneD, ThreeD}
-use Rattle.rules.specs.declared.FirstHalf.TheVariants as F
-use Rattle.rules.specs.declared.Look.TheVariants.{Accepted, Refused}
 use Rattle.rules.specs.declared.Refusal.TheVariants.{CodeTooGreat}
 use Rattle.rules.proofs.Looking.Demand3.{used-shown}
 use Rattle.signature.specs.OneDomain.{shares_with, shown_with, look_with}
 use Rattle.signature.proofs.Looking.Undivided.{look-undivided}
+use Rattle.std.specs.Prelude.{Err, Ok, Some}
+use Rattle.rules.specs.Results.{look_of}
 
 -- ---- what it is made of; m is the M of raw codes
 
@@ -37,7 +36,7 @@ module _ (d : Description) (m : ℕ) (pixel : Codes) where
   shown-with ThreeD = refl
 
 pub look-with : (d : Description) (table : List ℤ) (depths : Depths) (pixel : Codes) → let m = raw_m depths in
-    look_at d table pixel (Both depths) ≡ look_with d.n (den_of d m) (index_of d m pixel) (fraction_of d m pixel) (within m pixel) d.kind table (corrected_m depths)
+    look_at d table pixel (Some depths) ≡ look_with d.n (den_of d m) (index_of d m pixel) (fraction_of d m pixel) (within m pixel) d.kind table (corrected_m depths)
 look-with d table depths pixel = look-undivided d table depths pixel ∙ made
   where
     m : ℕ
@@ -46,11 +45,11 @@ look-with d table depths pixel = look-undivided d table depths pixel ∙ made
     shares : (c : Colour) → used d.kind c (shown d m pixel d.kind) ≡ shares_with d.n (den_of d m) (index_of d m pixel) (fraction_of d m pixel) d.kind c
     shares c = used-shown d m pixel d.kind c ∙ shares-with d m pixel d.kind c
 
-    made : cond (within m pixel) (Accepted (correct d table depths pixel) (shown d m pixel d.kind)) (Refused CodeTooGreat)
+    made : cond (within m pixel) (look_of (correct d table depths pixel) (shown d m pixel d.kind)) (Err CodeTooGreat)
         ≡ look_with d.n (den_of d m) (index_of d m pixel) (fraction_of d m pixel) (within m pixel) d.kind table (corrected_m depths)
     made i =
         let code : Colour → ℕ = λ c. code_by (corrected_m depths) (den_of d m c) table c (shares c i) in
-        cond (within m pixel) (Accepted (record { red = code Red; green = code Green; blue = code Blue }) (shown-with d m pixel d.kind i)) (Refused CodeTooGreat)
+        cond (within m pixel) (look_of (record { red = code Red; green = code Green; blue = code Blue }) (shown-with d m pixel d.kind i)) (Err CodeTooGreat)
 
 -- ---- two that have the same
 
@@ -63,7 +62,7 @@ pub record SamePlaces (m : ℕ) (d e : Description) (a b : Codes) : Type 0 where
   pub fractions : (c : Colour) → fraction_of d m a c ≡ fraction_of e m b c
 
 pub same-look : (table : List ℤ) (depths : Depths) {d e : Description} {a b : Codes} → SamePlaces (raw_m depths) d e a b
-    → look_at d table a (Both depths) ≡ look_at e table b (Both depths)
+    → look_at d table a (Some depths) ≡ look_at e table b (Some depths)
 same-look table depths {d} {e} {a} {b} s =
     look-with d table depths a
     ∙ (λ i. look_with (s.n i) (λ c. s.dens c i) (λ c. s.indices c i) (λ c. s.fractions c i) (s.inside i) (s.kind i) table (corrected_m depths))
@@ -72,7 +71,7 @@ same-look table depths {d} {e} {a} {b} s =
 -- and so does its first half
 pub same_rows : {m : ℕ} {d e : Description} {a b : Codes} → SamePlaces m d e a b → rows_with d m a ≡ rows_with e m b
 unfolding rows_with
-same_rows {m} {d} {e} {a} {b} s = ap₂ (λ inside shares. cond inside (F.Accepted shares) (F.Refused CodeTooGreat)) s.inside same-shown
+same_rows {m} {d} {e} {a} {b} s = ap₂ (λ inside shares. cond inside (Ok shares) (Err CodeTooGreat)) s.inside same-shown
   where
     same-shown : shown d m a d.kind ≡ shown e m b e.kind
     same-shown =

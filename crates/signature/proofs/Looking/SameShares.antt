@@ -14,25 +14,23 @@ use Rattle.rules.specs.declared.Bits.{Bits}
 use Rattle.rules.specs.declared.Colour.{Colour}
 use Rattle.rules.specs.declared.Colour.TheVariants.{Red, Green, Blue}
 use Rattle.rules.specs.declared.Depths.{Depths}
-use Rattle.rules.specs.declared.DepthsFound.{DepthsFound}
-use Rattle.rules.specs.declared.DepthsFound.TheVariants.{Both, NotBoth}
 use Rattle.rules.specs.declared.Description.{Description}
-use Rattle.rules.specs.declared.Judged.{Judged}
-use Rattle.rules.specs.declared.Judged.TheVariants.{Fit, RowBeyond, NegativeWeight, WrongSum}
 use Rattle.rules.specs.declared.Kind.{Kind}
 use Rattle.rules.specs.declared.Refusal.TheVariants.{CouldNotBeRead}
-use Rattle.rules.specs.declared.SecondHalf.TheVariants.{Accepted, Refused}
 use Rattle.rules.specs.declared.Shares.{Shares}
+use Rattle.std.specs.Prelude.{Err, None, Ok, Option, Some}
+use Rattle.rules.specs.declared.Misfit.TheVariants.{NegativeWeight, RowBeyond, WrongSum}
+use Rattle.rules.specs.Results.{Judged}
 
 -- ---- where the codes are the same, or need not be
 
 -- of two descriptions, two tables and two sixes that fit
 pub same_if : (d e : Description) (table other : List ℤ) (depths : Depths) (s t : Shares) (j : Judged)
-    → (j ≡ Fit → codes_by d table depths s ≡ codes_by e other depths t) → codes_if d table depths s j ≡ codes_if e other depths t j
-same_if d e table other depths s t Fit same = ap Accepted (same refl)
-same_if d e table other depths s t RowBeyond same = refl
-same_if d e table other depths s t NegativeWeight same = refl
-same_if d e table other depths s t WrongSum same = refl
+    → (j ≡ (Ok tt) → codes_by d table depths s ≡ codes_by e other depths t) → codes_if d table depths s j ≡ codes_if e other depths t j
+same_if d e table other depths s t (Ok _) same = ap Ok (same refl)
+same_if d e table other depths s t (Err RowBeyond) same = refl
+same_if d e table other depths s t (Err NegativeWeight) same = refl
+same_if d e table other depths s t (Err WrongSum) same = refl
 
 -- ---- two that have the same; m is the M of raw codes
 
@@ -54,9 +52,9 @@ same_codes table depths {d} {e} {s} {t} w i =
     record { red = each Red i; green = each Green i; blue = each Blue i }
 
 -- the same past 24
-pub same-given : (table : List ℤ) {d e : Description} {s t : Shares} → ((m : ℕ) → SameWeighing m d e s t) → (x : DepthsFound) → codes_at d table s x ≡ codes_at e table t x
-same-given table w NotBoth = refl
-same-given table {d} {e} {s} {t} w (Both depths) =
+pub same-given : (table : List ℤ) {d e : Description} {s t : Shares} → ((m : ℕ) → SameWeighing m d e s t) → (x : Option Depths) → codes_at d table s x ≡ codes_at e table t x
+same-given table w None = refl
+same-given table {d} {e} {s} {t} w (Some depths) =
     let at = w (raw_m depths) in
     same_if d e table table depths s t (judged_all d (raw_m depths) s) (λ fit. same_codes table depths at) ∙ ap (codes_if e table depths t) (same-judged at)
 
@@ -68,5 +66,5 @@ pub record SameShares (k : Kind) (s t : Shares) : Type 0 where
 pub same_second : (d : Description) (table : List ℤ) (bits : Bits) {s t : Shares} → SameShares d.kind s t → second_half d table bits s ≡ second_half d table bits t
 unfolding second_half
 same_second d table bits same =
-    ap (λ x. cond (could_be_read d table) x (Refused CouldNotBeRead))
+    ap (λ x. cond (could_be_read d table) x (Err CouldNotBeRead))
     (same-given table (λ m. record { count = refl; dens = λ c. refl; shares = same.each }) (depths_of bits))

@@ -17,10 +17,7 @@ use Rattle.rules.specs.declared.Bits.{Bits}
 use Rattle.rules.specs.declared.Codes.{Codes}
 use Rattle.rules.specs.declared.Colour.{Colour}
 use Rattle.rules.specs.declared.Depths.{Depths}
-use Rattle.rules.specs.declared.DepthsFound.TheVariants.{Both}
 use Rattle.rules.specs.declared.Description.{Description}
-use Rattle.rules.specs.declared.SecondHalf.{SecondHalf}
-use Rattle.rules.specs.declared.SecondHalf.TheVariants as S
 use Rattle.rules.specs.declared.Share.{Share}
 use Rattle.rules.specs.declared.Shares.{Shares}
 use Rattle.rules.proofs.Answers.{refused-not-0, gives-is}
@@ -30,16 +27,18 @@ use Rattle.rules.proofs.Looking.Halves.{second-0}
 use Rattle.rules.proofs.Looking.Judging.{weighable-all}
 use Rattle.signature.proofs.Looking.SomeCarried.{SomeCarried, carried-so, some-carried}
 use Rattle.signature.proofs.Looking.HalvesNumbers.{Judged0, second-0-exactly}
+use Rattle.std.specs.Prelude.{Err, Ok, Some}
+use Rattle.rules.specs.Results.{SecondHalf}
 
 -- accepted rows and weights: the depths are known, and the code of each colour is right
 pub record SecondRight (d : Description) (table : List ℤ) (bits : Bits) (shares : Shares) (codes : Codes) : Type 0 where
   pub depths : Depths
-  pub known : depths_of bits ≡ Both depths
+  pub known : depths_of bits ≡ Some depths
   pub all_right : (c : Colour) → CodesRight d table depths shares codes c
 
 -- ---- of the definition
 
-module _ (d : Description) (table : List ℤ) (bits : Bits) (shares : Shares) (codes : Codes) (accepted : second_half d table bits shares ≡ S.Accepted codes) where
+module _ (d : Description) (table : List ℤ) (bits : Bits) (shares : Shares) (codes : Codes) (accepted : second_half d table bits shares ≡ Ok codes) where
   -- the codes of rows and weights that the second half accepts are right
   pub second-right : SecondRight d table bits shares codes
   second-right = record { depths = depths; known = j.known; all_right = λ c. subst (λ x. CodesRight d table depths shares x c) codes_so (right c) }
@@ -58,7 +57,7 @@ module _ (d : Description) (table : List ℤ) (bits : Bits) (shares : Shares) (c
           let e = sym (second-0 d table bits shares depths j.readable j.known (weighable-all d (raw_m depths) shares j.fit)) ∙ accepted in
           cc
 
-  module _ (depths : Depths) (known : depths_of bits ≡ Both depths) (c : Colour) where
+  module _ (depths : Depths) (known : depths_of bits ≡ Some depths) (c : Colour) where
     -- at the depths that were asked for
     right-at : CodesRight d table depths shares codes c
     right-at =
@@ -104,7 +103,7 @@ module _ (d : Description) (table : List ℤ) (bits : Bits) (shares : Shares) (c
 -- its codes are right
 pub record GivenRight (d : Description) (table : List ℤ) (bits : Bits) (shares : Shares) (r : SecondHalf) : Type 0 where
   pub codes : Codes
-  pub accepted : r ≡ S.Accepted codes
+  pub accepted : r ≡ Ok codes
   pub right : SecondRight d table bits shares codes
 
 pub gives-right : {d : Description} {table : List ℤ} {bits : Bits} {shares : Shares} {r : SecondHalf} → GivesCodes d table bits shares r → second_number r ≡ 0
@@ -112,5 +111,5 @@ pub gives-right : {d : Description} {table : List ℤ} {bits : Bits} {shares : S
 gives-right {d} {table} {bits} {shares} {r} g z = by r refl
   where
     by : (x : SecondHalf) → r ≡ x → GivenRight d table bits shares r
-    by (S.Accepted codes) e = record { codes = codes; accepted = e; right = second-right d table bits shares codes (sym (gives-is g) ∙ e) }
-    by (S.Refused why) e = absurd (refused-not-0 why (sym (ap second_number e) ∙ z))
+    by (Ok codes) e = record { codes = codes; accepted = e; right = second-right d table bits shares codes (sym (gives-is g) ∙ e) }
+    by (Err why) e = absurd (refused-not-0 why (sym (ap second_number e) ∙ z))

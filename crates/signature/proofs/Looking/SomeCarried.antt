@@ -5,12 +5,12 @@ use mathlib.Core.List.{List, [], ◌∷◌}
 use lib.IntN.{pos}
 use lib.Signed.{◌<ℤ◌, lt_z, lt_z_yes, lt_z_no, clash_ℤ}
 use Rattle.whole.proofs.Held.{passed, failed}
-use Rattle.rules.specs.Demands.{Carried, Some, here, there}
+use Rattle.rules.specs.Demands.{Carried, Any, here, there}
 use Rattle.rules.specs.declared.Share.{Share}
 
 -- one that carries weight and has a property
 abbrev pub SomeCarried : (Share → Type 0) → List Share → Type 0
-SomeCarried P ss = Some (λ s. (pos 0 <ℤ s.weight) × P s) ss
+SomeCarried P ss = Any (λ s. (pos 0 <ℤ s.weight) × P s) ss
 
 -- what holds of all that carry weight, as what follows from it
 pub carried-so : {P Q : Share → Type 0} → ((s : Share) → P s → Q s) → (ss : List Share) → Carried P ss → Carried Q ss

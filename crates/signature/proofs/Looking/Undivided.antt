@@ -16,29 +16,26 @@ use Rattle.rules.specs.declared.Codes.{Codes}
 use Rattle.rules.specs.declared.Colour.{Colour}
 use Rattle.rules.specs.declared.Colour.TheVariants.{Red, Green, Blue}
 use Rattle.rules.specs.declared.Depths.{Depths}
-use Rattle.rules.specs.declared.DepthsFound.{DepthsFound}
-use Rattle.rules.specs.declared.DepthsFound.TheVariants.{Both, NotBoth}
 use Rattle.rules.specs.declared.Description.{Description}
-use Rattle.rules.specs.declared.FirstHalf.TheVariants as F
-use Rattle.rules.specs.declared.Look.{Look}
-use Rattle.rules.specs.declared.Look.TheVariants.{Accepted, Refused}
 use Rattle.rules.specs.declared.Refusal.TheVariants.{CodeTooGreat, CouldNotBeRead}
 use Rattle.rules.specs.declared.Shares.{Shares}
 use Rattle.rules.proofs.Answers.{looks-is}
 use Rattle.rules.proofs.Looking.Demand3.{used-shown}
 use Rattle.signature.specs.Undivided.{code_undivided, correct_undivided, look_undivided_at, look_undivided}
+use Rattle.std.specs.Prelude.{Err, None, Ok, Option, Some}
+use Rattle.rules.specs.Results.{Look, look_of}
 
 -- ---- past 20, as one step and not as its two halves
 
 pub look-undivided : (d : Description) (table : List ℤ) (depths : Depths) (pixel : Codes) → let m = raw_m depths in
-    look_at d table pixel (Both depths) ≡ cond (within m pixel) (Accepted (correct d table depths pixel) (shown d m pixel d.kind)) (Refused CodeTooGreat)
+    look_at d table pixel (Some depths) ≡ cond (within m pixel) (look_of (correct d table depths pixel) (shown d m pixel d.kind)) (Err CodeTooGreat)
 unfolding look_at rows_with
 look-undivided d table depths pixel = by (within (raw_m depths) pixel)
   where
     shares : Shares
     shares = shown d (raw_m depths) pixel d.kind
 
-    by : (b : Bool) → look_by d table depths (cond b (F.Accepted shares) (F.Refused CodeTooGreat)) ≡ cond b (Accepted (correct d table depths pixel) shares) (Refused CodeTooGreat)
+    by : (b : Bool) → look_by d table depths (cond b (Ok shares) (Err CodeTooGreat)) ≡ cond b (look_of (correct d table depths pixel) shares) (Err CodeTooGreat)
     by true = refl
     by false = refl
 
@@ -57,13 +54,13 @@ correct-undivided d table depths pixel i = record { red = each Red i; green = ea
 -- for all input
 pub look-as-before : (d : Description) (table : List ℤ) (bits : Bits) (pixel : Codes) → look d table bits pixel ≡ look_undivided d table bits pixel
 unfolding look look_at look_undivided
-look-as-before d table bits pixel = ap (λ x. cond (could_be_read d table) x (Refused CouldNotBeRead)) (by (depths_of bits))
+look-as-before d table bits pixel = ap (λ x. cond (could_be_read d table) x (Err CouldNotBeRead)) (by (depths_of bits))
   where
-    by : (x : DepthsFound) → look_at d table pixel x ≡ look_undivided_at d table pixel x
-    by NotBoth = refl
-    by (Both depths) =
+    by : (x : Option Depths) → look_at d table pixel x ≡ look_undivided_at d table pixel x
+    by None = refl
+    by (Some depths) =
         look-undivided d table depths pixel
-        ∙ ap (λ codes. cond (within (raw_m depths) pixel) (Accepted codes (shown d (raw_m depths) pixel d.kind)) (Refused CodeTooGreat)) (correct-undivided d table depths pixel)
+        ∙ ap (λ codes. cond (within (raw_m depths) pixel) (look_of codes (shown d (raw_m depths) pixel d.kind)) (Err CodeTooGreat)) (correct-undivided d table depths pixel)
 
 -- of every call that keeps the promise of look
 pub looks-as-before : {d : Description} {table : List ℤ} {bits : Bits} {pixel : Codes} {r : Look} → Looks d table bits pixel r → r ≡ look_undivided d table bits pixel

@@ -15,11 +15,10 @@ use Rattle.rules.specs.Promises.{FindsRows, GivesCodes}
 use Rattle.rules.specs.declared.Bits.{Bits}
 use Rattle.rules.specs.declared.Codes.{Codes}
 use Rattle.rules.specs.declared.Description.{Description}
-use Rattle.rules.specs.declared.FirstHalf.{FirstHalf}
-use Rattle.rules.specs.declared.SecondHalf.{SecondHalf}
 use Rattle.rules.specs.declared.Shares.{Shares}
 use Rattle.signature.specs.Cases.{described_by, table_from, grey, one_row, zero_and_half, corner, corner_pixel, corner_rows, corner_weights, thrice}
 use Rattle.signature.proofs.Cases.{opened}
+use Rattle.rules.specs.Results.{FirstHalf, SecondHalf}
 
 abbrev first : List ℕ → ℕ
 first xs = get_or xs 0 0

@@ -20,11 +20,11 @@ use Rattle.rules.specs.declared.Bits.{Bits}
 use Rattle.rules.specs.declared.Codes.{Codes}
 use Rattle.rules.specs.declared.Description.{Description}
 use Rattle.rules.specs.declared.Kind.TheVariants.{ThreeD}
-use Rattle.rules.specs.declared.Look.{Look}
 use Rattle.rules.specs.declared.Share.{Share}
 use Rattle.signature.specs.Cases.{described_by, table_from, grey, zero_and_half, minus_and_plus_half, corner, corner_pixel}
 use Rattle.signature.specs.OneDomain.{own_fraction, look_before_at, red_wider, green_higher, all_wider, green_first, cube_to}
 use Rattle.signature.proofs.Cases.{opened}
+use Rattle.rules.specs.Results.{Look}
 
 abbrev pub Looker : Type 0
 Looker = Description → List ℤ → Bits → Codes → Look

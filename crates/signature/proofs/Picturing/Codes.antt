@@ -14,28 +14,26 @@ use Rattle.rules.specs.Picturing.{corrected, picture, output_after}
 use Rattle.rules.specs.Demands.{pixel_at}
 use Rattle.rules.specs.declared.Colour.{Colour}
 use Rattle.rules.specs.declared.Description.{Description}
-use Rattle.rules.specs.declared.Look.TheVariants as L
-use Rattle.rules.specs.declared.Picture.{Picture}
-use Rattle.rules.specs.declared.Picture.TheVariants as P
 use Rattle.rules.proofs.Colours.{place-below, code-at-place}
 use Rattle.rules.proofs.Looking.Checks.{look-0}
 use Rattle.rules.proofs.Picturing.Checks.{within_all, pixel-within, each-length, each_at}
 use Rattle.rules.specs.declared.Bits.{Bits}
 use Rattle.rules.specs.declared.Depths.{Depths}
-use Rattle.rules.specs.declared.DepthsFound.TheVariants.{Both}
 use Rattle.signature.proofs.Picturing.Numbers.{PictureGiven, given-0, picture-given}
+use Rattle.std.specs.Prelude.{Err, Ok, Some}
+use Rattle.rules.specs.Results.{Picture, look_of}
 
 -- what an accepted picture has passed
 pub record PicturePassed (d : Description) (table : List ℤ) (bits : Bits) (src : List ℕ) (places : ℕ) : Type 0 where
   pub depths : Depths
   pub could : could_be_read d table ≡ true
-  pub known : depths_of bits ≡ Both depths
+  pub known : depths_of bits ≡ Some depths
   pub whole : length src % 3 ≡ 0
   pub room : length src ≤ places
   pub inside : within_all (raw_m depths) src ≡ true
 
 module _ (d : Description) (table : List ℤ) (bits : Bits) (src : List ℕ) (places : ℕ) where
-  pub picture-passed : picture d table bits src places ≡ P.Accepted → PicturePassed d table bits src places
+  pub picture-passed : picture d table bits src places ≡ (Ok tt) → PicturePassed d table bits src places
   picture-passed z = by (subst (PictureGiven d table bits src places) (ap picture_number z) (picture-given d table bits src places))
     where
       by : PictureGiven d table bits src places 0 → PicturePassed d table bits src places
@@ -48,22 +46,22 @@ module _ (d : Description) (table : List ℤ) (bits : Bits) where
   output-length src dst = by (picture d table bits src (length dst)) refl
     where
       by : (r : Picture) → picture d table bits src (length dst) ≡ r → length (output_after d table bits src dst r) ≡ length dst
-      by P.Accepted e =
+      by (Ok _) e =
           let p = picture-passed d table bits src (length dst) e in
           length-append (corrected d table bits src) (drop (length src) dst)
           ∙ omega (arith, each-length (λ pixel. codes_in (look d table bits pixel)) src p.whole, length-drop (length src) dst, p.room)
-      by (P.Refused r) e = refl
+      by (Err r) e = refl
 
   -- of an accepted picture look accepts every pixel, and the codes are those of look, pixel by pixel
   pub record PictureCodes (src : List ℕ) : Type 0 where
     pub depths : Depths
-    pub known : depths_of bits ≡ Both depths
+    pub known : depths_of bits ≡ Some depths
     pub accepts : (k : ℕ) → 3 * k < length src
-        → look d table bits (pixel_at src k) ≡ L.Accepted (correct d table depths (pixel_at src k)) (shown d (raw_m depths) (pixel_at src k) d.kind)
+        → look d table bits (pixel_at src k) ≡ look_of (correct d table depths (pixel_at src k)) (shown d (raw_m depths) (pixel_at src k) d.kind)
     pub as_long : length (corrected d table bits src) ≡ length src
     pub the_same : (k : ℕ) → 3 * k < length src → (c : Colour) → get_or (corrected d table bits src) (3 * k + colour_place c) 0 ≡ code_in (correct d table depths (pixel_at src k)) c
 
-  pub picture-codes : (src : List ℕ) (places : ℕ) → picture d table bits src places ≡ P.Accepted → PictureCodes src
+  pub picture-codes : (src : List ℕ) (places : ℕ) → picture d table bits src places ≡ (Ok tt) → PictureCodes src
   picture-codes src places e =
       record { depths = depths; known = p.known; accepts = accepts; as_long = each-length (λ pixel. codes_in (look d table bits pixel)) src p.whole; the_same = the_same }
     where
@@ -78,7 +76,7 @@ module _ (d : Description) (table : List ℤ) (bits : Bits) where
       whole-pixel k h = omega (arith, p.whole)
 
       accepts : (k : ℕ) → 3 * k < length src
-          → look d table bits (pixel_at src k) ≡ L.Accepted (correct d table depths (pixel_at src k)) (shown d (raw_m depths) (pixel_at src k) d.kind)
+          → look d table bits (pixel_at src k) ≡ look_of (correct d table depths (pixel_at src k)) (shown d (raw_m depths) (pixel_at src k) d.kind)
       accepts k h = look-0 d table bits (pixel_at src k) depths p.could p.known (pixel-within (raw_m depths) src p.inside k (whole-pixel k h))
 
       the_same : (k : ℕ) → 3 * k < length src → (c : Colour) → get_or (corrected d table bits src) (3 * k + colour_place c) 0 ≡ code_in (correct d table depths (pixel_at src k)) c

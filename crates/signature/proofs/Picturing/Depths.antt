@@ -18,32 +18,30 @@ use Rattle.rules.specs.declared.Bits.{Bits}
 use Rattle.rules.specs.declared.Colour.{Colour}
 use Rattle.rules.specs.declared.Colour.TheVariants.{Red, Green, Blue}
 use Rattle.rules.specs.declared.Depth.{Depth}
-use Rattle.rules.specs.declared.DepthFound.TheVariants.{Known, Unknown}
 use Rattle.rules.specs.declared.Depths.{Depths}
-use Rattle.rules.specs.declared.DepthsFound.TheVariants.{Both}
 use Rattle.rules.specs.declared.Description.{Description}
-use Rattle.rules.specs.declared.Picture.TheVariants.{Accepted}
 use Rattle.rules.proofs.KnownDepths.{OneUnknown, depths-one}
 use Rattle.signature.proofs.Picturing.Numbers.{PictureGiven, given-20, given-23, picture-given, given-picture}
 use Rattle.signature.proofs.Picturing.Promised.{pictures-right}
+use Rattle.std.specs.Prelude.{None, Ok, Some}
 
 -- ---- 20 and 23
 
 -- known depths, and a code above the M of raw codes
 pub record SomeAboveRaw (bits : Bits) (src : List ℕ) : Type 0 where
   pub depths : Depths
-  pub known : depths_of bits ≡ Both depths
+  pub known : depths_of bits ≡ Some depths
   pub place : ℕ
   pub inside : place < length src
   pub above : raw_m depths < get_or src place 0
 
 module _ (d : Description) (table : List ℤ) (bits : Bits) (src : List ℕ) (places : ℕ) where
   -- the raw depth is unknown
-  pub picture-20-raw : could_be_read d table ≡ true → depth_of bits.raw ≡ Unknown → picture_number (picture d table bits src places) ≡ 20
+  pub picture-20-raw : could_be_read d table ≡ true → depth_of bits.raw ≡ None → picture_number (picture d table bits src places) ≡ 20
   picture-20-raw could u = given-picture d table bits src places 20 (given-20 could (inl u))
 
   -- the raw depth is known and the corrected is not, also where a code is above M
-  pub picture-20-corrected : could_be_read d table ≡ true → (raw : Depth) → depth_of bits.raw ≡ Known raw → depth_of bits.corrected ≡ Unknown
+  pub picture-20-corrected : could_be_read d table ≡ true → (raw : Depth) → depth_of bits.raw ≡ Some raw → depth_of bits.corrected ≡ None
       → picture_number (picture d table bits src places) ≡ 20
   picture-20-corrected could raw k u = given-picture d table bits src places 20 (given-20 could (inr (raw, k, u)))
 
@@ -78,7 +76,7 @@ colour-at (suc (suc zero)) h = (Blue, refl)
 colour-at (suc (suc (suc j))) h = absurd (omega arith)
 
 -- of a picture that is right every code is at most the corrected M
-pub right-picture-most : {d : Description} {table : List ℤ} {bits : Bits} {depths : Depths} {src dst dst' : List ℕ} → depths_of bits ≡ Both depths
+pub right-picture-most : {d : Description} {table : List ℤ} {bits : Bits} {depths : Depths} {src dst dst' : List ℕ} → depths_of bits ≡ Some depths
     → RightPicture d table bits src dst dst' → (k : ℕ) → k < length src → get_or dst' k 0 ≤ corrected_m depths
 right-picture-most {bits = bits} {depths} {src} {dst} {dst'} known q k inside =
     let (c, place) = colour-at (k % 3) (omega arith) in
@@ -89,6 +87,6 @@ right-picture-most {bits = bits} {depths} {src} {dst} {dst'} known q k inside =
     subst (λ x. get_or dst' k 0 ≤ corrected_m x) (depths-one bits q.depths depths q.known known) here
 
 -- so of every accepted picture
-pub pictures-most : {d : Description} {table : List ℤ} {bits : Bits} {depths : Depths} {src dst dst' : List ℕ} → depths_of bits ≡ Both depths
-    → Pictures d table bits src dst Accepted dst' → (k : ℕ) → k < length src → get_or dst' k 0 ≤ corrected_m depths
+pub pictures-most : {d : Description} {table : List ℤ} {bits : Bits} {depths : Depths} {src dst dst' : List ℕ} → depths_of bits ≡ Some depths
+    → Pictures d table bits src dst (Ok tt) dst' → (k : ℕ) → k < length src → get_or dst' k 0 ≤ corrected_m depths
 pictures-most known p = right-picture-most known (pictures-right p)

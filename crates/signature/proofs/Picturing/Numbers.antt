@@ -17,14 +17,13 @@ use Rattle.rules.specs.Answers.{picture_number, refusal_number}
 use Rattle.rules.specs.Promises.{Pictures}
 use Rattle.rules.specs.declared.Bits.{Bits}
 use Rattle.rules.specs.declared.Depths.{Depths}
-use Rattle.rules.specs.declared.DepthsFound.{DepthsFound}
-use Rattle.rules.specs.declared.DepthsFound.TheVariants.{Both, NotBoth}
 use Rattle.rules.specs.declared.Description.{Description}
-use Rattle.rules.specs.declared.Picture.{Picture}
 use Rattle.rules.proofs.KnownDepths.{OneUnknown, not-both, unknown-not-both}
 use Rattle.rules.proofs.Picturing.Checks.{within_all, picture-24, picture-20, picture-21, picture-22, picture-23, picture-0}
 use Rattle.signature.specs.Numbers.{OneOf}
 use Rattle.signature.proofs.Either.{fails-some, some-fails}
+use Rattle.std.specs.Prelude.{None, Option, Some}
+use Rattle.rules.specs.Results.{Picture}
 
 -- ---- a code above M
 
@@ -45,15 +44,15 @@ pub data PictureGiven (d : Description) (table : List ℤ) (bits : Bits) (src : 
   -- a depth that is unknown, whatever the picture and the output
   given-20 : could_be_read d table ≡ true → OneUnknown bits → PictureGiven d table bits src places 20
   -- no whole pixels
-  given-21 : could_be_read d table ≡ true → (depths : Depths) → depths_of bits ≡ Both depths → (length src % 3 ≡ 0 → ⊥) → PictureGiven d table bits src places 21
+  given-21 : could_be_read d table ≡ true → (depths : Depths) → depths_of bits ≡ Some depths → (length src % 3 ≡ 0 → ⊥) → PictureGiven d table bits src places 21
   -- an output without room for them
-  given-22 : could_be_read d table ≡ true → (depths : Depths) → depths_of bits ≡ Both depths → length src % 3 ≡ 0 → places < length src
+  given-22 : could_be_read d table ≡ true → (depths : Depths) → depths_of bits ≡ Some depths → length src % 3 ≡ 0 → places < length src
       → PictureGiven d table bits src places 22
   -- a code above the raw M
-  given-23 : could_be_read d table ≡ true → (depths : Depths) → depths_of bits ≡ Both depths → length src % 3 ≡ 0 → length src ≤ places
+  given-23 : could_be_read d table ≡ true → (depths : Depths) → depths_of bits ≡ Some depths → length src % 3 ≡ 0 → length src ≤ places
       → (k : ℕ) → k < length src → raw_m depths < get_or src k 0 → PictureGiven d table bits src places 23
   -- none above it
-  given-0 : could_be_read d table ≡ true → (depths : Depths) → depths_of bits ≡ Both depths → length src % 3 ≡ 0 → length src ≤ places
+  given-0 : could_be_read d table ≡ true → (depths : Depths) → depths_of bits ≡ Some depths → length src % 3 ≡ 0 → length src ≤ places
       → within_all (raw_m depths) src ≡ true → PictureGiven d table bits src places 0
 
 module _ (d : Description) (table : List ℤ) (bits : Bits) (src : List ℕ) (places : ℕ) where
@@ -65,7 +64,7 @@ module _ (d : Description) (table : List ℤ) (bits : Bits) (src : List ℕ) (pl
       Answer : Picture → Type 0
       Answer r = PictureGiven d table bits src places (picture_number r)
 
-      by-23 : (depths : Depths) → could_be_read d table ≡ true → depths_of bits ≡ Both depths
+      by-23 : (depths : Depths) → could_be_read d table ≡ true → depths_of bits ≡ Some depths
           → Dec (length src % 3 ≡ 0) → Dec (length src ≤ places) → (b : Bool) → within_all (raw_m depths) src ≡ b → Answer (picture d table bits src places)
       by-23 depths e k (no over) room b w = subst Answer (sym (picture-21 d table bits src places depths e k over)) (given-21 e depths k over)
       by-23 depths e k (yes whole) (no short) b w =
@@ -76,9 +75,9 @@ module _ (d : Description) (table : List ℤ) (bits : Bits) (src : List ℕ) (pl
           subst Answer (sym (picture-23 d table bits src places depths e k whole room w)) (given-23 e depths k whole room at inside above)
       by-23 depths e k (yes whole) (yes room) true w = subst Answer (sym (picture-0 d table bits src places depths e k whole room w)) (given-0 e depths k whole room w)
 
-      by-20 : (x : DepthsFound) → could_be_read d table ≡ true → depths_of bits ≡ x → Answer (picture d table bits src places)
-      by-20 NotBoth e u = subst Answer (sym (picture-20 d table bits src places e u)) (given-20 e (not-both bits u))
-      by-20 (Both depths) e k = by-23 depths e k (ℕ_discrete (length src % 3) 0) (dec_le (length src) places) (within_all (raw_m depths) src) refl
+      by-20 : (x : Option Depths) → could_be_read d table ≡ true → depths_of bits ≡ x → Answer (picture d table bits src places)
+      by-20 None e u = subst Answer (sym (picture-20 d table bits src places e u)) (given-20 e (not-both bits u))
+      by-20 (Some depths) e k = by-23 depths e k (ℕ_discrete (length src % 3) 0) (dec_le (length src) places) (within_all (raw_m depths) src) refl
 
       by-24 : (b : Bool) → could_be_read d table ≡ b → Answer (picture d table bits src places)
       by-24 true e = by-20 (depths_of bits) e refl

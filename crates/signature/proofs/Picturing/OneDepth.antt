@@ -10,31 +10,30 @@ use Rattle.rules.specs.Descriptions.{could_be_read}
 use Rattle.rules.specs.Picturing.{each_pixel, picture_at, picture, output_after}
 use Rattle.rules.specs.Answers.{codes_in}
 use Rattle.rules.specs.Promises.{Pictures}
-use Rattle.rules.specs.declared.DepthFound.{DepthFound}
-use Rattle.rules.specs.declared.DepthFound.TheVariants.{Known, Unknown}
 use Rattle.rules.specs.declared.Description.{Description}
-use Rattle.rules.specs.declared.Picture.{Picture}
-use Rattle.rules.specs.declared.Picture.TheVariants.{Accepted, Refused}
 use Rattle.rules.specs.declared.Refusal.TheVariants.{CouldNotBeRead}
 use Rattle.rules.proofs.Answers.{pictures-is}
 use Rattle.signature.specs.OneDepth.{picture_one_at, picture_one, output_one}
 use Rattle.signature.proofs.Looking.OneDepth.{look-one}
+use Rattle.std.specs.Prelude.{Err, None, Ok, Option, Some}
+use Rattle.rules.specs.declared.Depth.{Depth}
+use Rattle.rules.specs.Results.{Picture}
 
-picture-one-at : (x : DepthFound) (src : List ℕ) (places : ℕ) → picture_at (together x x) src places ≡ picture_one_at x src places
+picture-one-at : (x : Option Depth) (src : List ℕ) (places : ℕ) → picture_at (together x x) src places ≡ picture_one_at x src places
 unfolding picture_one_at
-picture-one-at Unknown src places = refl
-picture-one-at (Known depth) src places = refl
+picture-one-at None src places = refl
+picture-one-at (Some depth) src places = refl
 
 pub picture-one : (d : Description) (table : List ℤ) (bits : ℕ) (src : List ℕ) (places : ℕ) → picture d table (same_bits bits) src places ≡ picture_one d table bits src places
 unfolding picture picture_one
-picture-one d table bits src places = ap (λ r. cond (could_be_read d table) r (Refused CouldNotBeRead)) (picture-one-at (depth_of bits) src places)
+picture-one d table bits src places = ap (λ r. cond (could_be_read d table) r (Err CouldNotBeRead)) (picture-one-at (depth_of bits) src places)
 
 -- look's codes are document 01's, pixel by pixel
 pub output-one : (d : Description) (table : List ℤ) (bits : ℕ) (src dst : List ℕ) (r : Picture)
     → output_after d table (same_bits bits) src dst r ≡ output_one d table bits src dst r
 unfolding output_after output_one
-output-one d table bits src dst Accepted = λ i. each_pixel (λ pixel. codes_in (look-one d table bits pixel i)) src ++ drop (length src) dst
-output-one d table bits src dst (Refused r) = refl
+output-one d table bits src dst (Ok _) = λ i. each_pixel (λ pixel. codes_in (look-one d table bits pixel i)) src ++ drop (length src) dst
+output-one d table bits src dst (Err r) = refl
 
 -- the output after the answer
 pub output-after-one : (d : Description) (table : List ℤ) (bits : ℕ) (src dst : List ℕ)

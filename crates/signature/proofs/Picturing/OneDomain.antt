@@ -14,26 +14,26 @@ use Rattle.rules.specs.Promises.{Pictures}
 use Rattle.rules.specs.declared.Bits.{Bits}
 use Rattle.rules.specs.declared.Description.{Description}
 use Rattle.rules.specs.declared.Kind.TheVariants.{ThreeD}
-use Rattle.rules.specs.declared.Picture.{Picture}
-use Rattle.rules.specs.declared.Picture.TheVariants.{Accepted, Refused}
 use Rattle.rules.specs.declared.Refusal.TheVariants.{CouldNotBeRead}
 use Rattle.rules.proofs.Answers.{pictures-is}
 use Rattle.rules.proofs.Picturing.Checks.{picture-24}
 use Rattle.signature.specs.OneDomain.{agree_before, picture_before, output_before}
 use Rattle.signature.proofs.Looking.OneDomain.{same-24, look-one-domain, before-24}
 use Rattle.signature.proofs.Looking.CommonFractions.{uneven-24}
+use Rattle.std.specs.Prelude.{Err, Ok}
+use Rattle.rules.specs.Results.{Picture}
 
 module _ (d : Description) (table : List ℤ) (bits : Bits) where
   module _ (one : agree_before d.kind d ≡ true) where
     pub picture-one-domain : (src : List ℕ) (places : ℕ) → picture d table bits src places ≡ picture_before d table bits src places
     unfolding picture picture_before
-    picture-one-domain src places = ap (λ could. cond could (picture_at (depths_of bits) src places) (Refused CouldNotBeRead)) (same-24 d one table)
+    picture-one-domain src places = ap (λ could. cond could (picture_at (depths_of bits) src places) (Err CouldNotBeRead)) (same-24 d one table)
 
     -- look's codes are what they were, pixel by pixel
     output-one-domain : (src dst : List ℕ) (r : Picture) → output_after d table bits src dst r ≡ output_before d table bits src dst r
     unfolding output_after output_before
-    output-one-domain src dst Accepted = λ i. each_pixel (λ pixel. codes_in (look-one-domain d one table bits pixel i)) src ++ drop (length src) dst
-    output-one-domain src dst (Refused r) = refl
+    output-one-domain src dst (Ok _) = λ i. each_pixel (λ pixel. codes_in (look-one-domain d one table bits pixel i)) src ++ drop (length src) dst
+    output-one-domain src dst (Err r) = refl
 
     -- the output after the answer
     pub output-after-one-domain : (src dst : List ℕ)
@@ -49,11 +49,11 @@ module _ (d : Description) (table : List ℤ) (bits : Bits) where
   -- ---- 3D, and domains that differ
 
   -- before, 24
-  pub picture-before-24 : agree_before d.kind d ≡ false → (src : List ℕ) (places : ℕ) → picture_before d table bits src places ≡ Refused CouldNotBeRead
+  pub picture-before-24 : agree_before d.kind d ≡ false → (src : List ℕ) (places : ℕ) → picture_before d table bits src places ≡ Err CouldNotBeRead
   unfolding picture_before
-  picture-before-24 differ src places = ap (λ could. cond could (picture_at (depths_of bits) src places) (Refused CouldNotBeRead)) (before-24 d table differ)
+  picture-before-24 differ src places = ap (λ could. cond could (picture_at (depths_of bits) src places) (Err CouldNotBeRead)) (before-24 d table differ)
 
   -- and where a bound is not whole it is 24 still
   pub picture-uneven : d.kind ≡ ThreeD → one_domain d ≡ false → every_colour whole_bounds d ≡ false
-      → (src : List ℕ) (places : ℕ) → picture d table bits src places ≡ Refused CouldNotBeRead
+      → (src : List ℕ) (places : ℕ) → picture d table bits src places ≡ Err CouldNotBeRead
   picture-uneven cube differ uneven src places = picture-24 d table bits src places (uneven-24 d cube differ uneven table)

@@ -13,18 +13,18 @@ use Rattle.rules.specs.Demands.{pixel_at, RightPicture}
 use Rattle.rules.specs.Promises.{Pictures}
 use Rattle.rules.specs.declared.Bits.{Bits}
 use Rattle.rules.specs.declared.Description.{Description}
-use Rattle.rules.specs.declared.Picture.{Picture}
-use Rattle.rules.specs.declared.Picture.TheVariants as P
 use Rattle.rules.specs.declared.Refusal.{Refusal}
 use Rattle.signature.proofs.Picturing.Codes.{PicturePassed, picture-passed, PictureCodes, picture-codes, output-length}
 use Rattle.rules.proofs.Colours.{place-below}
 use Rattle.rules.proofs.Looking.Demand3.{right}
 use Rattle.rules.proofs.KnownDepths.{depths-bounds}
 use Rattle.rules.proofs.Answers.{pictures-is}
+use Rattle.std.specs.Prelude.{Err, Ok}
+use Rattle.rules.specs.Results.{Picture}
 
 module _ {d : Description} {table : List ℤ} {bits : Bits} {src dst dst' : List ℕ} where
   -- a refusal leaves the output as it was
-  pub picture-unchanged : {reason : Refusal} → Pictures d table bits src dst (P.Refused reason) dst' → dst' ≡ dst
+  pub picture-unchanged : {reason : Refusal} → Pictures d table bits src dst (Err reason) dst' → dst' ≡ dst
   unfolding output_after
   picture-unchanged p = p.memory ∙ ap (output_after d table bits src dst) (sym (pictures-is p).0)
 
@@ -32,7 +32,7 @@ module _ {d : Description} {table : List ℤ} {bits : Bits} {src dst dst' : List
   pub pictures-length : {r : Picture} → Pictures d table bits src dst r dst' → length dst' ≡ length dst
   pictures-length p = ap length p.memory ∙ output-length d table bits src dst
 
-  pub pictures-right : Pictures d table bits src dst P.Accepted dst' → RightPicture d table bits src dst dst'
+  pub pictures-right : Pictures d table bits src dst (Ok tt) dst' → RightPicture d table bits src dst dst'
   unfolding output_after
   pictures-right h =
       record {
@@ -53,7 +53,7 @@ module _ {d : Description} {table : List ℤ} {bits : Bits} {src dst dst' : List
         };
       }
     where
-      accepted : picture d table bits src (length dst) ≡ P.Accepted
+      accepted : picture d table bits src (length dst) ≡ (Ok tt)
       accepted = sym (pictures-is h).0
 
       p : PicturePassed d table bits src (length dst)

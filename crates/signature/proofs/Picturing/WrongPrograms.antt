@@ -18,11 +18,11 @@ use Rattle.rules.specs.declared.Bits.{Bits}
 use Rattle.rules.specs.declared.Colour.TheVariants.{Red}
 use Rattle.rules.specs.declared.Description.{Description}
 use Rattle.rules.specs.declared.Kind.TheVariants.{ThreeD}
-use Rattle.rules.specs.declared.Picture.{Picture}
 use Rattle.signature.specs.Cases.{described_by, table_from, zero_and_half}
 use Rattle.signature.specs.OneDomain.{own_fraction, look_before_at, red_wider, green_first, cube_to}
 use Rattle.signature.proofs.Cases.{opened}
 use Rattle.signature.proofs.Looking.WrongPrograms.{rescaled}
+use Rattle.rules.specs.Results.{Picture}
 
 abbrev pub Painter : Type 0
 Painter = Description → List ℤ → Bits → List ℕ → List ℕ → Picture × List ℕ

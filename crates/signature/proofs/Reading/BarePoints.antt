@@ -4,7 +4,6 @@ use mathlib.Core.Path.{◌≡◌, refl, sym, ap, ap₂, subst, ◌∙◌}
 use mathlib.Core.Logic.{◌⊎◌, inl, inr, ⊎_elim}
 use mathlib.Core.Bool.{Bool, true, false, cond, ◌&&◌, ◌||◌}
 use mathlib.Core.List.{List, [], ◌∷◌, ◌++◌, append_assoc, append-nil}
-use mathlib.Core.Option.{Option, none, some}
 use native.Mathlib.Omega.{arith}
 use borrow.Author.Tests.{eqb-true}
 use lib.Dec.{eqb}
@@ -20,18 +19,12 @@ use Rattle.rules.specs.Reading.Contents.{bounds_at, bounds_of, content_by, conte
 use Rattle.rules.specs.Reading.Judge.{head_fault, start}
 use Rattle.rules.specs.Promises.{Checks, Reads}
 use Rattle.rules.specs.declared.Bounds.{Bounds}
-use Rattle.rules.specs.declared.Content.{Content}
-use Rattle.rules.specs.declared.Content.TheVariants.{Says, Wrong}
 use Rattle.rules.specs.declared.Description.{Description}
 use Rattle.rules.specs.declared.Form.{Form}
 use Rattle.rules.specs.declared.Form.TheVariants.{Idle, Keyed, Data, Neither}
 use Rattle.rules.specs.declared.Item.{Item}
 use Rattle.rules.specs.declared.Item.TheVariants.{OfLower, OfRow, OfUpper}
 use Rattle.rules.specs.declared.Keyword.TheVariants.{ATitle, ALower, AnUpper, ASize}
-use Rattle.rules.specs.declared.Number.{Number}
-use Rattle.rules.specs.declared.Number.TheVariants.{Malformed}
-use Rattle.rules.specs.declared.Read.{Read}
-use Rattle.rules.specs.declared.Read.TheVariants.{Accepted, Refused}
 use Rattle.rules.specs.declared.Refusal.{Refusal}
 use Rattle.rules.specs.declared.Refusal.TheVariants.{DomainNumberWrong, NotThreeNumbers, ParametersWrong, SampleBeyond, SampleTooFine}
 use Rattle.rules.specs.declared.Three.{Three}
@@ -45,11 +38,14 @@ use Rattle.signature.specs.BarePoints.{BareAmong, BarePoint, Freed, Unformed, Un
 use Rattle.signature.proofs.Reading.Parts.{read_is}
 use Rattle.signature.proofs.Reading.Beside.{Stops, not_earlier}
 use Rattle.signature.proofs.Reading.Moved.{OnMarked, SameOrDiffers, lines-moved, table-alike}
+use Rattle.std.specs.Prelude.{Err, None, Ok, Option, Some}
+use Rattle.rules.specs.declared.NumberFault.TheVariants.{Malformed}
+use Rattle.rules.specs.Results.{Content, Number, Read, refused_on}
 
 -- ---- words
 
 -- a word with a bare point is a number now
-pub bare-now : (w : List ℕ) (n : Numeral) → BarePoint w n → numeral_of w ≡ some n
+pub bare-now : (w : List ℕ) (n : Numeral) → BarePoint w n → numeral_of w ≡ Some n
 bare-now w n b =
     of-spells w n
     (record {
@@ -63,7 +59,7 @@ bare-now w n b =
     })
 
 -- it was none
-pub bare-before : (w : List ℕ) (n : Numeral) → BarePoint w n → numeral_before w ≡ none
+pub bare-before : (w : List ℕ) (n : Numeral) → BarePoint w n → numeral_before w ≡ None
 unfolding numeral_before pointed_before starts
 bare-before w n b =
     let x = of-power b.power n.exponent b.power_so in
@@ -74,7 +70,7 @@ bare-before w n b =
     rw (b.word, s.0, s.1, r.0, r.1, x.no_digit) (assemble-first false n.negative n.whole (run digit b.power) (exponent_of (after digit b.power)))
 
 -- it is the same number without its point
-pub bare-without : (w : List ℕ) (n : Numeral) (b : BarePoint w n) → numeral_of (without_point w n b) ≡ some n
+pub bare-without : (w : List ℕ) (n : Numeral) (b : BarePoint w n) → numeral_of (without_point w n b) ≡ Some n
 bare-without w n b =
     of-spells (without_point w n b) n
     (record {
@@ -93,7 +89,7 @@ unfolding number_of
 bare-value places limit w n b = ap (value_of places limit) (bare-now w n b ∙ sym (bare-without w n b))
 
 -- a point with no digit on either side makes no number, whatever follows it
-pub lone-point : (negative : Bool) (sign rest : List ℕ) → Sign negative sign → starts digit rest ≡ false → numeral_of (sign ++ 46 ∷ rest) ≡ none
+pub lone-point : (negative : Bool) (sign rest : List ℕ) → Sign negative sign → starts digit rest ≡ false → numeral_of (sign ++ 46 ∷ rest) ≡ None
 unfolding numeral_of numeral_with run after starts
 lone-point negative sign rest s h =
     let k = sign-on negative sign (46 ∷ rest) s refl in
@@ -105,7 +101,7 @@ record BareTail (whole tail : List ℕ) : Type 0 where
   exponent : Exponent
   tail-so : tail ≡ 46 ∷ power
   whole_so : starts digit whole ≡ true
-  power_so : exponent_of power ≡ some exponent
+  power_so : exponent_of power ≡ Some exponent
 
 module _ (negative : Bool) (whole : List ℕ) (b : ℕ) (rest : List ℕ) where
   -- with a point or not, digits before it and after it or not, and an exponent or not: as it was, or a bare point
@@ -117,8 +113,8 @@ module _ (negative : Bool) (whole : List ℕ) (b : ℕ) (rest : List ℕ) where
 
   bare-tail : eqb b 46 ≡ true → starts digit whole ≡ true → starts digit rest ≡ false → (x : Option Exponent) → exponent_of (after digit rest) ≡ x → AsItWas true true false x
   unfolding every
-  bare-tail e w r none f = inl refl
-  bare-tail e w r (some x) f = inr (record {
+  bare-tail e w r None f = inl refl
+  bare-tail e w r (Some x) f = inr (record {
     power = rest;
     exponent = x;
     tail-so = ap (λ (c : ℕ). c ∷ rest) (eqb-true b 46 e);
@@ -161,20 +157,20 @@ unfolding numeral_before numeral_of
 word_moved w = ⊎_elim inl (λ t. inr (_, bare_of w t)) (tail-moved (starts minus_byte w) (run digit (unsigned w)) (after digit (unsigned w)))
 
 -- every word that was a number is one still, and the same
-pub number-still : (w : List ℕ) (n : Numeral) → numeral_before w ≡ some n → numeral_of w ≡ some n
+pub number-still : (w : List ℕ) (n : Numeral) → numeral_before w ≡ Some n → numeral_of w ≡ Some n
 number-still w n h = ⊎_elim (λ e. sym e ∙ h) (λ k. absurd (no-some n (sym h ∙ bare-before w k.0 k.1))) (word_moved w)
 
 -- a word that was no number and is one has a bare point
-pub newly-number : (w : List ℕ) (n : Numeral) → numeral_before w ≡ none → numeral_of w ≡ some n → BarePoint w n
+pub newly-number : (w : List ℕ) (n : Numeral) → numeral_before w ≡ None → numeral_of w ≡ Some n → BarePoint w n
 newly-number w n h g = ⊎_elim (λ e. absurd (no-some n (sym g ∙ sym e ∙ h))) (λ k. the k (sym (bare-now w k.0 k.1) ∙ g)) (word_moved w)
   where
-    the : (k : (m : Numeral) × BarePoint w m) → ◌≡◌ {A = Option Numeral} (some k.0) (some n) → BarePoint w n
+    the : (k : (m : Numeral) × BarePoint w m) → ◌≡◌ {A = Option Numeral} (Some k.0) (Some n) → BarePoint w n
     the k e = let same : k.0 ≡ n = cc in subst (BarePoint w) same k.1
 
 -- ---- three numbers
 
 abbrev NumberMoved : ℕ → ℕ → List ℕ → Type 0
-NumberMoved places limit w = (number_before places limit w ≡ number_of places limit w) ⊎ ((number_before places limit w ≡ Malformed) × ((n : Numeral) × BarePoint w n))
+NumberMoved places limit w = (number_before places limit w ≡ number_of places limit w) ⊎ ((number_before places limit w ≡ (Err Malformed)) × ((n : Numeral) × BarePoint w n))
 
 number-moved : (places limit : ℕ) (w : List ℕ) → NumberMoved places limit w
 unfolding number_before number_of
@@ -182,17 +178,17 @@ number-moved places limit w =
     ⊎_elim (λ e. inl (ap (value_of places limit) e)) (λ k. inr (ap (value_of places limit) (bare-before w k.0 k.1), k)) (word_moved w)
 
 -- where one of three numbers is malformed, there are not three
-second-malformed : (a c : Bool) (t : Option Three) → cond (a && (false && c)) t none ≡ none
+second-malformed : (a c : Bool) (t : Option Three) → cond (a && (false && c)) t None ≡ None
 second-malformed true c t = refl
 second-malformed false c t = refl
 
-third-malformed : (a b : Bool) (t : Option Three) → cond (a && (b && false)) t none ≡ none
+third-malformed : (a b : Bool) (t : Option Three) → cond (a && (b && false)) t None ≡ None
 third-malformed true true t = refl
 third-malformed true false t = refl
 third-malformed false b t = refl
 
 abbrev ThreeMoved : ℕ → ℕ → List (List ℕ) → Type 0
-ThreeMoved places limit ws = (three_by number_before places limit ws ≡ three_of places limit ws) ⊎ ((three_by number_before places limit ws ≡ none) × BareAmong ws)
+ThreeMoved places limit ws = (three_by number_before places limit ws ≡ three_of places limit ws) ⊎ ((three_by number_before places limit ws ≡ None) × BareAmong ws)
 
 three-moved : (places limit : ℕ) (ws : List (List ℕ)) → ThreeMoved places limit ws
 unfolding three_by three_of
@@ -216,7 +212,7 @@ three-moved places limit (a ∷ b ∷ c ∷ []) = by (number-moved places limit 
 -- where there are not three, they are refused for their form
 values_moved : (unformed beyond finer : Refusal) (places limit : ℕ) (ws : List (List ℕ)) (next : ℤ → ℤ → ℤ → Content)
     → (values unformed beyond finer (three_by number_before places limit ws) next ≡ values unformed beyond finer (three_of places limit ws) next)
-    ⊎ ((values unformed beyond finer (three_by number_before places limit ws) next ≡ Wrong unformed) × BareAmong ws)
+    ⊎ ((values unformed beyond finer (three_by number_before places limit ws) next ≡ Err unformed) × BareAmong ws)
 values_moved unformed beyond finer places limit ws next =
     let said : Option Three → Content = λ t. values unformed beyond finer t next in
     ⊎_elim (λ e. inl (ap said e)) (λ k. inr (ap said k.0, k.1)) (three-moved places limit ws)
@@ -241,19 +237,19 @@ module _ (l : List ℕ) where
 
   -- by its form, where that asks for three numbers
   told : (f : Form) (r : Refusal) (before now : Content) → form_of l ≡ f → Unformed f r → ((p : ℕ) → form_by number_before f p l ≡ before) → ((p : ℕ) → content_by f p l ≡ now)
-      → (before ≡ now) ⊎ ((before ≡ Wrong r) × BareAmong (words_of l)) → LineMoved
+      → (before ≡ now) ⊎ ((before ≡ Err r) × BareAmong (words_of l)) → LineMoved
   told f r before now e u x y (inl same) = inl (λ p. rw e (x p ∙ same ∙ sym (y p)))
   told f r before now e u x y (inr (wrong, k)) = inr (record { refusal = r; wrong = λ p. rw e (x p ∙ wrong); marked = record { unformed = rw e u; bare = k } })
 
-  bounds-moved : (side : Bounds → Item) → let ws = parameters (words_of l) in (bounds_by number_before side ws ≡ bounds_of side ws) ⊎ ((bounds_by number_before side ws ≡ Wrong ParametersWrong) × BareAmong (words_of l))
+  bounds-moved : (side : Bounds → Item) → let ws = parameters (words_of l) in (bounds_by number_before side ws ≡ bounds_of side ws) ⊎ ((bounds_by number_before side ws ≡ Err ParametersWrong) × BareAmong (words_of l))
   unfolding bounds_by bounds_of
   bounds-moved side =
       ⊎_elim inl (λ k. inr (k.0, among-all (words_of l) k.1))
-      (values_moved ParametersWrong DomainNumberWrong DomainNumberWrong bound_places bound_limit (parameters (words_of l)) (λ x y z. Says (side (bounds_at x y z))))
+      (values_moved ParametersWrong DomainNumberWrong DomainNumberWrong bound_places bound_limit (parameters (words_of l)) (λ x y z. Ok (side (bounds_at x y z))))
 
-  samples-moved : (samples_by number_before (words_of l) ≡ samples_on (words_of l)) ⊎ ((samples_by number_before (words_of l) ≡ Wrong NotThreeNumbers) × BareAmong (words_of l))
+  samples-moved : (samples_by number_before (words_of l) ≡ samples_on (words_of l)) ⊎ ((samples_by number_before (words_of l) ≡ Err NotThreeNumbers) × BareAmong (words_of l))
   unfolding samples_by samples_on
-  samples-moved = values_moved NotThreeNumbers SampleBeyond SampleTooFine sample_places sample_limit (words_of l) (λ x y z. Says (OfRow (row_of x y z)))
+  samples-moved = values_moved NotThreeNumbers SampleBeyond SampleTooFine sample_places sample_limit (words_of l) (λ x y z. Ok (OfRow (row_of x y z)))
 
   line-moved : LineMoved
   unfolding form_by content_by
@@ -290,7 +286,7 @@ read-moved file places = by (lines-moved line_before Marked line-moved places fi
       rest = rest;
       lines_so = rw e at k.lines_so;
       refusal = k.refusal;
-      refused = (rw e at k.refused) ∙ ap (Refused k.refusal) (omega arith);
+      refused = (rw e at k.refused) ∙ ap (refused_on k.refusal) (omega arith);
       unformed = marked.unformed;
       bare = marked.bare;
       not_earlier = λ r n h. omega (arith, rw e at (not_earlier _ _ _ k r n (now ∙ h)));
@@ -301,12 +297,12 @@ read-moved file places = by (lines-moved line_before Marked line-moved places fi
     by (inr k) = inr (freed k k.left refl k.marked)
 
 -- a file that was accepted is accepted still, with the same description and the same table afterwards
-pub accepted-still : (file : List ℕ) (places : ℕ) (d : Description) → read_before file places ≡ Accepted d
-    → (read file places ≡ Accepted d) × ((table : List ℤ) → table_before file table (Accepted d) ≡ table_after file table (Accepted d))
+pub accepted-still : (file : List ℕ) (places : ℕ) (d : Description) → read_before file places ≡ Ok d
+    → (read file places ≡ Ok d) × ((table : List ℤ) → table_before file table (Ok d) ≡ table_after file table (Ok d))
 accepted-still file places d h = by (read-moved file places)
   where
-    by : Unmoved file places ⊎ Freed file places → (read file places ≡ Accepted d) × ((table : List ℤ) → table_before file table (Accepted d) ≡ table_after file table (Accepted d))
-    by (inl k) = let now : read file places ≡ Accepted d = sym k.answer ∙ h in (now, rw (h, now) at k.table)
+    by : Unmoved file places ⊎ Freed file places → (read file places ≡ Ok d) × ((table : List ℤ) → table_before file table (Ok d) ≡ table_after file table (Ok d))
+    by (inl k) = let now : read file places ≡ Ok d = sym k.answer ∙ h in (now, rw (h, now) at k.table)
     by (inr k) = absurd (no-refused k.refusal (suc (length k.before)) d (sym k.refused ∙ h))
 
 -- ---- the same of the calls, by their promises
@@ -349,8 +345,8 @@ samples-same (l ∷ ls) = ap₂ (λ (c : Content) (vs : List ℤ). samples_in c 
 
 table_same : (file : List ℕ) (table : List ℤ) (r : Read) → table_by (line_by number_of) file table r ≡ table_after file table r
 unfolding table_by table_after
-table_same file table (Accepted d) = ap (λ (vs : List ℤ). vs ++ drop (3 * rows d) table) (samples-same (lines_of file))
-table_same file table (Refused r n) = refl
+table_same file table (Ok d) = ap (λ (vs : List ℤ). vs ++ drop (3 * rows d) table) (samples-same (lines_of file))
+table_same file table (Err x) = refl
 
 pub same-reading : (file : List ℕ) (places : ℕ)
     → (read_by head_fault (line_by number_of) file places ≡ read file places)

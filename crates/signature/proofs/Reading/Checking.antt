@@ -5,7 +5,6 @@ use mathlib.Core.Path.{◌≡◌, refl, sym, ap, subst, ◌∙◌}
 use mathlib.Core.Logic.{◌↔◌, ◌⊎◌, inl, inr}
 use mathlib.Core.Bool.{Bool, true, false, cond}
 use mathlib.Core.List.{List}
-use mathlib.Core.Option.{none, some}
 use native.Mathlib.Omega.{arith}
 use lib.Dec.{eqb}
 use lib.IntN.{ℤ}
@@ -22,8 +21,6 @@ use Rattle.rules.specs.Promises.{Checks, Reads}
 use Rattle.rules.specs.declared.Description.{Description}
 use Rattle.rules.specs.declared.Form.{Form}
 use Rattle.rules.specs.declared.Form.TheVariants.{Idle, Keyed, Data, Neither}
-use Rattle.rules.specs.declared.Read.{Read}
-use Rattle.rules.specs.declared.Read.TheVariants.{Accepted, Refused}
 use Rattle.rules.specs.declared.Refusal.{Refusal}
 use Rattle.rules.specs.declared.Refusal.TheVariants.{DomainTooWide, DomainsDiffer, HalfADomain, LowerNotBelowUpper, NoSize, TooLittleRoom}
 use Rattle.rules.proofs.Answers.{checks-is, reads-is, refused-not-0}
@@ -35,6 +32,8 @@ use Rattle.signature.proofs.Reading.Parts.{read_is}
 use Rattle.signature.proofs.Reading.Beside.{SameOrStops, not_earlier, walk-beside}
 use Rattle.signature.proofs.Reading.Numbers.{read-13}
 use Rattle.signature.proofs.Reading.Room.{Bounded, line-bounded, range-rows-least, room-for-all, start-bounded}
+use Rattle.std.specs.Prelude.{Err, None, Ok, Some}
+use Rattle.rules.specs.Results.{Read, refused_on}
 
 -- ---- acceptance: the room is all that the table's length decides
 
@@ -59,15 +58,15 @@ keeps-with-room more k room = record {
 
 module _ (file : List ℕ) (d : Description) where
   -- so what is accepted into one table is accepted, alike, into every table with room
-  pub accepted-with-room : (places more : ℕ) → read file places ≡ Accepted d → 3 * rows d ≤ more → read file more ≡ Accepted d
+  pub accepted-with-room : (places more : ℕ) → read file places ≡ Ok d → 3 * rows d ≤ more → read file more ≡ Ok d
   accepted-with-room places more e room = (keeps-accepted file more d _ (keeps-with-room more (accepted-keeps file places d e) room)).0
 
-  accepted-room : (places : ℕ) → read file places ≡ Accepted d → (3 * rows d ≤ places) × (3 * rows d ≤ place_limit)
+  accepted-room : (places : ℕ) → read file places ≡ Ok d → (3 * rows d ≤ places) × (3 * rows d ≤ place_limit)
   accepted-room places e =
       ((accepted-keeps file places d e).room, omega (arith, range-rows-most d.kind d.n (accepted-in-range file places d e)))
 
   -- reading accepts exactly what check accepts and the table has room for, with the same description
-  pub read-check : (places : ℕ) → (read file places ≡ Accepted d) ↔ ((check file ≡ Accepted d) × (3 * rows d ≤ places))
+  pub read-check : (places : ℕ) → (read file places ≡ Ok d) ↔ ((check file ≡ Ok d) × (3 * rows d ≤ places))
   unfolding check
   read-check places = (
     λ e. let (room, limit) = accepted-room places e in (accepted-with-room places place_limit e limit, room),
@@ -75,7 +74,7 @@ module _ (file : List ℕ) (d : Description) where
   )
 
   -- check accepts exactly the files that keep the specification in a table of just the places that it needs
-  pub check-keeps : (check file ≡ Accepted d) ↔ Keeps file (3 * rows d) d (samples_of (lines_of file))
+  pub check-keeps : (check file ≡ Ok d) ↔ Keeps file (3 * rows d) d (samples_of (lines_of file))
   unfolding check
   check-keeps = (
     λ e. keeps-with-room (3 * rows d) (accepted-keeps file place_limit d e) (omega arith),
@@ -83,14 +82,14 @@ module _ (file : List ℕ) (d : Description) where
   )
 
   -- no table needs fewer places than 6, and none more than the greatest
-  pub check-places : check file ≡ Accepted d → (6 ≤ 3 * rows d) × (3 * rows d ≤ place_limit)
+  pub check-places : check file ≡ Ok d → (6 ≤ 3 * rows d) × (3 * rows d ≤ place_limit)
   unfolding check
   check-places e = (omega (arith, range-rows-least d.kind d.n (accepted-in-range file place_limit d e)), (accepted-room place_limit e).1)
 
 -- ---- a shorter table: the same answer, or 13 no later
 
 abbrev SameOrShort : Fault → Fault → Type 0
-SameOrShort f g = (f ≡ g) ⊎ (f ≡ some TooLittleRoom)
+SameOrShort f g = (f ≡ g) ⊎ (f ≡ Some TooLittleRoom)
 
 -- what marks where the reading into the shorter table stops
 abbrev Short : State → List (List ℕ) → Refusal → Type 0
@@ -99,8 +98,8 @@ Short st left r = r ≡ TooLittleRoom
 -- an answer that is 13 on a line that is not after the other's
 record Earlier (a b : Read) : Type 0 where
   line : ℕ
-  short : a ≡ Refused TooLittleRoom line
-  not-later : (r : Refusal) (n : ℕ) → b ≡ Refused r n → line ≤ n
+  short : a ≡ refused_on TooLittleRoom line
+  not-later : (r : Refusal) (n : ℕ) → b ≡ refused_on r n → line ≤ n
 
 module _ (places : ℕ) where
   need-beside : (t : Bool) (r : Refusal) (f g : Fault) → SameOrShort f g → SameOrShort (need t r f) (need t r g)
@@ -113,11 +112,11 @@ module _ (places : ℕ) where
   first-beside f g h (inl e) = inl (ap (λ (x : Fault). first x h) e)
   first-beside f g h (inr e) = inr (ap (λ (x : Fault). first x h) e)
 
-  room-beside : (d : Description) → Bounded d → SameOrShort (need (roomy places d) TooLittleRoom none) (need (roomy place_limit d) TooLittleRoom none)
+  room-beside : (d : Description) → Bounded d → SameOrShort (need (roomy places d) TooLittleRoom None) (need (roomy place_limit d) TooLittleRoom None)
   unfolding need
   room-beside d b = by (roomy places d)
     where
-      by : (t : Bool) → SameOrShort (need t TooLittleRoom none) (need (roomy place_limit d) TooLittleRoom none)
+      by : (t : Bool) → SameOrShort (need t TooLittleRoom None) (need (roomy place_limit d) TooLittleRoom None)
       by true = inl (sym (rw (room-for-all d b)))
       by false = inr refl
 
@@ -128,7 +127,7 @@ module _ (places : ℕ) where
       d : Description
       d = describe st
 
-      by : (t : Bool) → SameOrShort (cond t (given_fault places st) none) (cond t (given_fault place_limit st) none)
+      by : (t : Bool) → SameOrShort (cond t (given_fault places st) None) (cond t (given_fault place_limit st) None)
       by true =
           need-beside (given st.size) NoSize _ _
           (need-beside (together st.lower st.upper) HalfADomain _ _
@@ -164,9 +163,9 @@ module _ (places : ℕ) where
       long = order_by head_fault place_limit st (form_of l)
 
       by : (f : Fault) → SameOrShort short long → (unless f (unless short j) ≡ unless f (unless long j)) ⊎ (unless f (unless short j) ≡ refuse TooLittleRoom)
-      by none (inl e) = inl (ap (λ (g : Fault). unless g j) e)
-      by none (inr e) = inr (ap (λ (g : Fault). unless g j) e)
-      by (some r) h = inl refl
+      by None (inl e) = inl (ap (λ (g : Fault). unless g j) e)
+      by None (inr e) = inr (ap (λ (g : Fault). unless g j) e)
+      by (Some r) h = inl refl
 
   abbrev SameOrShorter : List ℕ → Type 0
   SameOrShorter file = SameOrStops (judges_by head_fault content_of places) (judges_by head_fault content_of place_limit) Short 0 0 start (lines_of file)
@@ -191,7 +190,7 @@ module _ (places : ℕ) where
       by (inl e) = inl (sym (read_is places file) ∙ e ∙ read_is place_limit file)
       by (inr k) = inr (record {
         line = line_after (0 + length k.before) k.left;
-        short = sym (read_is places file) ∙ k.refused ∙ ap (λ (r : Refusal). Refused r (line_after (0 + length k.before) k.left)) k.marked;
+        short = sym (read_is places file) ∙ k.refused ∙ ap (λ (r : Refusal). refused_on r (line_after (0 + length k.before) k.left)) k.marked;
         not-later = λ r n e. not_earlier _ _ _ k r n (read_is place_limit file ∙ e);
       })
 
@@ -211,8 +210,8 @@ module _ {file : List ℕ} {table table' : List ℤ} {r s : Read} (h : Reads fil
   checked-then-read z room = by s (checks-is k) z room
     where
       by : (s : Read) → s ≡ check file → read_number s ≡ 0 → places_needed s ≤ length table → r ≡ s
-      by (Accepted d) e z room = read_so ∙ (read-check file d (length table)).1 (sym e, room)
-      by (Refused reason n) e z room = absurd (refused-not-0 reason z)
+      by (Ok d) e z room = read_so ∙ (read-check file d (length table)).1 (sym e, room)
+      by (Err x) e z room = absurd (refused-not-0 x.reason z)
 
   -- so whoever lends them is never refused with 13
   pub lent-enough : read_number s ≡ 0 → places_needed s ≤ length table → read_number r ≡ 13 → ⊥
@@ -224,19 +223,19 @@ module _ {file : List ℕ} {table table' : List ℤ} {r s : Read} (h : Reads fil
     where
       by : (s : Read) → s ≡ check file → read_number s ≡ 0 → length table < places_needed s
           → (read file (length table) ≡ check file) ⊎ Earlier (read file (length table)) (check file) → read_number r ≡ 13
-      by (Accepted d) e z few (inl same) = absurd (omega (arith, few, ((read-check file d (length table)).0 (same ∙ sym e)).1))
-      by (Accepted d) e z few (inr c) = short-number c
-      by (Refused reason n) e z few beside = absurd (refused-not-0 reason z)
+      by (Ok d) e z few (inl same) = absurd (omega (arith, few, ((read-check file d (length table)).0 (same ∙ sym e)).1))
+      by (Ok d) e z few (inr c) = short-number c
+      by (Err x) e z few beside = absurd (refused-not-0 x.reason z)
 
   -- so it accepts exactly where check accepts and the table has those places
   pub read-accepts : (read_number r ≡ 0) ↔ ((read_number s ≡ 0) × (places_needed s ≤ length table))
   read-accepts = (λ z. by r read_so z, λ a. ap read_number (checked-then-read a.0 a.1) ∙ a.0)
     where
       by : (r : Read) → r ≡ read file (length table) → read_number r ≡ 0 → (read_number s ≡ 0) × (places_needed s ≤ length table)
-      by (Accepted d) e z =
+      by (Ok d) e z =
           let (accepted, room) = (read-check file d (length table)).0 (sym e) in
           subst (λ (a : Read). (read_number a ≡ 0) × (places_needed a ≤ length table)) (sym (checks-is k ∙ accepted)) (refl, room)
-      by (Refused reason n) e z = absurd (refused-not-0 reason z)
+      by (Err x) e z = absurd (refused-not-0 x.reason z)
 
   -- where check refuses, reading into a table of any length refuses alike, or with 13 on that line or an earlier one
   pub refused-alike : (read_number s ≡ 0 → ⊥) → (r ≡ s) ⊎ ((read_number r ≡ 13) × (read_line r ≤ read_line s))
@@ -244,9 +243,9 @@ module _ {file : List ℕ} {table table' : List ℤ} {r s : Read} (h : Reads fil
     where
       by : (s : Read) → s ≡ check file → (read_number s ≡ 0 → ⊥) → (read file (length table) ≡ check file) ⊎ Earlier (read file (length table)) (check file)
           → (r ≡ s) ⊎ ((read_number r ≡ 13) × (read_line r ≤ read_line s))
-      by (Accepted d) e not-0 beside = absurd (not-0 refl)
-      by (Refused reason n) e not-0 (inl same) = inl (read_so ∙ same ∙ sym e)
-      by (Refused reason n) e not-0 (inr c) = inr (short-number c, omega (arith, ap read_line (read_so ∙ c.short), c.not-later reason n (sym e)))
+      by (Ok d) e not-0 beside = absurd (not-0 refl)
+      by (Err x) e not-0 (inl same) = inl (read_so ∙ same ∙ sym e)
+      by (Err x) e not-0 (inr c) = inr (short-number c, omega (arith, ap read_line (read_so ∙ c.short), c.not-later x.reason x.line (sym e)))
 
   -- and a table as long as the greatest is answered as check answers, whatever the file
   pub long-enough : place_limit ≤ length table → r ≡ s

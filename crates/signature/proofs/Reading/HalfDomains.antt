@@ -4,7 +4,6 @@ use mathlib.Core.Path.{◌≡◌, refl, sym, ap, subst, ◌∙◌}
 use mathlib.Core.Logic.{◌↔◌, ◌⊎◌, inl, inr, ⊎_elim}
 use mathlib.Core.Bool.{Bool, true, false, cond, ◌||◌, or-false}
 use mathlib.Core.List.{List, ◌++◌}
-use mathlib.Core.Option.{none, some}
 use native.Mathlib.Omega.{arith}
 use borrow.Author.Tests.{eqb-true, leb-true}
 use lib.Dec.{eqb, leb}
@@ -20,8 +19,6 @@ use Rattle.rules.specs.Promises.{Checks, Reads}
 use Rattle.rules.specs.declared.Description.{Description}
 use Rattle.rules.specs.declared.Form.{Form}
 use Rattle.rules.specs.declared.Form.TheVariants.{Idle, Data, Neither}
-use Rattle.rules.specs.declared.Read.{Read}
-use Rattle.rules.specs.declared.Read.TheVariants.{Accepted, Refused}
 use Rattle.rules.specs.declared.Refusal.{Refusal}
 use Rattle.rules.specs.declared.Refusal.TheVariants.{HalfADomain, NoSize}
 use Rattle.rules.proofs.Answers.{checks-is, reads-is}
@@ -42,6 +39,8 @@ use Rattle.signature.proofs.Reading.Numbers.{LowAnswer, LowFault, domain-low, ne
 use Rattle.signature.proofs.Reading.Order.{numbers-so, reached}
 use Rattle.signature.proofs.Reading.Room.{Bounded}
 use Rattle.signature.proofs.Reading.Told.{among-append, half-lines, lines-half, none-later, size-told}
+use Rattle.std.specs.Prelude.{None, Ok, Some}
+use Rattle.rules.specs.Results.{Read, refused_on}
 
 -- ---- reading, and reading as it was before
 
@@ -52,17 +51,17 @@ record HalfState (st : State) : Type 0 where
   half : together st.lower st.upper ≡ false
 
 module _ (places : ℕ) where
-  head-half : (st : State) → HalfState st → head_fault places st ≡ some HalfADomain
+  head-half : (st : State) → HalfState st → head_fault places st ≡ Some HalfADomain
   unfolding head_fault given_fault need
   head-half st h = rw (h.no_rows, h.sized, h.half)
 
-  head-moved : (st : State) → (head_fault places st ≡ head_before places st) ⊎ ((head_fault places st ≡ some HalfADomain) × HalfState st)
+  head-moved : (st : State) → (head_fault places st ≡ head_before places st) ⊎ ((head_fault places st ≡ Some HalfADomain) × HalfState st)
   unfolding head_fault given_fault head_before need
   head-moved st = by (eqb st.rows 0) refl (given st.size) refl (together st.lower st.upper) refl
     where
       by : (a : Bool) → eqb st.rows 0 ≡ a → (b : Bool) → given st.size ≡ b → (c : Bool) → together st.lower st.upper ≡ c
-          → (cond a (need b NoSize (need c HalfADomain (domain_fault places (describe st)))) none ≡ cond a (need b NoSize (domain_fault places (describe st))) none)
-          ⊎ ((head_fault places st ≡ some HalfADomain) × HalfState st)
+          → (cond a (need b NoSize (need c HalfADomain (domain_fault places (describe st)))) None ≡ cond a (need b NoSize (domain_fault places (describe st))) None)
+          ⊎ ((head_fault places st ≡ Some HalfADomain) × HalfState st)
       by false e b f c g = inl refl
       by true e false f c g = inl refl
       by true e true f true g = inl refl
@@ -96,16 +95,16 @@ module _ (places : ℕ) where
   head-not-19 : (st : State) → Bounded (describe st) → LowFault Not19 (head_before places st)
   unfolding head_before refusal_number
   head-not-19 st small =
-      either (LowFault Not19) (eqb st.rows 0) _ none
+      either (LowFault Not19) (eqb st.rows 0) _ None
       (need-low Not19 (given st.size) NoSize _ (λ _. plain-not-19 NoSize refl) (domain-low Not19 plain-not-19 places (describe st) (λ _ q. omega (arith, q)) (λ _ q. omega (arith, q))))
       tt
 
-  never-before : (file : List ℕ) (n : ℕ) → read_with_halves file places ≡ Refused HalfADomain n → ⊥
+  never-before : (file : List ℕ) (n : ℕ) → read_with_halves file places ≡ refused_on HalfADomain n → ⊥
   unfolding refusal_number
   never-before file n e = subst (LowAnswer Not19) e (read_low Not19 plain-not-19 head_before places head-not-19 file) refl
 
   -- 19 is given exactly there
-  pub half-exactly : (file : List ℕ) (n : ℕ) → (read file places ≡ Refused HalfADomain n) ↔ HalfAt file places n
+  pub half-exactly : (file : List ℕ) (n : ℕ) → (read file places ≡ refused_on HalfADomain n) ↔ HalfAt file places n
   half-exactly file n =
       let (to, from) = H.refused-exactly head_before places HalfADomain HalfState head-moved (λ st h. h.no_rows) head-half never-before file n in
       (λ e. H.head-map (to e) lines-given, λ h. from (H.head-map h given-lines))
@@ -135,11 +134,11 @@ module _ (places : ℕ) where
           })
 
   -- a file that was accepted, and stops, has one line of the domain and not the other
-  stopped-half : (file : List ℕ) (d : Description) → read_with_halves file places ≡ Accepted d → Stopped file → HalfDomain (lines_of file)
+  stopped-half : (file : List ℕ) (d : Description) → read_with_halves file places ≡ Ok d → Stopped file → HalfDomain (lines_of file)
   unfolding read_by lower_line upper_line
   stopped-half file d e k = rw k.lines_so (by (half-lines head_fault places k.before k.state k.led-first k.marked.marks.half))
     where
-      rest : read_lines_by (judges_by head_before content_of places) (beginning 0 k.before) (0 + length k.before) k.state k.left ≡ Accepted d
+      rest : read_lines_by (judges_by head_before content_of places) (beginning 0 k.before) (0 + length k.before) k.state k.left ≡ Ok d
       rest = sym (goes-on _ _ _ k) ∙ e
 
       all : (sort : Form → Bool) → sort Idle ≡ false → sort Data ≡ false → sort Neither ≡ false → among sort (k.before ++ k.left) ≡ among sort k.before
@@ -158,7 +157,7 @@ module _ (places : ℕ) where
       by (lower_alone p q) = lower_alone (lowers ∙ p) (uppers ∙ q)
       by (upper_alone p q) = upper_alone (uppers ∙ p) (lowers ∙ q)
 
-  accepted-whole : (file : List ℕ) (d : Description) → read file places ≡ Accepted d → HalfDomain (lines_of file) → ⊥
+  accepted-whole : (file : List ℕ) (d : Description) → read file places ≡ Ok d → HalfDomain (lines_of file) → ⊥
   unfolding read end_fault
   accepted-whole file d e half =
       let w = walked find found places 0 0 start (lines_of file) d e in
@@ -169,20 +168,20 @@ module _ (places : ℕ) where
       no_true (sym ok.whole ∙ lines-half head_fault places (lines_of file) end there half)
 
   -- a file is accepted exactly if it was, with the same description, and has not one line of the domain alone
-  pub accepted-halves : (file : List ℕ) (d : Description) → (read file places ≡ Accepted d) ↔ ((read_with_halves file places ≡ Accepted d) × (HalfDomain (lines_of file) → ⊥))
+  pub accepted-halves : (file : List ℕ) (d : Description) → (read file places ≡ Ok d) ↔ ((read_with_halves file places ≡ Ok d) × (HalfDomain (lines_of file) → ⊥))
   unfolding read_by
   accepted-halves file d = (λ e. (to e (lines-moved file), accepted-whole file d e), λ h. from h.0 h.1 (lines-moved file))
     where
-      to : read file places ≡ Accepted d → SameOrStopped file → read_with_halves file places ≡ Accepted d
+      to : read file places ≡ Ok d → SameOrStopped file → read_with_halves file places ≡ Ok d
       to e (inl same) = sym same ∙ read_is places file ∙ e
       to e (inr k) = absurd (no-refused _ _ d (sym k.refused ∙ read_is places file ∙ e))
 
-      from : read_with_halves file places ≡ Accepted d → (HalfDomain (lines_of file) → ⊥) → SameOrStopped file → read file places ≡ Accepted d
+      from : read_with_halves file places ≡ Ok d → (HalfDomain (lines_of file) → ⊥) → SameOrStopped file → read file places ≡ Ok d
       from e whole (inl same) = sym (read_is places file) ∙ same ∙ e
       from e whole (inr k) = absurd (whole (stopped-half file d e k))
 
   -- so a file that was accepted and is not now has one line of the domain alone
-  pub no-longer-accepted : (file : List ℕ) (d : Description) → read_with_halves file places ≡ Accepted d → (read file places ≡ Accepted d → ⊥) → HalfDomain (lines_of file)
+  pub no-longer-accepted : (file : List ℕ) (d : Description) → read_with_halves file places ≡ Ok d → (read file places ≡ Ok d → ⊥) → HalfDomain (lines_of file)
   no-longer-accepted file d e refused = ⊎_elim (λ same. absurd (refused (sym (read_is places file) ∙ same ∙ e))) (stopped-half file d e) (lines-moved file)
 
 -- ---- the same of the calls, by their promises

@@ -5,7 +5,6 @@ use mathlib.Core.Path.{◌≡◌, refl, sym, ap, ap₂, subst, ◌∙◌}
 use mathlib.Core.Bool.{false}
 use mathlib.Core.Logic.{◌↔◌, ◌⊎◌, inl, inr}
 use mathlib.Core.List.{List, [], ◌∷◌, ◌++◌}
-use mathlib.Core.Option.{none, some}
 use native.Mathlib.Omega.{arith}
 use borrow.Author.Tests.{eqb-true, le-ltb, ltb-false}
 use lib.Dec.{leb, ltb}
@@ -21,7 +20,6 @@ use Rattle.rules.specs.declared.Form.{Form}
 use Rattle.rules.specs.declared.Form.TheVariants.{Idle, Keyed, Data, Neither}
 use Rattle.rules.specs.declared.Item.{Item}
 use Rattle.rules.specs.declared.Item.TheVariants.{Nothing, OfLower, OfRow, OfSize, OfTitle, OfUpper}
-use Rattle.rules.specs.declared.Read.TheVariants.{Accepted, Refused}
 use Rattle.rules.specs.declared.Refusal.{Refusal}
 use Rattle.rules.specs.declared.Refusal.TheVariants.{TooFewRows, TooManyRows}
 use Rattle.rules.proofs.Tests.{first-none, need-none, no_true, or-none}
@@ -34,6 +32,8 @@ use Rattle.signature.specs.Order.{Leads, Reached}
 use Rattle.signature.proofs.Reading.Parts.{PassedBy, led, leads-reached, passes-by, reached-leads, read_is}
 use Rattle.signature.proofs.Reading.Beside.{Stops, walk-beside}
 use Rattle.signature.proofs.Reading.Told.{rows_told}
+use Rattle.std.specs.Prelude.{None, Ok, Some}
+use Rattle.rules.specs.Results.{refused_on}
 
 -- ---- the place where the head is checked
 
@@ -89,13 +89,13 @@ head-one {places = places} h k =
 -- ---- two readings: where the first asks what the second does not, it refuses with r, in a state that is marked
 
 module _ (one other : ℕ → State → Fault) (places : ℕ) (r : Refusal) (Marks : State → Type 0)
-    (moved : (st : State) → (one places st ≡ other places st) ⊎ ((one places st ≡ some r) × Marks st)) where
+    (moved : (st : State) → (one places st ≡ other places st) ⊎ ((one places st ≡ Some r) × Marks st)) where
   pub record Marked (st : State) (left : List (List ℕ)) (s : Refusal) : Type 0 where
     pub refusal-so : s ≡ r
     pub at_head : AtHead left
     pub marks : Marks st
 
-  line-stops : (st : State) (p : ℕ) (l : List ℕ) → one places st ≡ some r → byte_fault l ≡ none → form_of l ≡ Data → judge_by one content_of places st p l ≡ refuse r
+  line-stops : (st : State) (p : ℕ) (l : List ℕ) → one places st ≡ Some r → byte_fault l ≡ None → form_of l ≡ Data → judge_by one content_of places st p l ≡ refuse r
   unfolding judge_by order_by unless first
   line-stops st p l h b f = rw (b, f, h)
 
@@ -104,24 +104,24 @@ module _ (one other : ℕ → State → Fault) (places : ℕ) (r : Refusal) (Mar
   unfolding judge_by order_by unless
   line-moved st p l ls = by (byte_fault l) refl (form_of l) refl (moved st)
     where
-      by : (b : Fault) → byte_fault l ≡ b → (f : Form) → form_of l ≡ f → (one places st ≡ other places st) ⊎ ((one places st ≡ some r) × Marks st)
+      by : (b : Fault) → byte_fault l ≡ b → (f : Form) → form_of l ≡ f → (one places st ≡ other places st) ⊎ ((one places st ≡ Some r) × Marks st)
           → (unless b (unless (order_by one places st f) (take_in st (content_of p l))) ≡ unless b (unless (order_by other places st f) (take_in st (content_of p l))))
           ⊎ ((s : Refusal) × (judge_by one content_of places st p l ≡ refuse s) × Marked st (l ∷ ls) s)
-      by (some s) e f g h = inl refl
-      by none e Idle g h = inl refl
-      by none e (Keyed k) g h = inl refl
-      by none e Neither g h = inl refl
-      by none e Data g (inl same) =
-          inl (ap (λ (x : Fault). unless (first x (need (ltb st.rows (rows (describe st))) TooManyRows none)) (take_in st (content_of p l))) same)
-      by none e Data g (inr (h, m)) = inr (r, line-stops st p l h e g, record { refusal-so = refl; at_head = (e, g); marks = m })
+      by (Some s) e f g h = inl refl
+      by None e Idle g h = inl refl
+      by None e (Keyed k) g h = inl refl
+      by None e Neither g h = inl refl
+      by None e Data g (inl same) =
+          inl (ap (λ (x : Fault). unless (first x (need (ltb st.rows (rows (describe st))) TooManyRows None)) (take_in st (content_of p l))) same)
+      by None e Data g (inr (h, m)) = inr (r, line-stops st p l h e g, record { refusal-so = refl; at_head = (e, g); marks = m })
 
-  end_moved : (st : State) → (end_by one places st ≡ end_by other places st) ⊎ ((s : Refusal) × (end_by one places st ≡ some s) × Marked st [] s)
+  end_moved : (st : State) → (end_by one places st ≡ end_by other places st) ⊎ ((s : Refusal) × (end_by one places st ≡ Some s) × Marked st [] s)
   unfolding end_by first
   end_moved st = by (moved st)
     where
-      by : (one places st ≡ other places st) ⊎ ((one places st ≡ some r) × Marks st)
-          → (end_by one places st ≡ end_by other places st) ⊎ ((s : Refusal) × (end_by one places st ≡ some s) × Marked st [] s)
-      by (inl same) = inl (ap (λ (x : Fault). first x (need (leb (rows (describe st)) st.rows) TooFewRows none)) same)
+      by : (one places st ≡ other places st) ⊎ ((one places st ≡ Some r) × Marks st)
+          → (end_by one places st ≡ end_by other places st) ⊎ ((s : Refusal) × (end_by one places st ≡ Some s) × Marked st [] s)
+      by (inl same) = inl (ap (λ (x : Fault). first x (need (leb (rows (describe st)) st.rows) TooFewRows None)) same)
       by (inr (h, m)) = inr (r, rw h, record { refusal-so = refl; at_head = tt; marks = m })
 
   abbrev pub Stopped : List ℕ → Type 0
@@ -139,9 +139,9 @@ module _ (one other : ℕ → State → Fault) (places : ℕ) (r : Refusal) (Mar
     abbrev pub line_of : ℕ
     line_of = line_after (0 + length k.before) k.left
 
-    pub stopped-refused : read_by one content_of file places ≡ Refused r line_of
+    pub stopped-refused : read_by one content_of file places ≡ refused_on r line_of
     unfolding read_by
-    stopped-refused = k.refused ∙ ap (λ (s : Refusal). Refused s line_of) k.marked.refusal-so
+    stopped-refused = k.refused ∙ ap (λ (s : Refusal). refused_on s line_of) k.marked.refusal-so
 
     -- where it stops, of lines that the rules let pass
     pub stopped-at : Reached places 0 start k.before k.state → (Marks k.state → k.state.rows ≡ 0) → HeadAt (λ before st. Marks st) file places line_of
@@ -161,33 +161,33 @@ module _ (one other : ℕ → State → Fault) (places : ℕ) (r : Refusal) (Mar
 -- ---- reading refuses with r exactly in marked states, if the reading that does not ask never does
 
 module _ (other : ℕ → State → Fault) (places : ℕ) (r : Refusal) (Marks : State → Type 0)
-    (moved : (st : State) → (head_fault places st ≡ other places st) ⊎ ((head_fault places st ≡ some r) × Marks st))
+    (moved : (st : State) → (head_fault places st ≡ other places st) ⊎ ((head_fault places st ≡ Some r) × Marks st))
     (no_rows : (st : State) → Marks st → st.rows ≡ 0)
-    (refuses : (st : State) → Marks st → head_fault places st ≡ some r)
-    (never : (file : List ℕ) (n : ℕ) → read_by other content_of file places ≡ Refused r n → ⊥) where
+    (refuses : (st : State) → Marks st → head_fault places st ≡ Some r)
+    (never : (file : List ℕ) (n : ℕ) → read_by other content_of file places ≡ refused_on r n → ⊥) where
   abbrev MarkedAt : List ℕ → ℕ → Type 0
   MarkedAt file n = HeadAt (λ before st. Marks st) file places n
 
-  from-marked : (file : List ℕ) (n : ℕ) (h : MarkedAt file n) → read file places ≡ Refused r n
+  from-marked : (file : List ℕ) (n : ℕ) (h : MarkedAt file n) → read file places ≡ refused_on r n
   unfolding read_by read_lines_by end_by first
   from-marked file n h =
       sym (read_is places file)
       ∙ ap (λ (ls : List (List ℕ)). read_lines_by (judges_by head_fault content_of places) 0 0 start ls) h.lines_so
       ∙ led (judges_by head_fault content_of places) 0 0 start h.state h.before h.left (led-there h)
       ∙ stops h.left h.at_head
-      ∙ ap (λ (m : ℕ). Refused r (line_after m h.left)) (omega arith)
-      ∙ ap (Refused r) (sym h.number)
+      ∙ ap (λ (m : ℕ). refused_on r (line_after m h.left)) (omega arith)
+      ∙ ap (refused_on r) (sym h.number)
     where
       stops : (left : List (List ℕ)) → AtHead left
-          → read_lines_by (judges_by head_fault content_of places) (beginning 0 h.before) (0 + length h.before) h.state left ≡ Refused r (line_after (0 + length h.before) left)
+          → read_lines_by (judges_by head_fault content_of places) (beginning 0 h.before) (0 + length h.before) h.state left ≡ refused_on r (line_after (0 + length h.before) left)
       stops [] at = rw (refuses h.state h.holds) refl
       stops (l ∷ ls) at = rw (line-stops head_fault other places r Marks moved h.state _ l (refuses h.state h.holds) at.0 at.1) refl
 
-  pub refused-exactly : (file : List ℕ) (n : ℕ) → (read file places ≡ Refused r n) ↔ MarkedAt file n
+  pub refused-exactly : (file : List ℕ) (n : ℕ) → (read file places ≡ refused_on r n) ↔ MarkedAt file n
   unfolding read_by
   refused-exactly file n = (λ e. by e (heads-moved head_fault other places r Marks moved file), from-marked file n)
     where
-      by : read file places ≡ Refused r n → SameOrStopped head_fault other places r Marks moved file → MarkedAt file n
+      by : read file places ≡ refused_on r n → SameOrStopped head_fault other places r Marks moved file → MarkedAt file n
       by e (inl same) = absurd (never file n (sym same ∙ read_is places file ∙ e))
       by e (inr k) =
           subst (MarkedAt file) (ap read_line (sym k.refused ∙ read_is places file ∙ e))
@@ -201,7 +201,7 @@ module _ (head : ℕ → State → Fault) (places : ℕ) (Known : Description �
     known : Known (describe st)
 
   -- no line that passes after a row changes it
-  rowed-add : (st : State) (i : Item) → order_by head places st (form_for i) ≡ none → Rowed st → Rowed (add st i)
+  rowed-add : (st : State) (i : Item) → order_by head places st (form_for i) ≡ None → Rowed st → Rowed (add st i)
   unfolding order_by order_fault add describe
   rowed-add st Nothing h k = record { some-rows = k.some-rows; known = k.known }
   rowed-add st (OfTitle t) h k = absurd (omega (arith, k.some-rows, eqb-true st.rows 0 (need-none _ _ _ h).0))
@@ -221,18 +221,18 @@ module _ (head : ℕ → State → Fault) (places : ℕ) (Known : Description �
   row-add st (OfRow r) e k = record { some-rows = omega arith; known = k }
 
   abbrev Going : ℕ → ℕ → State → List (List ℕ) → Description → Type 0
-  Going p n st ls d = read_lines_by (judges_by head content_of places) p n st ls ≡ Accepted d
+  Going p n st ls d = read_lines_by (judges_by head content_of places) p n st ls ≡ Ok d
 
-  at-end : (n : ℕ) (st : State) (f : Fault) (d : Description) → finish n st f ≡ Accepted d → (f ≡ none) × (describe st ≡ d)
-  at-end n st none d e = (refl, let q : describe st ≡ d = cc in q)
-  at-end n st (some s) d e = absurd (no-refused s n d e)
+  at-end : (n : ℕ) (st : State) (f : Fault) (d : Description) → finish n st f ≡ Ok d → (f ≡ None) × (describe st ≡ d)
+  at-end n st None d e = (refl, let q : describe st ≡ d = cc in q)
+  at-end n st (Some s) d e = absurd (no-refused s n d e)
 
   at-line : (p n : ℕ) (st : State) (l : List ℕ) (ls : List (List ℕ)) (d : Description) → Going p n st (l ∷ ls) d
       → (st' : State) × PassedBy head places st p l st' × Going (p + length l + 1) (suc n) st' ls d
   unfolding read_lines_by
   at-line p n st l ls d h = by (judge_by head content_of places st p l) refl h
     where
-      by : (j : Verdict) → judge_by head content_of places st p l ≡ j → onward (λ st'. read_lines_by (judges_by head content_of places) (p + length l + 1) (suc n) st' ls) (suc n) j ≡ Accepted d
+      by : (j : Verdict) → judge_by head content_of places st p l ≡ j → onward (λ st'. read_lines_by (judges_by head content_of places) (p + length l + 1) (suc n) st' ls) (suc n) j ≡ Ok d
           → (st' : State) × PassedBy head places st p l st' × Going (p + length l + 1) (suc n) st' ls d
       by (go st') e g = (st', passes-by head places st p l st' e, g)
       by (refuse s) e g = absurd (no-refused s (suc n) d g)
@@ -243,7 +243,7 @@ module _ (head : ℕ → State → Fault) (places : ℕ) (Known : Description �
   from-rows p n st (l ∷ ls) d h k =
       let (st', passed, further) = at-line p n st l ls d h in
       from-rows (p + length l + 1) (suc n) st' ls d further
-      (subst Rowed (sym passed.state) (rowed-add st passed.item (subst (λ (f : Form). order_by head places st f ≡ none) passed.form passed.placed) k))
+      (subst Rowed (sym passed.state) (rowed-add st passed.item (subst (λ (f : Form). order_by head places st f ≡ None) passed.form passed.placed) k))
 
   -- from where the head is checked on
   pub from-head : (p n : ℕ) (st : State) (ls : List (List ℕ)) (d : Description) → Going p n st ls d → AtHead ls → Known (describe st) → Known d
@@ -254,12 +254,12 @@ module _ (head : ℕ → State → Fault) (places : ℕ) (Known : Description �
       from-rows (p + length l + 1) (suc n) st' ls d further (subst Rowed (sym passed.state) (row-add st passed.item (sym passed.form ∙ at.1) k))
 
   -- what a head that passes says of a description is known of what is accepted
-  module _ (says : (st : State) → st.rows ≡ 0 → head places st ≡ none → Known (describe st)) where
+  module _ (says : (st : State) → st.rows ≡ 0 → head places st ≡ None → Known (describe st)) where
     data Further (st : State) : Type 0 where
       no_rows : st.rows ≡ 0 → Further st
       rowed : Rowed st → Further st
 
-    further-add : (st : State) (i : Item) → order_by head places st (form_for i) ≡ none → st.rows ≡ 0 → Further (add st i)
+    further-add : (st : State) (i : Item) → order_by head places st (form_for i) ≡ None → st.rows ≡ 0 → Further (add st i)
     unfolding order_by add
     further-add st Nothing h e = no_rows e
     further-add st (OfTitle t) h e = no_rows e
@@ -274,13 +274,13 @@ module _ (head : ℕ → State → Fault) (places : ℕ) (Known : Description �
     from_start p n st (l ∷ ls) d h e =
         let (st', passed, further) = at-line p n st l ls d h in
         by st' further
-        (subst Further (sym passed.state) (further-add st passed.item (subst (λ (f : Form). order_by head places st f ≡ none) passed.form passed.placed) e))
+        (subst Further (sym passed.state) (further-add st passed.item (subst (λ (f : Form). order_by head places st f ≡ None) passed.form passed.placed) e))
         (λ e. from_start (p + length l + 1) (suc n) st' ls d further e)
       where
         by : (st' : State) → Going (p + length l + 1) (suc n) st' ls d → Further st' → (st'.rows ≡ 0 → Known d) → Known d
         by st' further (no_rows e) next = next e
         by st' further (rowed k) next = from-rows (p + length l + 1) (suc n) st' ls d further k
 
-    pub accepted-known : (file : List ℕ) (d : Description) → read_by head content_of file places ≡ Accepted d → Known d
+    pub accepted-known : (file : List ℕ) (d : Description) → read_by head content_of file places ≡ Ok d → Known d
     unfolding read_by
     accepted-known file d h = from_start 0 0 start (lines_of file) d h refl

@@ -5,7 +5,6 @@ use mathlib.Core.Path.{◌≡◌, refl, sym, ap, ◌∙◌}
 use mathlib.Core.Logic.{◌⊎◌, inl, inr}
 use mathlib.Core.Bool.{Bool, true, false, cond}
 use mathlib.Core.List.{List, [], ◌∷◌, ◌++◌, append_assoc}
-use mathlib.Core.Option.{some}
 use native.Mathlib.Omega.{arith}
 use lib.Dec.{eqb}
 use lib.ListN.{length, length-append}
@@ -16,10 +15,11 @@ use Rattle.rules.specs.Reading.{read}
 use Rattle.rules.specs.Demands.{Begins, Ends}
 use Rattle.rules.specs.declared.Item.{Item}
 use Rattle.rules.specs.declared.Refusal.{Refusal}
-use Rattle.rules.specs.declared.Read.TheVariants.{Refused}
 use Rattle.rules.proofs.Reading.Order.{Admitted, final}
 use Rattle.rules.proofs.Reading.Refusals.{Stopped, at-end, at-line, beginning, first-refused, lines-count, refused-first}
 use Rattle.rules.proofs.Reading.Titles.{Cut, last, lines_cut, lines-some, more}
+use Rattle.std.specs.Prelude.{Some}
+use Rattle.rules.specs.Results.{refused_on}
 
 -- ---- a line where it stands in a file
 
@@ -166,11 +166,11 @@ pub record RefusedEnd (file : List ℕ) (places : ℕ) (r : Refusal) (m : ℕ) :
   pub items : List Item
   pub kept : Lines 0 (lines_of file) items
   pub admitted : Admitted places start items
-  pub refused : end_fault places (final start items) ≡ some r
+  pub refused : end_fault places (final start items) ≡ Some r
   pub number : m ≡ 1 + newlines file
 
 -- every refusal is of the one or of the other
-pub line-of-refusal : (file : List ℕ) (places : ℕ) (r : Refusal) (m : ℕ) → read file places ≡ Refused r m → RefusedLine file places r m ⊎ RefusedEnd file places r m
+pub line-of-refusal : (file : List ℕ) (places : ℕ) (r : Refusal) (m : ℕ) → read file places ≡ refused_on r m → RefusedLine file places r m ⊎ RefusedEnd file places r m
 line-of-refusal file places r m h = by (refused-first file places r m h)
   where
     by : Stopped places 0 0 start (lines_of file) r m → RefusedLine file places r m ⊎ RefusedEnd file places r m
@@ -191,7 +191,7 @@ line-of-refusal file places r m h = by (refused-first file places r m h)
         inr (record { items = is; kept = kept; admitted = admitted; refused = refused; number = omega (arith, lines-count file) })
 
 -- and back: where a line or the end is so refused, reading answers that refusal with that number
-pub refusal-of-line : (file : List ℕ) (places : ℕ) (r : Refusal) (m : ℕ) → RefusedLine file places r m ⊎ RefusedEnd file places r m → read file places ≡ Refused r m
+pub refusal-of-line : (file : List ℕ) (places : ℕ) (r : Refusal) (m : ℕ) → RefusedLine file places r m ⊎ RefusedEnd file places r m → read file places ≡ refused_on r m
 refusal-of-line file places r m (inl k) =
     let (ls, e) = stands-line k.stands in
     let place : beginning 0 k.lines ≡ length k.stands.before = omega (arith, k.stands.place 0) in

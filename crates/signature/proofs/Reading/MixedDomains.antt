@@ -4,7 +4,6 @@ use mathlib.Core.Path.{◌≡◌, refl, sym, ap, subst, ◌∙◌}
 use mathlib.Core.Logic.{◌↔◌, ◌⊎◌, inl, inr, ⊎_elim}
 use mathlib.Core.Bool.{Bool, true, false, cond, ◌||◌, not}
 use mathlib.Core.List.{List}
-use mathlib.Core.Option.{none, some}
 use native.Mathlib.Omega.{arith}
 use borrow.Author.Tests.{eq-eqb, eqb-true, eqb-false, not-true}
 use lib.Dec.{eqb, leb}
@@ -20,8 +19,6 @@ use Rattle.rules.specs.Promises.{Checks, Reads}
 use Rattle.rules.specs.declared.Description.{Description}
 use Rattle.rules.specs.declared.Kind.{Kind}
 use Rattle.rules.specs.declared.Kind.TheVariants.{OneD, ThreeD}
-use Rattle.rules.specs.declared.Read.{Read}
-use Rattle.rules.specs.declared.Read.TheVariants.{Accepted, Refused}
 use Rattle.rules.specs.declared.Refusal.{Refusal}
 use Rattle.rules.specs.declared.Refusal.TheVariants.{DomainTooWide, DomainsDiffer, HalfADomain, LowerNotBelowUpper, NoSize, TooLittleRoom}
 use Rattle.rules.proofs.Answers.{checks-is, reads-is}
@@ -38,6 +35,8 @@ use Rattle.signature.proofs.Reading.Heads as H
 use Rattle.signature.proofs.Reading.Numbers.{LowAnswer, LowFault, need-low, plain, read_low}
 use Rattle.signature.proofs.Reading.Order.{numbers-so}
 use Rattle.signature.proofs.Reading.Room.{Bounded}
+use Rattle.std.specs.Prelude.{None, Ok, Some}
+use Rattle.rules.specs.Results.{Read, refused_on}
 
 -- ---- the rules on the domains
 
@@ -75,11 +74,11 @@ module _ (places : ℕ) (A B : Description → Bool) (weaker : (d : Description)
     fails : A (describe st) ≡ false
     holds : B (describe st) ≡ true
 
-  head-refuses : (st : State) → UpTo12 st → A (describe st) ≡ false → head_agreed A places st ≡ some DomainsDiffer
+  head-refuses : (st : State) → UpTo12 st → A (describe st) ≡ false → head_agreed A places st ≡ Some DomainsDiffer
   unfolding head_agreed need
   head-refuses st u e = rw (eq-eqb st.rows 0 u.no_rows, u.sized, u.both_or_neither, u.in_order, u.not_too_wide, e)
 
-  rule_moved : (st : State) → (head_agreed A places st ≡ head_agreed B places st) ⊎ ((head_agreed A places st ≡ some DomainsDiffer) × Between st)
+  rule_moved : (st : State) → (head_agreed A places st ≡ head_agreed B places st) ⊎ ((head_agreed A places st ≡ Some DomainsDiffer) × Between st)
   unfolding head_agreed need
   rule_moved st =
       let d = describe st in
@@ -90,13 +89,13 @@ module _ (places : ℕ) (A B : Description → Bool) (weaker : (d : Description)
           cond a
           (need b NoSize
           (need c HalfADomain
-          (need o LowerNotBelowUpper (need w DomainTooWide (need agreed DomainsDiffer (need (roomy places (describe st)) TooLittleRoom none))))))
-          none
+          (need o LowerNotBelowUpper (need w DomainTooWide (need agreed DomainsDiffer (need (roomy places (describe st)) TooLittleRoom None))))))
+          None
 
       by : (a : Bool) → eqb st.rows 0 ≡ a → (b : Bool) → given st.size ≡ b → (c : Bool) → together st.lower st.upper ≡ c
           → (o : Bool) → every_colour ordered (describe st) ≡ o → (w : Bool) → every_colour narrow (describe st) ≡ w
           → (x : Bool) → A (describe st) ≡ x → (y : Bool) → B (describe st) ≡ y
-          → (fault a b c o w x ≡ fault a b c o w y) ⊎ ((head_agreed A places st ≡ some DomainsDiffer) × Between st)
+          → (fault a b c o w x ≡ fault a b c o w y) ⊎ ((head_agreed A places st ≡ Some DomainsDiffer) × Between st)
       by false ea b eb c ec o eo w ew x ex y ey = inl refl
       by true ea false eb c ec o eo w ew x ex y ey = inl refl
       by true ea true eb false ec o eo w ew x ex y ey = inl refl
@@ -123,11 +122,11 @@ fails-whole places st b =
 
 module _ (places : ℕ) where
   -- the rules' own head, and one that asks nothing of domains
-  head-moved : (st : State) → (head_fault places st ≡ head_agreed any_domains places st) ⊎ ((head_fault places st ≡ some DomainsDiffer) × Differing false st)
+  head-moved : (st : State) → (head_fault places st ≡ head_agreed any_domains places st) ⊎ ((head_fault places st ≡ Some DomainsDiffer) × Differing false st)
   unfolding head_agreed head_fault given_fault domain_fault
   head-moved st = ⊎_elim inl (λ stops. inr (stops.0, fails-uneven places st stops.1)) (rule_moved places agreed any_domains (λ d e. refl) st)
 
-  head-uneven : (st : State) → Differing false st → head_fault places st ≡ some DomainsDiffer
+  head-uneven : (st : State) → Differing false st → head_fault places st ≡ Some DomainsDiffer
   unfolding head_agreed head_fault given_fault domain_fault
   head-uneven st h = head-refuses places agreed any_domains (λ d e. refl) st h.passed ((disagree (describe st) (describe st).kind).1 (h.cube, h.differ, h.whole_so))
 
@@ -144,20 +143,20 @@ module _ (places : ℕ) where
   unfolding head_agreed need refusal_number
   any-not-12 st small =
       let plainly : (r : Refusal) → plain r ≡ true → Not12 r = plain-not-12 in
-      either (LowFault Not12) (eqb st.rows 0) _ none
+      either (LowFault Not12) (eqb st.rows 0) _ None
       (need-low Not12 (given st.size) NoSize _ (λ _. plainly NoSize refl)
       (need-low Not12 (together st.lower st.upper) HalfADomain _ (λ _ q. omega (arith, q))
       (need-low Not12 (every_colour ordered (describe st)) LowerNotBelowUpper _ (λ _. plainly LowerNotBelowUpper refl)
       (need-low Not12 (every_colour narrow (describe st)) DomainTooWide _ (λ _. plainly DomainTooWide refl)
-      (need-low Not12 (roomy places (describe st)) TooLittleRoom none (λ _ q. omega (arith, q)) tt)))))
+      (need-low Not12 (roomy places (describe st)) TooLittleRoom None (λ _ q. omega (arith, q)) tt)))))
       tt
 
-  any-never-12 : (file : List ℕ) (n : ℕ) → read_by (head_agreed any_domains) content_of file places ≡ Refused DomainsDiffer n → ⊥
+  any-never-12 : (file : List ℕ) (n : ℕ) → read_by (head_agreed any_domains) content_of file places ≡ refused_on DomainsDiffer n → ⊥
   unfolding refusal_number
   any-never-12 file n e = subst (LowAnswer Not12) e (read_low Not12 plain-not-12 (head_agreed any_domains) places any-not-12 file) refl
 
   -- 12 is given exactly there
-  pub differ-exactly : (file : List ℕ) (n : ℕ) → (read file places ≡ Refused DomainsDiffer n) ↔ DifferAt false file places n
+  pub differ-exactly : (file : List ℕ) (n : ℕ) → (read file places ≡ refused_on DomainsDiffer n) ↔ DifferAt false file places n
   differ-exactly = H.refused-exactly (head_agreed any_domains) places DomainsDiffer (Differing false) head-moved (λ st h. h.passed.no_rows) head-uneven any-never-12
 
   -- so whoever gives reading's number and line gives 12 and line n exactly there
@@ -172,7 +171,7 @@ module _ (places : ℕ) where
   head_one = head_agreed one_agreed
 
   -- the head as it was, and as it is
-  before-moved : (st : State) → (head_one places st ≡ head_fault places st) ⊎ ((head_one places st ≡ some DomainsDiffer) × Differing true st)
+  before-moved : (st : State) → (head_one places st ≡ head_fault places st) ⊎ ((head_one places st ≡ Some DomainsDiffer) × Differing true st)
   unfolding head_agreed head_fault given_fault domain_fault
   before-moved st = ⊎_elim inl (λ stops. inr (stops.0, fails-whole places st stops.1)) (rule_moved places one_agreed agreed (λ d. before-agreed d d.kind) st)
 
@@ -190,7 +189,7 @@ module _ (places : ℕ) where
       H.stopped-at head_one head_fault places DomainsDiffer (Differing true) before-moved file k (leads-reached places 0 start k.before k.state k.led-second) (λ h. h.passed.no_rows)
 
   -- a file has one place where the head is checked, so it is not 12 there any more
-  apart : (file : List ℕ) (m n : ℕ) → DifferAt true file places m → read file places ≡ Refused DomainsDiffer n → ⊥
+  apart : (file : List ℕ) (m n : ℕ) → DifferAt true file places m → read file places ≡ refused_on DomainsDiffer n → ⊥
   apart file m n h e =
       let k = (differ-exactly file n).0 e in
       no_true (sym h.holds.whole_so ∙ ap (λ (st : State). every_colour whole_bounds (describe st)) (H.head-one h k) ∙ k.holds.whole_so)
@@ -213,25 +212,25 @@ module _ (places : ℕ) where
   -- ---- acceptance
 
   -- what a head that passes says of the domains
-  head-says : (rule : Description → Bool) (st : State) → st.rows ≡ 0 → head_agreed rule places st ≡ none → rule (describe st) ≡ true
+  head-says : (rule : Description → Bool) (st : State) → st.rows ≡ 0 → head_agreed rule places st ≡ None → rule (describe st) ≡ true
   unfolding head_agreed
   head-says rule st e h =
-      let a : need (given st.size) NoSize _ ≡ none = rw (eq-eqb st.rows 0 e) at h in
+      let a : need (given st.size) NoSize _ ≡ None = rw (eq-eqb st.rows 0 e) at h in
       (need-none _ _ _ (need-none _ _ _ (need-none _ _ _ (need-none _ _ _ (need-none _ _ _ a).1).1).1).1).0
 
   -- a file was accepted exactly if it is, with the same description, and that is of 1D or has one domain
-  pub accepted-before : (file : List ℕ) (d : Description) → (read_one_domain file places ≡ Accepted d) ↔ ((read file places ≡ Accepted d) × (agree_before d.kind d ≡ true))
+  pub accepted-before : (file : List ℕ) (d : Description) → (read_one_domain file places ≡ Ok d) ↔ ((read file places ≡ Ok d) × (agree_before d.kind d ≡ true))
   unfolding read_by
   accepted-before file d = (
     λ e. (to e (lines-moved file), H.accepted-known head_one places (λ d. one_agreed d ≡ true) (head-says one_agreed) file d e),
     λ h. from h.0 h.1 (lines-moved file),
   )
     where
-      to : read_one_domain file places ≡ Accepted d → SameOrStopped file → read file places ≡ Accepted d
+      to : read_one_domain file places ≡ Ok d → SameOrStopped file → read file places ≡ Ok d
       to e (inl same) = sym (read_is places file) ∙ sym same ∙ e
       to e (inr k) = absurd (no-refused _ _ d (sym k.refused ∙ e))
 
-      from : read file places ≡ Accepted d → agree_before d.kind d ≡ true → SameOrStopped file → read_one_domain file places ≡ Accepted d
+      from : read file places ≡ Ok d → agree_before d.kind d ≡ true → SameOrStopped file → read_one_domain file places ≡ Ok d
       from e one (inl same) = same ∙ read_is places file ∙ e
       from e one (inr k) =
           let rest = sym (goes-on _ _ _ k) ∙ read_is places file ∙ e in
@@ -239,7 +238,7 @@ module _ (places : ℕ) where
           absurd (no_true (sym one ∙ differs))
 
   -- so a file that is accepted and was not is of a 3D table whose domains differ, with all bounds whole
-  pub newly-accepted : (file : List ℕ) (d : Description) → read file places ≡ Accepted d → (read_one_domain file places ≡ Accepted d → ⊥)
+  pub newly-accepted : (file : List ℕ) (d : Description) → read file places ≡ Ok d → (read_one_domain file places ≡ Ok d → ⊥)
       → (d.kind ≡ ThreeD) × (one_domain d ≡ false) × (every_colour whole_bounds d ≡ true)
   unfolding head_agreed head_fault given_fault domain_fault
   newly-accepted file d e not-before = by (agree_before d.kind d) refl

@@ -3,7 +3,6 @@ use Prim.Native.Nat.{ℕ, suc, ◌+◌, ◌≤◌, ◌<◌}
 use mathlib.Core.Path.{◌≡◌, refl, sym, subst, ◌∙◌}
 use mathlib.Core.Bool.{Bool, true, false, not, ◌&&◌}
 use mathlib.Core.List.{List, [], ◌∷◌}
-use mathlib.Core.Option.{Option, none, some}
 use native.Mathlib.Omega.{arith}
 use borrow.Author.Tests.{leb-true, eqb-false, not-true}
 use lib.Dec.{eqb, leb, ltb}
@@ -19,8 +18,6 @@ use Rattle.rules.specs.Reading.{check, finish, onward, read}
 use Rattle.rules.specs.Answers.{read_number, refusal_number}
 use Rattle.rules.specs.Promises.{Checks, Reads}
 use Rattle.rules.specs.declared.Bounds.{Bounds}
-use Rattle.rules.specs.declared.Content.{Content}
-use Rattle.rules.specs.declared.Content.TheVariants.{Says, Wrong}
 use Rattle.rules.specs.declared.Description.{Description}
 use Rattle.rules.specs.declared.Form.{Form}
 use Rattle.rules.specs.declared.Form.TheVariants.{Idle, Keyed, Data, Neither}
@@ -28,10 +25,6 @@ use Rattle.rules.specs.declared.Item.{Item}
 use Rattle.rules.specs.declared.Item.TheVariants.{OfLower, OfUpper}
 use Rattle.rules.specs.declared.Keyword.TheVariants.{ATitle, ALower, AnUpper, ASize}
 use Rattle.rules.specs.declared.Kind.{Kind}
-use Rattle.rules.specs.declared.Number.{Number}
-use Rattle.rules.specs.declared.Number.TheVariants.{Value, Malformed, Beyond, Finer}
-use Rattle.rules.specs.declared.Read.{Read}
-use Rattle.rules.specs.declared.Read.TheVariants.{Accepted, Refused}
 use Rattle.rules.specs.declared.Refusal.{Refusal}
 use Rattle.rules.specs.declared.Refusal.TheVariants.{LineTooLong, ByteNotPermitted, NeitherDataNorKeyword, KeywordAfterData, KeywordRepeated, ParametersWrong, SizeOutOfRange, DomainNumberWrong, NoSize, HalfADomain, LowerNotBelowUpper, DomainTooWide, DomainsDiffer, TooLittleRoom, TooManyRows, NotThreeNumbers, SampleBeyond, SampleTooFine, TooFewRows}
 use Rattle.rules.specs.declared.Three.{Three}
@@ -40,6 +33,9 @@ use Rattle.signature.proofs.Either.{either}
 use Rattle.signature.specs.Before.{end_by, judge_by, judges_by, order_by, read_by, read_lines_by}
 use Rattle.signature.proofs.Reading.Parts.{read_is}
 use Rattle.signature.proofs.Reading.Room.{Bounded, line-bounded, no_room, start-bounded}
+use Rattle.std.specs.Prelude.{Err, None, Ok, Option, Some}
+use Rattle.rules.specs.declared.NumberFault.TheVariants.{Beyond, Finer, Malformed}
+use Rattle.rules.specs.Results.{Content, Number, Read}
 
 -- 1 to 18 but for 12 and 13
 abbrev pub plain : Refusal → Bool
@@ -48,20 +44,20 @@ plain r = leb (refusal_number r) 18 && (not (eqb (refusal_number r) 12) && not (
 -- what is said of refusals, of all that can hold one
 module _ (Low : Refusal → Type 0) where
   abbrev pub LowFault : Fault → Type 0
-  LowFault none = Unit
-  LowFault (some r) = Low r
+  LowFault None = Unit
+  LowFault (Some r) = Low r
 
   abbrev LowContent : Content → Type 0
-  LowContent (Says i) = Unit
-  LowContent (Wrong r) = Low r
+  LowContent (Ok i) = Unit
+  LowContent (Err r) = Low r
 
   abbrev LowVerdict : Verdict → Type 0
   LowVerdict (go st) = Unit
   LowVerdict (refuse r) = Low r
 
   abbrev pub LowAnswer : Read → Type 0
-  LowAnswer (Accepted d) = Unit
-  LowAnswer (Refused r n) = Low r
+  LowAnswer (Ok d) = Unit
+  LowAnswer (Err x) = Low x.reason
 
   pub need-low : (t : Bool) (r : Refusal) (f : Fault) → (t ≡ false → Low r) → LowFault f → LowFault (need t r f)
   unfolding need
@@ -70,18 +66,18 @@ module _ (Low : Refusal → Type 0) where
 
   first-low : (f g : Fault) → LowFault f → LowFault g → LowFault (first f g)
   unfolding first
-  first-low none g a b = b
-  first-low (some r) g a b = a
+  first-low None g a b = b
+  first-low (Some r) g a b = a
 
   unless-low : (f : Fault) (j : Verdict) → LowFault f → LowVerdict j → LowVerdict (unless f j)
   unfolding unless
-  unless-low none j a b = b
-  unless-low (some r) j a b = a
+  unless-low None j a b = b
+  unless-low (Some r) j a b = a
 
   taken-low : (st : State) (c : Content) → LowContent c → LowVerdict (take_in st c)
   unfolding take_in
-  taken-low st (Says i) h = tt
-  taken-low st (Wrong r) h = h
+  taken-low st (Ok i) h = tt
+  taken-low st (Err r) h = h
 
   -- where it holds of these
   module _ (other : (r : Refusal) → plain r ≡ true → Low r) where
@@ -92,26 +88,26 @@ module _ (Low : Refusal → Type 0) where
     domain-low places d differ short =
         need-low (every_colour ordered d) LowerNotBelowUpper _ (λ _. other LowerNotBelowUpper refl)
         (need-low (every_colour narrow d) DomainTooWide _ (λ _. other DomainTooWide refl)
-        (need-low (agree d.kind d) DomainsDiffer _ differ (need-low (roomy places d) TooLittleRoom none short tt)))
+        (need-low (agree d.kind d) DomainsDiffer _ differ (need-low (roomy places d) TooLittleRoom None short tt)))
 
     -- 1 and 2
     byte_low : (l : List ℕ) → LowFault (byte_fault l)
     unfolding byte_fault refusal_number
     byte_low l =
         need-low (leb (length l) line_limit) LineTooLong _ (λ _. other LineTooLong refl)
-        (need-low (every permitted l) ByteNotPermitted none (λ _. other ByteNotPermitted refl) tt)
+        (need-low (every permitted l) ByteNotPermitted None (λ _. other ByteNotPermitted refl) tt)
 
     -- three numbers
     module _ (unformed beyond finer : Refusal) (a : Low unformed) (b : Low beyond) (c : Low finer) where
       valued-low : (n : Number) (next : ℤ → Content) → ((x : ℤ) → LowContent (next x)) → LowContent (valued unformed beyond finer n next)
-      valued-low (Value v) next h = h v
-      valued-low Malformed next h = a
-      valued-low Beyond next h = b
-      valued-low Finer next h = c
+      valued-low (Ok v) next h = h v
+      valued-low (Err Malformed) next h = a
+      valued-low (Err Beyond) next h = b
+      valued-low (Err Finer) next h = c
 
       values_low : (o : Option Three) (next : ℤ → ℤ → ℤ → Content) → ((x y z : ℤ) → LowContent (next x y z)) → LowContent (values unformed beyond finer o next)
-      values_low none next h = a
-      values_low (some t) next h =
+      values_low None next h = a
+      values_low (Some t) next h =
           valued-low t.first _ (λ x. valued-low t.second _ (λ y. valued-low t.third _ (λ z. h x y z)))
 
     bounds-low : (side : Bounds → Item) (ws : List (List ℕ)) → LowContent (bounds_of side ws)
@@ -158,16 +154,16 @@ module _ (Low : Refusal → Type 0) where
       order-low st small Idle = tt
       order-low st small (Keyed k) =
           need-low (eqb st.rows 0) KeywordAfterData _ (λ _. other KeywordAfterData refl)
-          (need-low (not (repeats k st)) KeywordRepeated none (λ _. other KeywordRepeated refl) tt)
+          (need-low (not (repeats k st)) KeywordRepeated None (λ _. other KeywordRepeated refl) tt)
       order-low st small Data =
-          first-low (head places st) _ (head-low st small) (need-low (ltb st.rows (rows (describe st))) TooManyRows none (λ _. other TooManyRows refl) tt)
+          first-low (head places st) _ (head-low st small) (need-low (ltb st.rows (rows (describe st))) TooManyRows None (λ _. other TooManyRows refl) tt)
       order-low st small Neither = tt
 
       -- the head and 18
       end_low : (st : State) → Bounded (describe st) → LowFault (end_by head places st)
       unfolding end_by refusal_number
       end_low st small =
-          first-low (head places st) _ (head-low st small) (need-low (leb (rows (describe st)) st.rows) TooFewRows none (λ _. other TooFewRows refl) tt)
+          first-low (head places st) _ (head-low st small) (need-low (leb (rows (describe st)) st.rows) TooFewRows None (λ _. other TooFewRows refl) tt)
 
       judged-low : (st : State) → Bounded (describe st) → (p : ℕ) (l : List ℕ) → LowVerdict (judge_by head content_of places st p l)
       unfolding judge_by
@@ -180,8 +176,8 @@ module _ (Low : Refusal → Type 0) where
       lines-low p n st [] small = split (end_by head places st) (end_low st small)
         where
           split : (f : Fault) → LowFault f → LowAnswer (finish n st f)
-          split none h = tt
-          split (some r) h = h
+          split None h = tt
+          split (Some r) h = h
       lines-low p n st (l ∷ ls) small =
           split (judge_by head content_of places st p l) refl (judged-low st small p l) (λ st'. lines-low (p + length l + 1) (suc n) st' ls)
         where
@@ -213,7 +209,7 @@ module _ (places : ℕ) where
   unfolding head_fault given_fault refusal_number
   head-answered st small =
       let plainly : (r : Refusal) → plain r ≡ true → Answered places r = plain-answered places in
-      either (LowFault (Answered places)) (eqb st.rows 0) _ none
+      either (LowFault (Answered places)) (eqb st.rows 0) _ None
       (need-low (Answered places) (given st.size) NoSize _ (λ _. plainly NoSize refl)
       (need-low (Answered places) (together st.lower st.upper) HalfADomain _ (λ _. (omega arith, λ e. absurd (omega (arith, e))))
       (domain-low (Answered places) plainly places (describe st) (λ _. (omega arith, λ e. absurd (omega (arith, e)))) (λ short. (omega arith, λ _. no_room places (describe st) small short)))))
@@ -227,8 +223,8 @@ pub read-number : (file : List ℕ) (places : ℕ) → read_number (read file pl
 read-number file places = by (read file places) (answered places file)
   where
     by : (r : Read) → LowAnswer (Answered places) r → read_number r ≤ 19
-    by (Accepted d) h = omega arith
-    by (Refused r n) h = h.0
+    by (Ok d) h = omega arith
+    by (Err x) h = h.0
 
 -- and so does every call that keeps reading's promise
 pub reads-number : {file : List ℕ} {table table' : List ℤ} {r : Read} → Reads file table r table' → read_number r ≤ 19
@@ -239,8 +235,8 @@ pub read-13 : (file : List ℕ) (places : ℕ) → read_number (read file places
 read-13 file places e = by (read file places) (answered places file) e
   where
     by : (r : Read) → LowAnswer (Answered places) r → read_number r ≡ 13 → places < place_limit
-    by (Accepted d) h e = absurd (omega arith)
-    by (Refused r n) h e = h.1 e
+    by (Ok d) h e = absurd (omega arith)
+    by (Err x) h e = h.1 e
 
 -- check answers 0 to 19, and never 13
 pub check-number : (file : List ℕ) → (read_number (check file) ≤ 19) × (read_number (check file) ≡ 13 → ⊥)

@@ -6,7 +6,6 @@ use mathlib.Core.Logic.Iff
 use mathlib.Core.Logic.{◌↔◌, inl, inr}
 use mathlib.Core.Bool.{Bool, true, false, cond, ◌&&◌}
 use mathlib.Core.List.{List, [], ◌∷◌, flat_map}
-use mathlib.Core.Option.{Option, none, some}
 use native.Mathlib.Omega.{arith}
 use borrow.Author.Tests.{ltb-true, ltb-false, le-leb, lt-leb}
 use lib.Dec.{eqb, leb, ltb}
@@ -22,8 +21,6 @@ use Rattle.rules.specs.Reading.Judge.{Fault, State, add, byte_fault, domain_faul
 use Rattle.rules.specs.Reading.{read}
 use Rattle.rules.specs.Answers.{read_line, read_number, refusal_number}
 use Rattle.rules.specs.Promises.{Reads}
-use Rattle.rules.specs.declared.Content.{Content}
-use Rattle.rules.specs.declared.Content.TheVariants.{Says}
 use Rattle.rules.specs.declared.Form.{Form}
 use Rattle.rules.specs.declared.Form.TheVariants.{Idle, Keyed, Data, Neither}
 use Rattle.rules.specs.declared.Item.{Item}
@@ -31,9 +28,6 @@ use Rattle.rules.specs.declared.Item.TheVariants.{OfSize, OfTitle}
 use Rattle.rules.specs.declared.Keyword.{Keyword}
 use Rattle.rules.specs.declared.Keyword.TheVariants.{ATitle, ALower, AnUpper, ASize}
 use Rattle.rules.specs.declared.Kind.{Kind}
-use Rattle.rules.specs.declared.Number.TheVariants.{Value, Beyond, Finer}
-use Rattle.rules.specs.declared.Read.{Read}
-use Rattle.rules.specs.declared.Read.TheVariants.{Accepted, Refused}
 use Rattle.rules.specs.declared.Refusal.{Refusal}
 use Rattle.rules.specs.declared.Refusal.TheVariants.{NeitherDataNorKeyword, ParametersWrong, SizeOutOfRange}
 use Rattle.rules.proofs.Answers.{refusal-of-number, refusalOf, refused-not-0}
@@ -45,6 +39,9 @@ use Rattle.rules.proofs.Reading.Walk.{Passed, let-pass, passes}
 use Rattle.signature.proofs.Either.{either}
 use Rattle.signature.specs.Order.{FailsFirst, FirstFailing, Met, Reached, byte_checks, data_checks, end_checks, fits, form_checks, head_checks, is_number, keyword_checks, known, line_checks, multiple, of_number, one_word, parameter_checks, quotes, size_checks, three_checks, three_numbers, title_formed, value_checks}
 use Rattle.signature.proofs.Reading.Checks.{decided, one-after, decided-cond, decided-met, decided-first, first-assoc, first-need, fault_in, fault_of, fault-unless, fault-take-in, fault-refuse, fault-go, fault-cond}
+use Rattle.std.specs.Prelude.{Err, None, Ok, Option, Some}
+use Rattle.rules.specs.declared.NumberFault.TheVariants.{Beyond, Finer}
+use Rattle.rules.specs.Results.{Content, Read, refused_on}
 
 -- ---- three numbers
 
@@ -55,8 +52,8 @@ module _ (places limit : ℕ) where
   formed-number w = split (numeral_of w)
     where
       split : (o : Option Numeral) → formed (value_of places limit o) ≡ given o
-      split none = refl
-      split (some n) =
+      split None = refl
+      split (Some n) =
           either (λ x. formed x ≡ true) (ltb (limit * under n) (over places n)) _ _ refl
           (either (λ x. formed x ≡ true) (eqb (over places n % under n) 0) _ _ refl refl)
 
@@ -68,7 +65,7 @@ module _ (places limit : ℕ) where
     settled negative p q next f h = split (ltb (limit * q) p) refl (eqb (p % q) 0)
       where
         split : (t : Bool) → ltb (limit * q) p ≡ t → (z : Bool)
-            → fault_in (valued unformed beyond finer (cond t Beyond (cond z (Value (signed negative (p / q))) Finer)) next) ≡ need (leb p (limit * q)) beyond (need z finer f)
+            → fault_in (valued unformed beyond finer (cond t (Err Beyond) (cond z (Ok (signed negative (p / q))) (Err Finer))) next) ≡ need (leb p (limit * q)) beyond (need z finer f)
         split true e z = rw (lt-leb p (limit * q) (ltb-true _ _ e))
         split false e true = rw (le-leb p (limit * q) (ltb-false _ _ e)) (h _)
         split false e false = rw (le-leb p (limit * q) (ltb-false _ _ e))
@@ -82,11 +79,11 @@ module _ (places limit : ℕ) where
         split : (o : Option Numeral) → given o ≡ true
             → fault_in (valued unformed beyond finer (value_of places limit o) next)
             ≡ need (of_number (λ n. leb (over places n) (limit * under n)) o) beyond (need (of_number (λ n. eqb (over places n % under n) 0) o) finer f)
-        split none e = absurd (no_true (sym e))
-        split (some n) e = settled n.negative (over places n) (under n) next f h
+        split None e = absurd (no_true (sym e))
+        split (Some n) e = settled n.negative (over places n) (under n) next f h
 
     -- three of them, from the left
-    three-fault : (ws : List (List ℕ)) (next : ℤ → ℤ → ℤ → Content) → ((x y z : ℤ) → fault_in (next x y z) ≡ none)
+    three-fault : (ws : List (List ℕ)) (next : ℤ → ℤ → ℤ → Content) → ((x y z : ℤ) → fault_in (next x y z) ≡ None)
         → fault_in (values unformed beyond finer (three_of places limit ws) next) ≡ decided (three_checks places limit unformed beyond finer ws)
     unfolding three_of three_checks three_numbers flat_map decided need
     three-fault [] next h = refl
@@ -97,7 +94,7 @@ module _ (places limit : ℕ) where
         rw (formed-number a, formed-number b, formed-number c) (split (is_number a && (is_number b && is_number c)) refl)
       where
         split : (t : Bool) → is_number a && (is_number b && is_number c) ≡ t
-            → fault_in (values unformed beyond finer (cond t (some (record { first = number_of places limit a; second = number_of places limit b; third = number_of places limit c })) none) next)
+            → fault_in (values unformed beyond finer (cond t (Some (record { first = number_of places limit a; second = number_of places limit b; third = number_of places limit c })) None) next)
             ≡ need t unformed (decided (flat_map (value_checks places limit beyond finer) (a ∷ b ∷ c ∷ [])))
         split false e = refl
         split true e =
@@ -107,12 +104,12 @@ module _ (places limit : ℕ) where
 
 -- ---- a keyword's parameters, and a line by its form
 
-title-fault : (end : ℕ) (s : List ℕ) → fault_in (quoted end s) ≡ need (quotes s) ParametersWrong none
+title-fault : (end : ℕ) (s : List ℕ) → fault_in (quoted end s) ≡ need (quotes s) ParametersWrong None
 unfolding quoted quotes need
 title-fault end [] = refl
 title-fault end (b ∷ rest) =
     fault-cond (quote b && closes (after in_title rest))
-    (Says (OfTitle (record { there = true; place = end - length rest; length = length (run in_title rest) })))
+    (Ok (OfTitle (record { there = true; place = end - length rest; length = length (run in_title rest) })))
     ParametersWrong
 
 size-fault : (k : Kind) (ws : List (List ℕ)) → fault_in (size_of k ws) ≡ decided (size_checks k ws)
@@ -120,7 +117,7 @@ unfolding size_of size_checks one_word decided need
 size-fault k [] = refl
 size-fault k (w ∷ []) =
     fault-cond (digits w) (sized k (spell 0 w)) ParametersWrong
-    ∙ ap (need (digits w) ParametersWrong) (fault-cond (in_range k (spell 0 w)) (Says (OfSize (record { kind = k; n = spell 0 w }))) SizeOutOfRange)
+    ∙ ap (need (digits w) ParametersWrong) (fault-cond (in_range k (spell 0 w)) (Ok (OfSize (record { kind = k; n = spell 0 w }))) SizeOutOfRange)
 size-fault k (w ∷ v ∷ more) = refl
 
 parameter-fault : (k : Keyword) (p : ℕ) (l : List ℕ) → fault_in (content_by (Keyed k) p l) ≡ decided (parameter_checks k l)
@@ -171,10 +168,10 @@ module _ (places : ℕ) (st : State) where
   pub line-passes : (p : ℕ) (l : List ℕ) → ((st' : State) × (judge places st p l ≡ go st')) ↔ Met (line_checks places st l)
   line-passes p l = Iff.trans (fault-go (judge places st p l)) (rw (line-fault p l) (decided-met (line_checks places st l)))
 
-  pub end-order : (r : Refusal) → (end_fault places st ≡ some r) ↔ FirstFailing r (end_checks places st)
+  pub end-order : (r : Refusal) → (end_fault places st ≡ Some r) ↔ FirstFailing r (end_checks places st)
   end-order r = rw end-fault (decided-first r (end_checks places st))
 
-  pub end-passes : (end_fault places st ≡ none) ↔ Met (end_checks places st)
+  pub end-passes : (end_fault places st ≡ None) ↔ Met (end_checks places st)
   end-passes = rw end-fault (decided-met (end_checks places st))
 
 -- ---- of reading
@@ -198,15 +195,15 @@ items_of places p st (l ∷ ls) st' (next, e, more) =
     (a.item ∷ is, (k, kept), (rw (found p l a.item k).form at a.placed, admitted), so)
 
 -- a refusal is its number and its line
-by_number : (r : Refusal) (n : ℕ) (a : Read) → read_number a ≡ refusal_number r → read_line a ≡ n → a ≡ Refused r n
-by_number r n (Accepted d) e m = absurd (refused-not-0 r (sym e))
-by_number r n (Refused s k) e m =
-    let so : ◌≡◌ {A = Fault} (some s) (some r) = sym (refusal-of-number s) ∙ ap refusalOf e ∙ refusal-of-number r in
-    let p : s ≡ r = cc in
-    ap₂ Refused p m
+by_number : (r : Refusal) (n : ℕ) (a : Read) → read_number a ≡ refusal_number r → read_line a ≡ n → a ≡ refused_on r n
+by_number r n (Ok d) e m = absurd (refused-not-0 r (sym e))
+by_number r n (Err x) e m =
+    let so : ◌≡◌ {A = Fault} (Some x.reason) (Some r) = sym (refusal-of-number x.reason) ∙ ap refusalOf e ∙ refusal-of-number r in
+    let p : x.reason ≡ r = cc in
+    ap₂ refused_on p m
 
 -- so whoever gives the number and line of an answer gives r's number and line n exactly where the answer is that refusal
-pub numbers-so : {A : Type 0} {a : Read} (r : Refusal) (n : ℕ) → (a ≡ Refused r n) ↔ A → {number line : ℕ} → number ≡ read_number a → line ≡ read_line a
+pub numbers-so : {A : Type 0} {a : Read} (r : Refusal) (n : ℕ) → (a ≡ refused_on r n) ↔ A → {number line : ℕ} → number ≡ read_number a → line ≡ read_line a
     → ((number ≡ refusal_number r) × (line ≡ n)) ↔ A
 numbers-so {a = a} r n exactly e m = (
   λ h. exactly.0 (by_number r n a (sym e ∙ h.0) (sym m ∙ h.1)),
@@ -215,7 +212,7 @@ numbers-so {a = a} r n exactly e m = (
 
 module _ (file : List ℕ) (places : ℕ) (r : Refusal) (n : ℕ) where
   -- reading refuses with r on line n exactly where, on the first line that does not pass, the first check that fails has r
-  pub read-order : (read file places ≡ Refused r n) ↔ FailsFirst file places r n
+  pub read-order : (read file places ≡ refused_on r n) ↔ FailsFirst file places r n
   read-order = (λ h. to (refused-first file places r n h), λ f. first-refused file places r n (from f))
     where
       to : Stopped places 0 0 start (lines_of file) r n → FailsFirst file places r n

@@ -2,7 +2,6 @@
 use Prim.Native.Nat.{ℕ, suc, ◌+◌, ◌≤◌}
 use mathlib.Core.Path.{◌≡◌, refl, sym, ap, ap₂, subst, ◌∙◌}
 use mathlib.Core.List.{List, [], ◌∷◌, ◌++◌}
-use mathlib.Core.Option.{none, some}
 use native.Mathlib.Omega.{arith}
 use lib.ListN.{length}
 use Rattle.rules.specs.Reading.{finish, onward, read, read_lines}
@@ -14,7 +13,6 @@ use Rattle.rules.specs.Answers.{read_line}
 use Rattle.rules.specs.declared.Form.{Form}
 use Rattle.rules.specs.declared.Form.TheVariants.{Idle, Keyed, Data, Neither}
 use Rattle.rules.specs.declared.Item.{Item}
-use Rattle.rules.specs.declared.Read.TheVariants.{Refused}
 use Rattle.rules.specs.declared.Refusal.{Refusal}
 use Rattle.rules.proofs.Reading.OneLine.{find, found}
 use Rattle.rules.proofs.Reading.Order.{form_for}
@@ -22,6 +20,8 @@ use Rattle.rules.proofs.Reading.Refusals.{beginning}
 use Rattle.rules.proofs.Reading.Walk.{no-refused, taken, unless-go}
 use Rattle.signature.specs.Before.{Judges, end_by, judge_by, judges_by, line_after, order_by, read_by, read_lines_by}
 use Rattle.signature.specs.Order.{Leads, Reached}
+use Rattle.std.specs.Prelude.{None, Some}
+use Rattle.rules.specs.Results.{refused_on}
 
 -- ---- lines, by any judge
 
@@ -41,17 +41,17 @@ module _ (by : Judges) where
       ∙ ap (λ (m : ℕ). read_lines_by by (beginning p (l ∷ ls)) m st' left) (omega arith))
 
   -- a refusal after n lines is on none of them
-  pub no-sooner : (p n : ℕ) (st : State) (ls : List (List ℕ)) (r : Refusal) (m : ℕ) → read_lines_by by p n st ls ≡ Refused r m → line_after n ls ≤ m
+  pub no-sooner : (p n : ℕ) (st : State) (ls : List (List ℕ)) (r : Refusal) (m : ℕ) → read_lines_by by p n st ls ≡ refused_on r m → line_after n ls ≤ m
   unfolding read_lines_by
   no-sooner p n st [] r m e = split (by.end st) e
     where
-      split : (f : Fault) → finish n st f ≡ Refused r m → n ≤ m
-      split none g = absurd (no-refused r m (describe st) (sym g))
-      split (some s) g = omega (arith, ap read_line g)
+      split : (f : Fault) → finish n st f ≡ refused_on r m → n ≤ m
+      split None g = absurd (no-refused r m (describe st) (sym g))
+      split (Some s) g = omega (arith, ap read_line g)
   no-sooner p n st (l ∷ ls) r m e = split (by.line st p l) e (λ st'. no-sooner (p + length l + 1) (suc n) st' ls r m)
     where
-      split : (j : Verdict) → onward (λ st'. read_lines_by by (p + length l + 1) (suc n) st' ls) (suc n) j ≡ Refused r m
-          → ((st' : State) → read_lines_by by (p + length l + 1) (suc n) st' ls ≡ Refused r m → line_after (suc n) ls ≤ m) → suc n ≤ m
+      split : (j : Verdict) → onward (λ st'. read_lines_by by (p + length l + 1) (suc n) st' ls) (suc n) j ≡ refused_on r m
+          → ((st' : State) → read_lines_by by (p + length l + 1) (suc n) st' ls ≡ refused_on r m → line_after (suc n) ls ≤ m) → suc n ≤ m
       split (go st') g next = omega (arith, next st' g, line-after (suc n) ls)
       split (refuse s) g next = omega (arith, ap read_line g)
 
@@ -96,7 +96,7 @@ module _ (head : ℕ → State → Fault) (places : ℕ) where
     pub item : Item
     pub line : Line p l item
     pub form : form_of l ≡ form_for item
-    pub placed : order_by head places st (form_of l) ≡ none
+    pub placed : order_by head places st (form_of l) ≡ None
     pub state : st' ≡ add st item
 
   pub passes-by : (st : State) (p : ℕ) (l : List ℕ) (st' : State) → judge_by head content_of places st p l ≡ go st' → PassedBy st p l st'

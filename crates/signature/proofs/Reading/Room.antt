@@ -4,7 +4,6 @@ use Prim.Native.Nat.{ℕ, ◌*◌, ◌≤◌, ◌<◌}
 use mathlib.Core.Path.{◌≡◌, refl, sym, subst}
 use mathlib.Core.Bool.{true, false}
 use mathlib.Core.List.{List}
-use mathlib.Core.Option.{Option, none, some}
 use native.Mathlib.Nat.{mul-le-mul}
 use native.Mathlib.Omega.{arith}
 use borrow.Author.Tests.{leb-true, leb-false, le-leb}
@@ -25,6 +24,7 @@ use Rattle.rules.proofs.Tests.{and_both}
 use Rattle.rules.proofs.Reading.Bridge.{size-in-range}
 use Rattle.signature.specs.Before.{judge_by}
 use Rattle.signature.proofs.Reading.Parts.{passes-by}
+use Rattle.std.specs.Prelude.{None, Option, Some}
 
 -- no more rows than the greatest table has
 abbrev pub Bounded : Description → Type 0
@@ -39,8 +39,8 @@ unfolding add describe
 add-bounded st p l i k b = by (size_in i) refl
   where
     by : (o : Option Size) → size_in i ≡ o → let s = given_or no_size (newer o st.size) in rows_of s.kind s.n ≤ row_limit
-    by none e = b
-    by (some s) e = range-rows-most s.kind s.n (size-in-range p l i s e k)
+    by None e = b
+    by (Some s) e = range-rows-most s.kind s.n (size-in-range p l i s e k)
 
 -- a line that passes leaves it so, whatever is asked of the head
 pub line-bounded : (head : ℕ → State → Fault) (places : ℕ) (st : State) (p : ℕ) (l : List ℕ) (st' : State) → judge_by head content_of places st p l ≡ go st'
@@ -55,7 +55,7 @@ range-rows-least k n e = by k (leb-true 2 n (and_both (leb 2 n) _ e).0)
   where
     by : (k : Kind) → 2 ≤ n → 2 ≤ rows_of k n
     by OneD h = h
-    by ThreeD h = let some : 1 ≤ n = omega arith in mul-le-mul (mul-le-mul h some) some
+    by ThreeD h = let Some : 1 ≤ n = omega arith in mul-le-mul (mul-le-mul h Some) Some
 
 -- a table of as many places as the greatest table needs has room for it
 pub room-for-all : (d : Description) → Bounded d → roomy place_limit d ≡ true

@@ -5,7 +5,6 @@ use mathlib.Core.Path.{◌≡◌, refl, sym, ap, ◌∙◌}
 use mathlib.Core.Logic.{◌⊎◌, inl, inr}
 use mathlib.Core.Bool.{Bool, true, false, ◌||◌, or_assoc, or_comm, or-false, or-true}
 use mathlib.Core.List.{List, [], ◌∷◌, ◌++◌}
-use mathlib.Core.Option.{Option, none, some}
 use native.Mathlib.Omega.{arith}
 use borrow.Author.Tests.{eqb-true, lt-ltb, ltb-true}
 use lib.Dec.{ltb}
@@ -18,7 +17,6 @@ use Rattle.rules.specs.declared.Form.{Form}
 use Rattle.rules.specs.declared.Form.TheVariants.{Idle, Keyed, Data, Neither}
 use Rattle.rules.specs.declared.Item.{Item}
 use Rattle.rules.specs.declared.Item.TheVariants.{Nothing, OfLower, OfRow, OfSize, OfTitle, OfUpper}
-use Rattle.rules.specs.declared.Read.TheVariants.{Accepted}
 use Rattle.rules.proofs.Tests.{need-none, no_true, none_or}
 use Rattle.rules.proofs.Reading.Order.{form_for}
 use Rattle.rules.proofs.Reading.Walk.{no-refused}
@@ -27,6 +25,7 @@ use Rattle.signature.specs.HalfDomains.{HalfDomain, lower_alone, lower_line, siz
 use Rattle.signature.specs.Heads.{AtHead, among, data_line}
 use Rattle.signature.specs.Order.{Leads}
 use Rattle.signature.proofs.Reading.Parts.{passes-by}
+use Rattle.std.specs.Prelude.{None, Ok, Option, Some}
 
 -- ---- two lines together
 
@@ -35,18 +34,18 @@ abbrev OneOfTwo : Bool → Bool → Type 0
 OneOfTwo a b = ((a ≡ true) × (b ≡ false)) ⊎ ((b ≡ true) × (a ≡ false))
 
 apart : {A B : Type 0} (o : Option A) (u : Option B) → together o u ≡ false → OneOfTwo (given o) (given u)
-apart none none e = absurd (no_true e)
-apart none (some b) e = inr (refl, refl)
-apart (some a) none e = inl (refl, refl)
-apart (some a) (some b) e = absurd (no_true e)
+apart None None e = absurd (no_true e)
+apart None (Some b) e = inr (refl, refl)
+apart (Some a) None e = inl (refl, refl)
+apart (Some a) (Some b) e = absurd (no_true e)
 
 not-together : {A B : Type 0} (o : Option A) (u : Option B) → OneOfTwo (given o) (given u) → together o u ≡ false
-not-together none none (inl (p, q)) = absurd (no_true (sym p))
-not-together none none (inr (p, q)) = absurd (no_true (sym p))
-not-together none (some b) h = refl
-not-together (some a) none h = refl
-not-together (some a) (some b) (inl (p, q)) = absurd (no_true q)
-not-together (some a) (some b) (inr (p, q)) = absurd (no_true q)
+not-together None None (inl (p, q)) = absurd (no_true (sym p))
+not-together None None (inr (p, q)) = absurd (no_true (sym p))
+not-together None (Some b) h = refl
+not-together (Some a) None h = refl
+not-together (Some a) (Some b) (inl (p, q)) = absurd (no_true q)
+not-together (Some a) (Some b) (inr (p, q)) = absurd (no_true q)
 
 -- ---- what a state was told, by the sorts of the lines that led to it
 
@@ -142,7 +141,7 @@ module _ (head : ℕ → State → Fault) (places : ℕ) where
 
   -- after a row no keyword passes: of a sort that keywords alone have, an accepted file has no line there
   module _ (sort : Form → Bool) (idle : sort Idle ≡ false) (rowed : sort Data ≡ false) (neither : sort Neither ≡ false) where
-    keyword-late : (st : State) (f : Form) → order_by head places st f ≡ none → ltb 0 st.rows ≡ true → sort f ≡ false
+    keyword-late : (st : State) (f : Form) → order_by head places st f ≡ None → ltb 0 st.rows ≡ true → sort f ≡ false
     unfolding order_by order_fault
     keyword-late st Idle h r = idle
     keyword-late st (Keyed k) h r = absurd (omega (arith, ltb-true 0 st.rows r, eqb-true st.rows 0 (need-none _ _ _ h).0))
@@ -150,7 +149,7 @@ module _ (head : ℕ → State → Fault) (places : ℕ) where
     keyword-late st Neither h r = neither
 
     -- after the first row, or from the first data line on
-    pub none-later : (p n : ℕ) (st : State) (ls : List (List ℕ)) (d : Description) → read_lines_by (judges_by head content_of places) p n st ls ≡ Accepted d
+    pub none-later : (p n : ℕ) (st : State) (ls : List (List ℕ)) (d : Description) → read_lines_by (judges_by head content_of places) p n st ls ≡ Ok d
         → (ltb 0 st.rows ≡ true) ⊎ AtHead ls → among sort ls ≡ false
     unfolding read_lines_by among data_line
     none-later p n st [] d h after = refl
@@ -165,8 +164,8 @@ module _ (head : ℕ → State → Fault) (places : ℕ) where
         here st' e (inr at) = (ap sort at.1 ∙ rowed, rows st' e ∙ ap (λ (f : Form). data_line f || ltb 0 st.rows) at.1)
 
         by : (j : Verdict) → judge_by head content_of places st p l ≡ j
-            → onward (λ st'. read_lines_by (judges_by head content_of places) (p + length l + 1) (suc n) st' ls) (suc n) j ≡ Accepted d
-            → ((st' : State) → read_lines_by (judges_by head content_of places) (p + length l + 1) (suc n) st' ls ≡ Accepted d → (ltb 0 st'.rows ≡ true) ⊎ AtHead ls → among sort ls ≡ false)
+            → onward (λ st'. read_lines_by (judges_by head content_of places) (p + length l + 1) (suc n) st' ls) (suc n) j ≡ Ok d
+            → ((st' : State) → read_lines_by (judges_by head content_of places) (p + length l + 1) (suc n) st' ls ≡ Ok d → (ltb 0 st'.rows ≡ true) ⊎ AtHead ls → among sort ls ≡ false)
             → sort (form_of l) || among sort ls ≡ false
         by (go st') e g next = let (other, row) = here st' e after in none_or _ _ other (next st' g (inl row))
         by (refuse s) e g next = absurd (no-refused s (suc n) d g)

@@ -10,9 +10,9 @@ use Rattle.rules.specs.Reading.Lines.{bytes}
 use Rattle.rules.specs.Reading.{check, read}
 use Rattle.rules.specs.Answers.{read_line, read_number}
 use Rattle.rules.specs.Promises.{Checks}
-use Rattle.rules.specs.declared.Read.{Read}
 use Rattle.signature.specs.Cases.{sample_a3}
 use Rattle.signature.proofs.Cases.{opened}
+use Rattle.rules.specs.Results.{Read}
 
 abbrev pub Checker : Type 0
 Checker = List ℕ → Read

@@ -10,10 +10,10 @@ use lib.ListN.{get_or}
 use Rattle.rules.specs.Reading.Lines.{bytes}
 use Rattle.rules.specs.Answers.{read_number, read_line}
 use Rattle.rules.specs.Promises.{Reads}
-use Rattle.rules.specs.declared.Read.{Read}
 use Rattle.signature.specs.Cases.{no_upper, one_uneven, uneven_beside_whole, untouched, sample_a3, three_rows, zero_and_half}
 use Rattle.signature.specs.OneDomain.{red_wider}
 use Rattle.signature.proofs.Cases.{opened}
+use Rattle.rules.specs.Results.{Read}
 
 abbrev pub Reader : Type 0
 Reader = List ℕ → List ℤ → Read × List ℤ

@@ -3,7 +3,6 @@ use Prim.Native.Nat.{ℕ, zero, suc, ◌*◌, ◌≤◌}
 use mathlib.Core.Path.{◌≡◌, refl, sym, ap, subst, ◌∙◌}
 use mathlib.Core.Bool.{Bool, true, false, false≢true}
 use mathlib.Core.List.{List, [], ◌∷◌, ◌++◌, append_assoc, map, flatten}
-use mathlib.Core.Option.{Option, none}
 use native.Mathlib.Omega.{arith}
 use borrow.Author.Tests.{leb-true, le-leb, ne_eqb, not-true}
 use lib.Dec.{leb}
@@ -36,6 +35,7 @@ use Rattle.signature.proofs.Decimals.{decimal-digits, decimal-spells, decimals-e
 use Rattle.signature.proofs.Untitled.{same-24}
 use Rattle.signature.proofs.Writing.Spaced.{Word, every-also, line-before, parted-spaced, spaced, spaced-words, words-before}
 use Rattle.signature.proofs.Writing.Words.{bound-word, decimal-word, named-word, sample-word}
+use Rattle.std.specs.Prelude.{None, Option}
 
 -- the lines of a text give these items, wherever the text begins in a file
 abbrev Giving : List ℕ → List Item → Type 0
@@ -200,7 +200,7 @@ title-first true title s is h more =
 
 -- ---- the items together
 
-no_data : {A : Type 0} (pick : Item → Option A) → pick Nothing ≡ none → ((r : Row) → pick (OfRow r) ≡ none) → (rs : List Row) → gather pick (data_items rs) ≡ []
+no_data : {A : Type 0} (pick : Item → Option A) → pick Nothing ≡ None → ((r : Row) → pick (OfRow r) ≡ None) → (rs : List Row) → gather pick (data_items rs) ≡ []
 unfolding gather
 no_data pick n f [] = rw n
 no_data pick n f (r ∷ rs) = rw (f r) (no_data pick n f rs)
@@ -233,7 +233,7 @@ module _ (d : Description) (title : List ℕ) (rs : List Row) where
   items = title_items d.title.there title ++ body
 
   -- what is neither in a title nor in the data is in the three lines between them
-  gathered-between : {A : Type 0} (pick : Item → Option A) → ((t : Title) → pick (OfTitle t) ≡ none) → pick Nothing ≡ none → ((r : Row) → pick (OfRow r) ≡ none)
+  gathered-between : {A : Type 0} (pick : Item → Option A) → ((t : Title) → pick (OfTitle t) ≡ None) → pick Nothing ≡ None → ((r : Row) → pick (OfRow r) ≡ None)
       → gather pick items ≡ gather pick keywords
   unfolding gather
   gathered-between pick f n g = split d.title.there

@@ -13,7 +13,6 @@ use Rattle.rules.specs.Decimals.{decimal, sign, places_of, after_point, decimals
 use Rattle.rules.specs.Reading.Lines.{bytes, digit, every, minus_byte, plus_byte, point_byte, starts}
 use Rattle.rules.specs.Reading.Numerals.{Exact, absent, digits, minus, plain, spell}
 use Rattle.rules.specs.Reading.Numbers.{number_of}
-use Rattle.rules.specs.declared.Number.TheVariants.{Value}
 use Rattle.rules.proofs.Tests.{and_both, both-and, or-none}
 use Rattle.rules.proofs.Decimals.{no_fraction, some-fraction}
 use Rattle.rules.proofs.Picturing.Checks.{every-at}
@@ -21,6 +20,7 @@ use Rattle.rules.proofs.Reading.Numbers.{digit-no-sign, digit-range, digits-part
 use Rattle.rules.proofs.Reading.Runs.{append-every, every_append, starts-append, starts_other}
 use Rattle.signature.proofs.Decimals.{decimal-digits, decimals-read, is_below, no-zero-last, places-digits, places-some, rest, whole}
 use Rattle.signature.proofs.Writing.Fewest.{none_or_some, some-digits}
+use Rattle.std.specs.Prelude.{Ok}
 
 -- a minus stands only before a number below 0
 pub minus-below : (places : ℕ) (z : ℤ) → starts minus_byte (decimals_of places z) ≡ is_below z
@@ -57,8 +57,8 @@ minus-there = refl
 -- so it is no number's text: that of 0 has no minus
 pub no-minus-zero : (places : ℕ) (z : ℤ) → decimals_of places z ≡ bytes "-0" → ⊥
 no-minus-zero places z e =
-    let ours : number_of places (nat_abs z) (bytes "-0") ≡ Value z = ap (number_of places (nat_abs z)) (sym e) ∙ decimals-read places z (nat_abs z) (omega arith) in
-    let nought : number_of places (nat_abs z) (bytes "-0") ≡ Value (pos 0) = of-exact places (nat_abs z) (bytes "-0") (pos 0) (minus-zero places (nat_abs z)) in
+    let ours : number_of places (nat_abs z) (bytes "-0") ≡ Ok z = ap (number_of places (nat_abs z)) (sym e) ∙ decimals-read places z (nat_abs z) (omega arith) in
+    let nought : number_of places (nat_abs z) (bytes "-0") ≡ Ok (pos 0) = of-exact places (nat_abs z) (bytes "-0") (pos 0) (minus-zero places (nat_abs z)) in
     let z-is-0 : z ≡ pos 0 = cc in
     false≢true (ap is_below (sym z-is-0) ∙ sym (minus-below places z) ∙ ap (starts minus_byte) e ∙ minus-there)
 

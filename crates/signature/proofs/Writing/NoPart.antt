@@ -15,11 +15,11 @@ use Rattle.rules.specs.declared.Description.{Description}
 use Rattle.rules.specs.declared.Keyword.TheVariants.{ALower, AnUpper}
 use Rattle.rules.specs.declared.Refusal.TheVariants.{TooLittleRoom, CouldNotBeRead, TitleNotPlain}
 use Rattle.rules.specs.declared.Title.{Title}
-use Rattle.rules.specs.declared.Write.{Write}
-use Rattle.rules.specs.declared.Write.TheVariants as W
 use Rattle.rules.proofs.Answers.{is-writes, writes-is}
 use Rattle.signature.proofs.LaterPlaces.{later-24}
 use Rattle.signature.proofs.Untitled.{retitled, same-24}
+use Rattle.std.specs.Prelude.{Err, Ok}
+use Rattle.rules.specs.Results.{Write}
 
 -- two inputs that are written alike: the same answer, and the same bytes afterwards
 pub record WrittenAlike (d : Description) (table : List ℤ) (title : List ℕ) (e : Description) (other : List ℤ) (words : List ℕ) : Type 0 where
@@ -42,11 +42,11 @@ alike-by d e table other title words readable fits text = record { answer = answ
     answer : (places : ℕ) → write d table title places ≡ write e other words places
     answer places i =
         let n = length (text i) in
-        cond (readable i) (cond (fits i) (cond (leb n places) (W.Accepted n) (W.Refused TooLittleRoom)) (W.Refused TitleNotPlain)) (W.Refused CouldNotBeRead)
+        cond (readable i) (cond (fits i) (cond (leb n places) (Ok n) (Err TooLittleRoom)) (Err TitleNotPlain)) (Err CouldNotBeRead)
 
     memory : (out : List ℕ) (r : Write) → bytes_after d table title out r ≡ bytes_after e other words out r
-    memory out (W.Accepted n) = ap (λ x. x ++ drop n out) text
-    memory out (W.Refused reason) = refl
+    memory out (Ok n) = ap (λ x. x ++ drop n out) text
+    memory out (Err reason) = refl
 
 module _ (d : Description) (table : List ℤ) (title : List ℕ) where
   -- the text by the title's line alone

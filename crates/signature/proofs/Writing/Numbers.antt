@@ -18,11 +18,11 @@ use Rattle.rules.specs.Answers.{refusal_number, write_number}
 use Rattle.rules.specs.Promises.{Writes}
 use Rattle.rules.specs.declared.Description.{Description}
 use Rattle.rules.specs.declared.Refusal.TheVariants.{TooLittleRoom, CouldNotBeRead, TitleNotPlain}
-use Rattle.rules.specs.declared.Write.{Write}
-use Rattle.rules.specs.declared.Write.TheVariants as W
 use Rattle.rules.proofs.Tests.{and-fails}
 use Rattle.signature.specs.Numbers.{OneOf}
 use Rattle.signature.proofs.Either.{fails-some, some-fails}
+use Rattle.std.specs.Prelude.{Err, Ok}
+use Rattle.rules.specs.Results.{Write}
 
 -- ---- what 27 is
 
@@ -67,21 +67,21 @@ title-odd true title = (λ e. (refl, by (leb (length title) title_limit) refl e)
 -- ---- the answers by their cases: 24, 27, 13, accepted
 
 module _ (d : Description) (table : List ℤ) (title : List ℕ) (places : ℕ) where
-  pub write-24 : could_be_read d table ≡ false → write d table title places ≡ W.Refused CouldNotBeRead
+  pub write-24 : could_be_read d table ≡ false → write d table title places ≡ Err CouldNotBeRead
   unfolding write
   write-24 e = rw e
 
   module _ (readable : could_be_read d table ≡ true) where
-    pub write-27 : title_fits d.title.there title ≡ false → write d table title places ≡ W.Refused TitleNotPlain
+    pub write-27 : title_fits d.title.there title ≡ false → write d table title places ≡ Err TitleNotPlain
     unfolding write
     write-27 odd = rw (readable, odd)
 
     module _ (fits : title_fits d.title.there title ≡ true) where
-      pub write-13 : places < length (file_text d table title) → write d table title places ≡ W.Refused TooLittleRoom
+      pub write-13 : places < length (file_text d table title) → write d table title places ≡ Err TooLittleRoom
       unfolding write
       write-13 short = rw (readable, fits, lt-leb (length (file_text d table title)) places short)
 
-      pub write-0 : length (file_text d table title) ≤ places → write d table title places ≡ W.Accepted (length (file_text d table title))
+      pub write-0 : length (file_text d table title) ≤ places → write d table title places ≡ Ok (length (file_text d table title))
       unfolding write
       write-0 room = rw (readable, fits, le-leb (length (file_text d table title)) places room)
 

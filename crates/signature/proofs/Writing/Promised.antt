@@ -10,10 +10,10 @@ use Rattle.rules.specs.Writing.{bytes_after, file_text}
 use Rattle.rules.specs.Answers.{write_number, written_length}
 use Rattle.rules.specs.Promises.{Writes}
 use Rattle.rules.specs.declared.Description.{Description}
-use Rattle.rules.specs.declared.Write.{Write}
-use Rattle.rules.specs.declared.Write.TheVariants as W
 use Rattle.rules.proofs.Answers.{writes-is}
 use Rattle.signature.proofs.Writing.Numbers.{Wrote, exactly-0, write-0}
+use Rattle.std.specs.Prelude.{Err, Ok}
+use Rattle.rules.specs.Results.{Write}
 
 module _ {d : Description} {table : List ℤ} {title out : List ℕ} {r : Write} {out' : List ℕ} (writes : Writes d table title out r out') where
   memory-by : out' ≡ bytes_after d table title out r
@@ -25,8 +25,8 @@ module _ {d : Description} {table : List ℤ} {title out : List ℕ} {r : Write}
   write-refused not-0 = by r refl
     where
       by : (s : Write) → r ≡ s → (written_length r ≡ 0) × (out' ≡ out)
-      by (W.Accepted n) e = absurd (not-0 (ap write_number e))
-      by (W.Refused reason) e = (ap written_length e, memory-by ∙ ap (bytes_after d table title out) e)
+      by (Ok n) e = absurd (not-0 (ap write_number e))
+      by (Err reason) e = (ap written_length e, memory-by ∙ ap (bytes_after d table title out) e)
 
   module _ (accepts : write_number r ≡ 0) where
     -- an answer of 0 says that all checks passed
@@ -34,7 +34,7 @@ module _ {d : Description} {table : List ℤ} {title out : List ℕ} {r : Write}
     all-passed = (exactly-0 d table title (length out)).0 (sym writes.number ∙ accepts)
 
     -- it comes with the text's length
-    pub length-written : r ≡ W.Accepted (length (file_text d table title))
+    pub length-written : r ≡ Ok (length (file_text d table title))
     length-written = (writes-is writes).0 ∙ write-0 d table title (length out) all-passed.readable all-passed.fits all-passed.room
 
     -- the text, and what stood after so many bytes

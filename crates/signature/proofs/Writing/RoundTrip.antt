@@ -19,12 +19,8 @@ use Rattle.rules.specs.Answers.{write_number, written_length}
 use Rattle.rules.specs.Promises.{Reads, Writes}
 use Rattle.rules.specs.declared.Description.{Description}
 use Rattle.rules.specs.declared.Keyword.TheVariants.{ALower, AnUpper}
-use Rattle.rules.specs.declared.Read.{Read}
-use Rattle.rules.specs.declared.Read.TheVariants as R
 use Rattle.rules.specs.declared.Refusal.TheVariants.{TooLittleRoom}
 use Rattle.rules.specs.declared.Title.{Title}
-use Rattle.rules.specs.declared.Write.{Write}
-use Rattle.rules.specs.declared.Write.TheVariants as W
 use Rattle.rules.proofs.Tests.{no_true}
 use Rattle.rules.proofs.Answers.{reads-is, writes-is}
 use Rattle.rules.proofs.Sound.{sound-of}
@@ -33,6 +29,8 @@ use Rattle.signature.proofs.Writing.Kept.{written_keeps}
 use Rattle.signature.proofs.Writing.Writable.{accepted-writable}
 use Rattle.signature.proofs.Writing.Numbers.{Wrote, write-0}
 use Rattle.signature.proofs.Writing.Promised.{all-passed, length-written, text-written}
+use Rattle.std.specs.Prelude.{Err, Ok}
+use Rattle.rules.specs.Results.{Read, Write}
 
 -- ---- the title's bytes
 
@@ -84,7 +82,7 @@ title_read d table title = title_bytes (file_text d table title) (fitted d title
 
 -- with room for a text, writing answers its length
 abbrev answer_for : List ℕ → ℕ → Write
-answer_for text places = cond (leb (length text) places) (W.Accepted (length text)) (W.Refused TooLittleRoom)
+answer_for text places = cond (leb (length text) places) (Ok (length text)) (Err TooLittleRoom)
 
 write-answers : (d : Description) (table : List ℤ) (title : List ℕ) (places : ℕ) → could_be_read d table ≡ true → title_fits d.title.there title ≡ true
     → write d table title places ≡ answer_for (file_text d table title) places
@@ -93,11 +91,11 @@ write-answers d table title places readable fits = rw (readable, fits)
 
 module _ (d : Description) (table : List ℤ) (title : List ℕ) (readable : could_be_read d table ≡ true) (fits : title_fits d.title.there title ≡ true) where
   accepted : (places : ℕ) → 3 * rows d ≤ places
-      → (read (file_text d table title) places ≡ R.Accepted (fitted d title)) × (samples_of (lines_of (file_text d table title)) ≡ take (3 * rows d) table)
+      → (read (file_text d table title) places ≡ Ok (fitted d title)) × (samples_of (lines_of (file_text d table title)) ≡ take (3 * rows d) table)
   accepted places room = keeps-accepted (file_text d table title) places (fitted d title) _ (written_keeps d table title places readable fits room)
 
   -- reading what was written is accepted, with the description fitted to the new file
-  pub read-written : (places : ℕ) → 3 * rows d ≤ places → read (file_text d table title) places ≡ R.Accepted (fitted d title)
+  pub read-written : (places : ℕ) → 3 * rows d ≤ places → read (file_text d table title) places ≡ Ok (fitted d title)
   read-written places room = (accepted places room).0
 
   module _ (table' : List ℤ) (room : 3 * rows d ≤ length table') where
@@ -163,7 +161,7 @@ module _ {d : Description} {table : List ℤ} {title out : List ℕ} {r : Write}
   so : Wrote d table title (length out)
   so = all-passed writes accepts
 
-  length_so : r ≡ W.Accepted (length file)
+  length_so : r ≡ Ok (length file)
   length_so = length-written writes accepts
 
   text_so : take (written_length r) out' ≡ file
@@ -174,7 +172,7 @@ module _ {d : Description} {table : List ℤ} {title out : List ℕ} {r : Write}
     memory-read = reads-is (subst (λ (x : List ℕ). Reads x table' r₂ table'') text_so reads)
 
     -- reading them gives the fitted description and the samples
-    pub reads-written : (r₂ ≡ R.Accepted (fitted d title)) × (table'' ≡ take (3 * rows d) table ++ drop (3 * rows d) table')
+    pub reads-written : (r₂ ≡ Ok (fitted d title)) × (table'' ≡ take (3 * rows d) table ++ drop (3 * rows d) table')
     reads-written = (
       memory-read.0 ∙ read-written d table title so.readable so.fits (length table') room,
       memory-read.1 ∙ table-written d table title so.readable so.fits table' room,

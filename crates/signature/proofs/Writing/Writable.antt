@@ -16,13 +16,13 @@ use Rattle.rules.specs.Reading.Grammar.{Keeps, TitleLine}
 use Rattle.rules.specs.Writing.{title_byte, title_bytes, title_fits, title_limit}
 use Rattle.rules.specs.declared.Description.{Description}
 use Rattle.rules.specs.declared.Keyword.TheVariants.{ATitle}
-use Rattle.rules.specs.declared.Read.TheVariants.{Accepted}
 use Rattle.rules.specs.declared.Title.{Title}
 use Rattle.rules.proofs.Tests.{and_both, both-and, or-none}
 use Rattle.rules.proofs.Reading.Acceptance.{accepted-keeps}
 use Rattle.rules.proofs.Reading.Bridge.{bridge}
 use Rattle.rules.proofs.Reading.Runs.{append-every}
 use Rattle.rules.proofs.Reading.Titles.{OnItsLine, title-on-line}
+use Rattle.std.specs.Prelude.{Ok}
 
 -- a permitted byte that is neither quote nor tab
 plain_byte : (b : ℕ) → permitted b ≡ true → in_title b ≡ true → title_byte b ≡ true
@@ -75,6 +75,6 @@ kept-title-fits file places d samples k = split d.title.there refl
     split false e = refl
 
 -- neither 24 nor 27
-pub accepted-writable : (file : List ℕ) (table : List ℤ) (d : Description) → read file (length table) ≡ Accepted d
-    → (could_be_read d (table_after file table (Accepted d)) ≡ true) × (title_fits d.title.there (title_bytes file d.title) ≡ true)
+pub accepted-writable : (file : List ℕ) (table : List ℤ) (d : Description) → read file (length table) ≡ Ok d
+    → (could_be_read d (table_after file table (Ok d)) ≡ true) × (title_fits d.title.there (title_bytes file d.title) ≡ true)
 accepted-writable file table d h = (bridge file table d h, kept-title-fits file (length table) d (samples_of (lines_of file)) (accepted-keeps file (length table) d h))

@@ -12,9 +12,9 @@ use Rattle.rules.specs.Writing.{head_text, rows_text}
 use Rattle.rules.specs.Answers.{write_number, written_length}
 use Rattle.rules.specs.Promises.{Writes}
 use Rattle.rules.specs.declared.Description.{Description}
-use Rattle.rules.specs.declared.Write.{Write}
 use Rattle.signature.specs.Cases.{described_by, table_from, zero_and_half, zero_and_half_text, titled_half, far_apart}
 use Rattle.signature.proofs.Cases.{opened}
+use Rattle.rules.specs.Results.{Write}
 
 abbrev pub Writer : Type 0
 Writer = Description → List ℤ → List ℕ → List ℕ → Write × List ℕ
