@@ -1,7 +1,7 @@
 // How much memory a call takes, by what its arguments name. None of it is proved to be enough, and none has to be: with too little a file is refused.
 use crate::verbs::Verb;
 use crate::{help_wanted, verb_named};
-use desk::{Extent, Host, argument, argument_count, extent_of, hold};
+use desk::{Host, argument, argument_count, hold};
 use judge::{count_rows, in_range};
 use pointing::{SizeFound, size_in};
 use rules::Kind;
@@ -97,14 +97,9 @@ fn table_room(host: &mut Host) -> Room {
 fn named_room(host: &Host, place: usize) -> usize {
     let mut path = io::buffer();
     let n = argument(host, place, &mut path);
-    match extent_of(host, &path[..n]) {
-        Extent::Bytes(length) => file_room(if length < MOST_FILE as u64 {
-            length as usize
-        } else {
-            MOST_FILE
-        }),
-        Extent::Nothing => 1,
-        Extent::Unknown => MOST_FILE,
+    match host.extent(&path[..n]) {
+        Some(length) => file_room(length.min(MOST_FILE as u64) as usize),
+        None => MOST_FILE,
     }
 }
 

@@ -1,7 +1,7 @@
 use Prim.Native.Nat.{◌≤◌, ◌-◌}
 use mathlib.Core.Path.{◌≡◌}
 use lib.ListN.{length}
-use Rattle.desk.proofs.loading.fill.Given as goal
+use Rattle.desk.proofs.host.Input.fill.Given as goal
 
 -- So many bytes of the space are filled, and its length stays.
 abbrev pub invariant-loop-n : goal.invariant-loop-n
