@@ -12,7 +12,7 @@ use crate::plan::{Axis, Plan};
 use crate::shares::Pair;
 use crate::sums::{Sums, pair_sum};
 use rules::{Codes, Colour, Kind, Shares};
-use whole::{Whole, lesser};
+use whole::Whole;
 
 // The code nearest to M·S / (D·10,000,000), with the M of corrected codes. Whatever S is, the nearest code is that of S moved into 0 to D·10,000,000; p times
 // that, over the unit, is as much, and fits 64 bits.
@@ -20,7 +20,7 @@ fn code_of(p: u64, axis: Axis, sum: Whole) -> u16
     requires { (m : ℕ) × Codable p axis m }
     ensures { (m : ℕ) → Codable p axis m → result ≡ code (pos m *ℤ sum.0) axis.full m }
 {
-    let s = lesser(axis.full, sum.above());
+    let s = axis.full.min(sum.above());
     let divisor = axis.divisor;
     divisor.quotient(2 * (p * s) + axis.unit) as u16
 }

@@ -5,7 +5,7 @@ ghost use Rattle.colour.specs.Limits.{each_limit, low_limit};
 ghost use Rattle.colour.specs.Places.{AxisFits, CellsFit, place_of};
 
 use crate::plan::Axis;
-use whole::{Whole, lesser};
+use whole::Whole;
 
 // The index i and the fraction f of one colour's code.
 #[derive(Clone, Copy)]
@@ -33,9 +33,9 @@ pub fn place_of(axis: Axis, cells: usize, code: u16) -> Place
 {
     let den = axis.den;
     let above = above_lower(axis.each, axis.low, code);
-    let a = lesser(den, above);
+    let a = den.min(above);
     let p = a * cells as u64;
-    let i = lesser(p / den, cells as u64 - 1);
+    let i = (p / den).min(cells as u64 - 1);
     Place {
         index: i as usize,
         fraction: p - i * den,

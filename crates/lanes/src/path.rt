@@ -8,7 +8,7 @@ ghost use Rattle.lanes.specs.Paths.{Keyed, CornerIs, Climbs, sample_from, path_t
 use crate::lane::WHOLE;
 use colour::{colour_place, with_term};
 use rules::{Colour, TenMillionths};
-use whole::{Whole, greater, lesser};
+use whole::Whole;
 
 // A row by the place of its first number, with its weight.
 #[derive(Clone, Copy)]
@@ -41,12 +41,12 @@ pub fn path_of(den: u64, across: u64, start: u64, red: u64, green: u64, blue: u6
     requires { Keyed den across start (three red green blue) }
     ensures { Climbs start den (three red green blue) result }
 {
-    let upper = greater(red, green);
-    let lower = lesser(red, green);
-    let one = greater(upper, blue);
-    let middle = lesser(upper, blue);
-    let two = greater(lower, middle);
-    let last = lesser(lower, middle);
+    let upper = red.max(green);
+    let lower = red.min(green);
+    let one = upper.max(blue);
+    let middle = upper.min(blue);
+    let two = lower.max(middle);
+    let last = lower.min(middle);
     let f1 = one / WHOLE;
     let f2 = two / WHOLE;
     let f3 = last / WHOLE;

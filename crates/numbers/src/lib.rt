@@ -11,7 +11,6 @@ ghost use Rattle.numbers.specs.Parts.{Inside, PowerInside, exponent_at, numeral,
 
 use rules::Number;
 use scan::{ByteKind, run_end};
-use whole::{lesser, lesser_count};
 
 // ---- digits
 
@@ -40,7 +39,7 @@ fn one_more(m: u64, b: u8, limit: u64) -> u64
 {
     let n = m * 10 + digit_value(b);
     let past = limit + 1;
-    lesser(past, n)
+    past.min(n)
 }
 
 // The number that digits spell after m, kept at limit + 1 once it is past the limit.
@@ -264,8 +263,8 @@ fn value(
 {
     let x = spelt(power, 0, EXPONENT_CAP);
     let cut = cut_at(whole.len(), places, down, x as usize);
-    let a = lesser_count(cut, whole.len());
-    let b = lesser_count(cut - a, fraction.len());
+    let a = cut.min(whole.len());
+    let b = (cut - a).min(fraction.len());
     let front = spelt_both(&whole[..a], &fraction[..b], limit);
     let quotient = padded(front, cut - a - b, limit);
     let rest = spelt_both(&whole[a..], &fraction[b..], limit);

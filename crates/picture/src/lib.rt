@@ -18,7 +18,6 @@ use lanes::{CubeFound, cube_of};
 use lines::correct_lines;
 use pixels::{pixel_from, write_pixel};
 use rules::{Bits, Depths, DepthsFound, Description, Kind, Picture, Refusal};
-use whole::greater_code;
 
 mod cubes;
 mod kept;
@@ -31,10 +30,10 @@ mod pixels;
 fn greatest(codes: &[u16]) -> u16
     ensures { (m : ℕ) → leb result m ≡ every (λ c. leb c m) codes.now }
 {
-    let mut most = 0;
+    let mut most = 0u16;
     let mut i = 0;
     while i < codes.len() {
-        most = greater_code(most, codes[i]);
+        most = most.max(codes[i]);
         i += 1;
     }
     most

@@ -3,8 +3,6 @@ ghost use Rattle.std.specs.Prelude.{◌≡◌, ◌+◌, ◌*◌, ◌/◌, ◌%�
 ghost use Rattle.rules.specs.Reading.Lines.{run};
 ghost use Rattle.ppm.specs.Raster.{Copied, byte_count, bytes_of, code_count, codes_of};
 
-use whole::lesser_count;
-
 // ---- bytes to codes
 
 // How many codes so many bytes are.
@@ -37,7 +35,7 @@ fn code_at(bytes: &[u8], wide: bool, i: usize) -> u16
 pub fn codes_from(bytes: &[u8], wide: bool, codes: &mut [u16]) -> usize
     ensures { Copied (codes_of wide bytes.now) codes.old result codes.new }
 {
-    let n = lesser_count(code_count(bytes.len(), wide), codes.len());
+    let n = code_count(bytes.len(), wide).min(codes.len());
     let mut i = 0;
     while i < n {
         codes[i] = code_at(bytes, wide, i);
@@ -87,7 +85,7 @@ fn byte_at(codes: &[u16], wide: bool, i: usize) -> u8
 pub fn bytes_from(codes: &[u16], wide: bool, bytes: &mut [u8]) -> usize
     ensures { Copied (bytes_of wide codes.now) bytes.old result bytes.new }
 {
-    let n = lesser_count(byte_count(codes.len(), wide), bytes.len());
+    let n = byte_count(codes.len(), wide).min(bytes.len());
     let mut i = 0;
     while i < n {
         bytes[i] = byte_at(codes, wide, i);

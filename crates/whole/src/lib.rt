@@ -1,5 +1,5 @@
-// Whole numbers held in 64 bits: sums of weight times value, and the nearest code, exact over ℤ; the lesser and the greater of two numbers, and their
-// greatest common divisor; the upper half of a product; division by a number that stays the same.
+// Whole numbers held in 64 bits: sums of weight times value, and the nearest code, exact over ℤ; the greatest common divisor of two numbers; the upper half of
+// a product; division by a number that stays the same.
 #![tactic(auto)]
 
 ghost use Rattle.std.specs.Prelude.{◌≡◌, ◌+◌, ◌*◌, ◌≤◌, ◌<◌, max, pos, nat_abs, ◌+ℤ◌, ◌*ℤ◌};
@@ -8,12 +8,10 @@ ghost use Rattle.whole.specs.Integers.{up, dn};
 ghost use Rattle.whole.specs.Nearest.{rounded, code};
 
 pub use divisor::common_divisor;
-pub use order::{greater, greater_code, lesser, lesser_code, lesser_count};
 pub use product::upper_half;
 pub use reciprocal::{Divisor, Reciprocal, WideReciprocal};
 
 mod divisor;
-mod order;
 mod product;
 mod reciprocal;
 
@@ -99,13 +97,13 @@ impl Whole {
     }
 
     // The code from 0 to m that is nearest to self / den, the greater of two equally near.
+    #[tactic(auto, unfolding(crate::specs::Nearest::code))]
     pub fn nearest(self, den: u64, m: u64) -> u64
         requires den_nonzero { 0 < den }
         requires den_bound { 2 * nat_abs self.0 + 2 * den ≤ 18_446_744_073_709_551_615 }
         ensures { result ≡ code self.0 den m }
     {
-        let n = self.above();
-        lesser(m, rounded(n, den))
+        m.min(rounded(self.above(), den))
     }
 }
 
