@@ -2,23 +2,6 @@
 use crate::print;
 use erythmoda::erythmoda_look;
 
-pub(crate) fn show_codes(codes: &[u16; 3]) {
-    print::codes(codes);
-}
-
-pub(crate) fn show_rows(rows: &[u32; 6]) {
-    print::row(rows[0]);
-    print::row(rows[1]);
-    print::row(rows[2]);
-    print::row(rows[3]);
-    print::row(rows[4]);
-    print::row(rows[5]);
-}
-
-pub(crate) fn show_weights(weights: &[i64; 6]) {
-    print::numbers(weights);
-}
-
 // What a look answers.
 pub(crate) fn looked(
     name: &[u8],
@@ -43,9 +26,9 @@ pub(crate) fn looked(
     );
     print::raw(name);
     print::count(number as u64);
-    show_codes(&codes);
-    show_rows(&rows);
-    show_weights(&weights);
+    print::counts(&codes);
+    print::counts(&rows);
+    print::numbers(&weights);
     print::raw(b"\n");
 }
 
