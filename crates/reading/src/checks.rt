@@ -9,21 +9,22 @@ ghost use Rattle.text.specs.Answers.{fault_of};
 ghost use Rattle.reading.specs.View.{view, Fit};
 
 use crate::state::State;
-use judge::{Rule, agree, count_rows, domains_keep};
+use judge::{agree, count_rows, domains_keep, narrow, ordered};
 use rules::{Description, Form, Keyword, Read, Refusal};
 use text::Checked;
 
 // 10 to 13, of a description and a table of so many places.
+#[tactic(auto, unfolding(rules::specs::Reading::Judge::domain_fault, rules::specs::Reading::Judge::need, rules::specs::Descriptions::roomy))]
 fn domain_fault(d: Description, places: usize) -> Checked
     requires n_value { in_range d.kind d.n ≡ true }
     requires d_value { every_colour bounds_fit d ≡ true }
     ensures { fault_of result ≡ domain_fault places d }
 {
     let kind = d.kind;
-    if !domains_keep(Rule::Ordered, d) {
+    if !domains_keep(ordered, d) {
         return Checked::Refused(Refusal::LowerNotBelowUpper);
     }
-    if !domains_keep(Rule::Narrow, d) {
+    if !domains_keep(narrow, d) {
         return Checked::Refused(Refusal::DomainTooWide);
     }
     if !agree(kind, d) {
