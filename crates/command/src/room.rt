@@ -3,7 +3,7 @@ use crate::verbs::Verb;
 use crate::{help_wanted, verb_named};
 use desk::{Host, argument, argument_count, hold};
 use judge::{count_rows, in_range};
-use pointing::{SizeFound, size_in};
+use pointing::size_in;
 use rules::Kind;
 use std::alloc::AllocError;
 
@@ -52,7 +52,7 @@ fn file_room(length: usize) -> usize {
 // How many rows the size line of a file asks for.
 fn rows_asked(file: &[u8]) -> usize {
     match size_in(file) {
-        SizeFound::Given(size) => {
+        Some(size) => {
             let kind = size.kind;
             if in_range(kind, size.n) {
                 count_rows(kind, size.n)
@@ -60,7 +60,7 @@ fn rows_asked(file: &[u8]) -> usize {
                 0
             }
         }
-        SizeFound::NotGiven => 0,
+        None => 0,
     }
 }
 
