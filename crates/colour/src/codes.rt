@@ -21,8 +21,7 @@ fn code_of(p: u64, axis: Axis, sum: Whole) -> u16
     ensures { (m : ℕ) → Codable p axis m → result ≡ code (pos m *ℤ sum.0) axis.full m }
 {
     let s = axis.full.min(sum.above());
-    let divisor = axis.divisor;
-    divisor.quotient(2 * (p * s) + axis.unit) as u16
+    axis.divisor.quotient(2 * (p * s) + axis.unit) as u16
 }
 
 // ---- 1D
@@ -43,23 +42,17 @@ pub fn line_codes(plan: Plan, table: &[i64], shares: Shares) -> Codes
     ensures { (m : ℕ) → Coded plan m → (c : Colour) → code_in result c ≡ code_by m (axis_in plan c).den table.now c (used Kind.OneD c shares) }
 {
     let p = plan.times;
-    let first = shares.first;
-    let second = shares.second;
-    let third = shares.third;
-    let fourth = shares.fourth;
-    let fifth = shares.fifth;
-    let sixth = shares.sixth;
     let red = Pair {
-        low: first,
-        high: second,
+        low: shares.first,
+        high: shares.second,
     };
     let green = Pair {
-        low: third,
-        high: fourth,
+        low: shares.third,
+        high: shares.fourth,
     };
     let blue = Pair {
-        low: fifth,
-        high: sixth,
+        low: shares.fifth,
+        high: shares.sixth,
     };
     Codes {
         red: pair_code(p, plan.red, table, Colour::Red, red),

@@ -21,8 +21,7 @@ fn above_lower(each: u64, low: Whole, code: u16) -> u64
     ensures { result ≡ up (pos (each * code) -ℤ low.0) }
 {
     let parts = each * code as u64;
-    let a = Whole(parts as i64 - low.0);
-    a.above()
+    Whole(parts as i64 - low.0).above()
 }
 
 // p = a·(N−1), i the smaller of p div D and N−2, f = p − i·D.
