@@ -17,6 +17,15 @@ pub struct Corner {
     pub weight: Whole,
 }
 
+// Where a pixel begins, and its three keys.
+#[derive(Clone, Copy)]
+pub struct Spot {
+    pub start: u64,
+    pub red: u64,
+    pub green: u64,
+    pub blue: u64,
+}
+
 #[derive(Clone, Copy)]
 pub struct Path {
     pub first: Corner,
@@ -37,14 +46,15 @@ fn corner_of(place: u64, weight: u64) -> Corner
 
 // From a start, one stride along each axis, the greatest fraction first; in which order equal ones stand is left to their strides, as it gives the same
 // sum. The three strides together lead across.
-pub fn path_of(den: u64, across: u64, start: u64, red: u64, green: u64, blue: u64) -> Path
-    requires { Keyed den across start (three red green blue) }
-    ensures { Climbs start den (three red green blue) result }
+pub fn path_of(den: u64, across: u64, spot: Spot) -> Path
+    requires { Keyed den across spot.start (three spot.red spot.green spot.blue) }
+    ensures { Climbs spot.start den (three spot.red spot.green spot.blue) result }
 {
-    let upper = red.max(green);
-    let lower = red.min(green);
-    let one = upper.max(blue);
-    let middle = upper.min(blue);
+    let start = spot.start;
+    let upper = spot.red.max(spot.green);
+    let lower = spot.red.min(spot.green);
+    let one = upper.max(spot.blue);
+    let middle = upper.min(spot.blue);
     let two = lower.max(middle);
     let last = lower.min(middle);
     let f1 = one / WHOLE;

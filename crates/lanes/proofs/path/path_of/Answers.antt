@@ -5,10 +5,10 @@ use Rattle.lanes.proofs.path.path_of.Goals as goal
 
 -- The three numbers that come out are the keys in order, so that no difference falls below 0 and no weight is above D.
 in_order : (c : goal.After-min-last) → let a = c.args in
-    Sorted (three a.red a.green a.blue) c.max-one.result c.max-two.result c.min-last.result
+    Sorted (three a.spot.red a.spot.green a.spot.blue) c.max-one.result c.max-two.result c.min-last.result
 in_order c =
     let a = c.args in
-    sorted (three a.red a.green a.blue)
+    sorted (three a.spot.red a.spot.green a.spot.blue)
     c.max-upper.ensures
     c.min-lower.ensures
     c.max-one.ensures
