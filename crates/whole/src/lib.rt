@@ -15,7 +15,7 @@ mod divisor;
 mod product;
 mod reciprocal;
 
-#[derive(Clone, Copy)]
+#[derive(Clone, Copy, Debug, PartialEq, Eq, PartialOrd, Ord)]
 pub struct Whole(pub i64);
 
 impl Whole {
@@ -56,44 +56,28 @@ impl Whole {
     pub fn above(self) -> u64
         ensures { result ≡ up self.0 }
     {
-        let s = self.0;
-        if s < 0 { 0 } else { s as u64 }
+        self.0.max(0) as u64
     }
 
     // How far it is from 0; the least i64 too.
     pub fn size(self) -> u64
         ensures { result ≡ nat_abs self.0 }
     {
-        let s = self.0;
-        if s < 0 {
-            let below = -(s + 1);
-            return below as u64 + 1;
-        }
-        s as u64
+        self.0.unsigned_abs()
     }
 
     // The lesser of two is as far below 0 as the farther of them.
     pub fn lesser(self, other: Whole) -> Whole
         ensures { dn result.0 ≡ max (dn self.0) (dn other.0) }
     {
-        let x = self.0;
-        let y = other.0;
-        if x < y {
-            return self;
-        }
-        other
+        self.min(other)
     }
 
     // The greater of two is as far above 0 as the farther of them.
     pub fn greater(self, other: Whole) -> Whole
         ensures { up result.0 ≡ max (up self.0) (up other.0) }
     {
-        let x = self.0;
-        let y = other.0;
-        if y < x {
-            return self;
-        }
-        other
+        self.max(other)
     }
 
     // The code from 0 to m that is nearest to self / den, the greater of two equally near.
