@@ -3,6 +3,7 @@ use crate::print;
 use erythmoda::erythmoda_look;
 
 // What a look answers.
+// Stays: here and in the other files the arguments lie apart, as the C interface takes them; a struct would be taken apart at once.
 pub(crate) fn looked(
     name: &[u8],
     description: &[i64; 11],

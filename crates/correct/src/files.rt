@@ -15,7 +15,7 @@ use desk::{
     Host, Input, Last, Outcome, Output, create_output, is_link, is_missing, is_no_file, is_taken,
     open_input, open_update, remove, rename, word_at,
 };
-use lettering::{put, put_byte};
+use lettering::Pen;
 
 // The longest name that the system takes.
 const LAST: usize = 4095;
@@ -95,10 +95,12 @@ fn put_part_name(part: &mut [u8], path: &[u8], number: u8) -> usize
     requires room { Room part.old 0 (part_name path.now number) }
     ensures { Puts part.old 0 (part_name path.now number) result part.new }
 {
-    let after_path = put(part, 0, path);
-    let after_word = put(part, after_path, b".part-");
-    let after_tens = put_byte(part, after_word, b'0' + number / 10);
-    put_byte(part, after_tens, b'0' + number % 10)
+    let mut pen = Pen { bytes: part, at: 0 };
+    pen.put(path);
+    pen.put(b".part-");
+    pen.put_byte(b'0' + number / 10);
+    pen.put_byte(b'0' + number % 10);
+    pen.at
 }
 
 // Makes the first part whose name is not taken, and answers it, open to write, or nothing.

@@ -9,6 +9,7 @@ use whole::Whole;
 
 // ---- a description as eleven numbers
 
+// Stays: a function, and no `From<Kind>` or `TryFrom<i64>`, since `Kind` belongs to rules, where nothing else has C's numbers.
 fn kind_number(kind: Kind) -> i64
     ensures { result ≡ kind_number kind }
 {
@@ -103,6 +104,8 @@ pub fn described(eleven: &[i64; 11]) -> Option<Description>
 
 // ---- a look's pixel, codes, rows and weights
 
+// Stays: `Codes` and `Shares` belong to rules, so `From` for them would stand there, away from how C's numbers lie; and `codes.into()` says less.
+
 pub fn pixel_of(codes: &[u16; 3]) -> Codes
     ensures { result ≡ pixel_in codes.now }
 {
@@ -178,6 +181,7 @@ pub fn shares_in(rows: &[u32; 6], weights: &[i64; 6]) -> Shares
 
 // ---- a colour as a number
 
+// Stays: as with kinds, `Colour` belongs to rules.
 pub fn colour_of(number: u32) -> Option<Colour>
     ensures { result ≡ crossed (colour_in number) }
 {
