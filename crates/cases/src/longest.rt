@@ -1,6 +1,4 @@
 // The longest table of 1D, N = 65536, read whole. Of its places it is printed how many hold 0, and how many still hold a 7: one, past the last row.
-ghost use Rattle.std.specs.Prelude.{◌≤◌};
-
 use crate::{print, reads};
 
 const SIZE_LINE: [u8; 18] = *b"LUT_1D_SIZE 65536\n";
@@ -13,34 +11,20 @@ fn byte_at(i: usize) -> u8 {
 }
 
 fn fill(file: &mut [u8]) {
-    let mut i = 0;
-    while i < file.len() {
-        file[i] = byte_at(i);
-        i += 1;
+    for (i, byte) in file.iter_mut().enumerate() {
+        *byte = byte_at(i);
     }
-}
-
-pub(crate) fn once_if(same: bool) -> u64
-    ensures { result ≤ 1 }
-{
-    if same { 1 } else { 0 }
 }
 
 // How many places hold a number.
-fn places_with(table: &[i64], n: i64) -> u64 {
-    let mut count = 0;
-    let mut i = 0;
-    while i < table.len() {
-        count += once_if(table[i] == n);
-        i += 1;
-    }
-    count
+pub(crate) fn places_with<T: Eq>(list: &[T], n: &T) -> u64 {
+    list.iter().filter(|&x| x == n).count() as u64
 }
 
 fn show(name: &[u8], file: &[u8], table: &mut [i64]) {
     reads::answered(name, file, &mut *table);
-    print::count(places_with(table, 0));
-    print::count(places_with(table, 7));
+    print::count(places_with(table, &0));
+    print::count(places_with(table, &7));
     print::raw(b"\n");
 }
 

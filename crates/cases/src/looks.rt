@@ -2,24 +2,8 @@
 use crate::print;
 use erythmoda::erythmoda_look;
 
-pub(crate) fn show_codes(codes: &[u16; 3]) {
-    print::codes(codes);
-}
-
-pub(crate) fn show_rows(rows: &[u32; 6]) {
-    print::row(rows[0]);
-    print::row(rows[1]);
-    print::row(rows[2]);
-    print::row(rows[3]);
-    print::row(rows[4]);
-    print::row(rows[5]);
-}
-
-pub(crate) fn show_weights(weights: &[i64; 6]) {
-    print::numbers(weights);
-}
-
 // What a look answers.
+// Stays: here and in the other files the arguments lie apart, as the C interface takes them; a struct would be taken apart at once.
 pub(crate) fn looked(
     name: &[u8],
     description: &[i64; 11],
@@ -43,9 +27,9 @@ pub(crate) fn looked(
     );
     print::raw(name);
     print::count(number as u64);
-    show_codes(&codes);
-    show_rows(&rows);
-    show_weights(&weights);
+    print::counts(&codes);
+    print::counts(&rows);
+    print::numbers(&weights);
     print::raw(b"\n");
 }
 

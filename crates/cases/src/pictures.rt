@@ -14,7 +14,7 @@ pub(crate) fn through(
     let number = erythmoda_picture(description, table, raw_bits, corrected_bits, src, &mut *dst);
     print::raw(name);
     print::count(number as u64);
-    print::codes(dst);
+    print::counts(dst);
     print::raw(b"\n");
 }
 

@@ -10,10 +10,6 @@ pub(crate) fn count(n: u64) {
     io::print_decimal(1, n);
 }
 
-pub(crate) fn row(n: u32) {
-    count(n as u64);
-}
-
 fn signed(n: i64) {
     raw(b"\t");
     if n < 0 {
@@ -23,22 +19,15 @@ fn signed(n: i64) {
 }
 
 pub(crate) fn numbers(list: &[i64]) {
-    let mut i = 0;
-    while i < list.len() {
-        signed(list[i]);
-        i += 1;
+    for &n in list {
+        signed(n);
     }
 }
 
-fn code(c: u16) {
-    count(c as u64);
-}
-
-pub(crate) fn codes(list: &[u16]) {
-    let mut i = 0;
-    while i < list.len() {
-        code(list[i]);
-        i += 1;
+// Codes, or rows.
+pub(crate) fn counts<T: Copy + Into<u64>>(list: &[T]) {
+    for &n in list {
+        count(n.into());
     }
 }
 

@@ -1,5 +1,5 @@
 // The two halves of a look: of the first the number, six rows and six weights, of the second the number and three codes, all of which held what is no answer.
-use crate::{looks, mixed, pictures, print};
+use crate::{mixed, pictures, print};
 use erythmoda::{erythmoda_codes, erythmoda_rows};
 
 // Sample A.3: three rows in 1D, and domains from 0 to 1, 2 and 3.
@@ -23,8 +23,8 @@ fn found(name: &[u8], description: &[i64; 11], table: &[i64], raw_bits: u32, pix
     let number = erythmoda_rows(description, table, raw_bits, pixel, &mut rows, &mut weights);
     print::raw(name);
     print::count(number as u64);
-    looks::show_rows(&rows);
-    looks::show_weights(&weights);
+    print::counts(&rows);
+    print::numbers(&weights);
     print::raw(b"\n");
 }
 
@@ -67,7 +67,7 @@ fn given(
     );
     print::raw(name);
     print::count(number as u64);
-    looks::show_codes(&codes);
+    print::counts(&codes);
     print::raw(b"\n");
 }
 

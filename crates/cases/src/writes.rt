@@ -5,34 +5,18 @@ use erythmoda::erythmoda_write;
 // Two rows: zeros, then a half, 1 and 2.
 const HALF: [i64; 6] = [0, 0, 0, 5_000_000, 10_000_000, 20_000_000];
 
-fn sevens(bytes: &[u8]) -> u64 {
-    let mut count = 0;
-    let mut i = 0;
-    while i < bytes.len() {
-        count += longest::once_if(bytes[i] == 7);
-        i += 1;
-    }
-    count
-}
-
 fn shown(byte: u8) {
     if byte == b'\n' {
         print::raw(b"|");
         return;
     }
-    let one = [byte];
-    print::raw(&one);
+    print::raw(&[byte]);
 }
 
 // The first bytes, so many of them.
 fn text(bytes: &[u8], length: u64) {
-    let mut i = 0;
-    while i < bytes.len() {
-        if i as u64 == length {
-            return;
-        }
-        shown(bytes[i]);
-        i += 1;
+    for &byte in bytes.iter().take(length as usize) {
+        shown(byte);
     }
 }
 
@@ -49,7 +33,7 @@ fn answered(
     print::raw(name);
     print::count(number as u64);
     print::count(length);
-    print::count(sevens(out));
+    print::count(longest::places_with(out, &7));
     length
 }
 

@@ -12,7 +12,7 @@ use crate::plan::{Axis, Plan};
 use crate::shares::Pair;
 use crate::sums::{Sums, pair_sum};
 use rules::{Codes, Colour, Kind, Shares};
-use whole::{Whole, lesser};
+use whole::Whole;
 
 // The code nearest to M·S / (D·10,000,000), with the M of corrected codes. Whatever S is, the nearest code is that of S moved into 0 to D·10,000,000; p times
 // that, over the unit, is as much, and fits 64 bits.
@@ -20,9 +20,8 @@ fn code_of(p: u64, axis: Axis, sum: Whole) -> u16
     requires { (m : ℕ) × Codable p axis m }
     ensures { (m : ℕ) → Codable p axis m → result ≡ code (pos m *ℤ sum.0) axis.full m }
 {
-    let s = lesser(axis.full, sum.above());
-    let divisor = axis.divisor;
-    divisor.quotient(2 * (p * s) + axis.unit) as u16
+    let s = axis.full.min(sum.above());
+    axis.divisor.quotient(2 * (p * s) + axis.unit) as u16
 }
 
 // ---- 1D
@@ -43,23 +42,17 @@ pub fn line_codes(plan: Plan, table: &[i64], shares: Shares) -> Codes
     ensures { (m : ℕ) → Coded plan m → (c : Colour) → code_in result c ≡ code_by m (axis_in plan c).den table.now c (used Kind.OneD c shares) }
 {
     let p = plan.times;
-    let first = shares.first;
-    let second = shares.second;
-    let third = shares.third;
-    let fourth = shares.fourth;
-    let fifth = shares.fifth;
-    let sixth = shares.sixth;
     let red = Pair {
-        low: first,
-        high: second,
+        low: shares.first,
+        high: shares.second,
     };
     let green = Pair {
-        low: third,
-        high: fourth,
+        low: shares.third,
+        high: shares.fourth,
     };
     let blue = Pair {
-        low: fifth,
-        high: sixth,
+        low: shares.fifth,
+        high: shares.sixth,
     };
     Codes {
         red: pair_code(p, plan.red, table, Colour::Red, red),

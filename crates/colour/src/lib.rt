@@ -32,8 +32,7 @@ pub fn shares_of(plan: Plan, pixel: Codes) -> Shares
     requires { Made plan }
     ensures { (table : List ℤ) (p : Planned plan table) → result ≡ shown p.d (raw_m p.depths) pixel p.d.kind }
 {
-    let kind = plan.kind;
-    match kind {
+    match plan.kind {
         Kind::OneD => line(plan, pixel),
         Kind::ThreeD => path_by(steps_of(plan, pixel)),
     }
@@ -45,8 +44,7 @@ pub fn codes_of(plan: Plan, table: &[i64], shares: Shares) -> Codes
     requires weighable { (c : Colour) → Weighable (rows_in plan) (axis_in plan c).den (used plan.kind c shares) }
     ensures { (p : Planned plan table.now) → result ≡ codes_by p.d table.now p.depths shares }
 {
-    let kind = plan.kind;
-    match kind {
+    match plan.kind {
         Kind::OneD => line_codes(plan, table, shares),
         Kind::ThreeD => codes_by(plan.times, plan.red, cube_sums(table, shares)),
     }
@@ -58,8 +56,7 @@ pub fn correct(plan: Plan, table: &[i64], pixel: Codes) -> Codes
     requires { Planned plan table.now }
     ensures { (p : Planned plan table.now) → result ≡ correct p.d table.now p.depths pixel }
 {
-    let kind = plan.kind;
-    match kind {
+    match plan.kind {
         Kind::OneD => line_codes(plan, table, line(plan, pixel)),
         Kind::ThreeD => {
             let sums = cube_sums(table, path_by(steps_of(plan, pixel)));

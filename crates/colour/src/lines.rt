@@ -19,6 +19,7 @@ pub struct Line {
     pub times: u64,
 }
 
+// Stays: `plan.axes[colour_place(c)]`, of an array of three, would say no more, ask for a bound, and take the three names from the fields.
 fn axis_in(plan: Plan, c: Colour) -> Axis
     ensures { result ≡ axis_in plan c }
 {
@@ -45,8 +46,6 @@ pub fn line_code(line: Line, table: &[i64], code: u16) -> u16
     requires { Lined line table.now }
     ensures { (l : Lined line table.now) → result ≡ line_code l.planned.d table.now l.planned.depths line.colour code }
 {
-    let axis = line.axis;
-    let pair = pair_of(axis, line.cells, code);
-    let c = line.colour;
-    pair_code(line.times, axis, table, c, pair)
+    let pair = pair_of(line.axis, line.cells, code);
+    pair_code(line.times, line.axis, table, line.colour, pair)
 }

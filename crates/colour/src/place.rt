@@ -5,7 +5,7 @@ ghost use Rattle.colour.specs.Limits.{each_limit, low_limit};
 ghost use Rattle.colour.specs.Places.{AxisFits, CellsFit, place_of};
 
 use crate::plan::Axis;
-use whole::{Whole, lesser};
+use whole::Whole;
 
 // The index i and the fraction f of one colour's code.
 #[derive(Clone, Copy)]
@@ -21,8 +21,7 @@ fn above_lower(each: u64, low: Whole, code: u16) -> u64
     ensures { result ≡ up (pos (each * code) -ℤ low.0) }
 {
     let parts = each * code as u64;
-    let a = Whole(parts as i64 - low.0);
-    a.above()
+    Whole(parts as i64 - low.0).above()
 }
 
 // p = a·(N−1), i the smaller of p div D and N−2, f = p − i·D.
@@ -33,9 +32,9 @@ pub fn place_of(axis: Axis, cells: usize, code: u16) -> Place
 {
     let den = axis.den;
     let above = above_lower(axis.each, axis.low, code);
-    let a = lesser(den, above);
+    let a = den.min(above);
     let p = a * cells as u64;
-    let i = lesser(p / den, cells as u64 - 1);
+    let i = (p / den).min(cells as u64 - 1);
     Place {
         index: i as usize,
         fraction: p - i * den,

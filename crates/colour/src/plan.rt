@@ -13,6 +13,8 @@ use rules::{Colour, Depths, Description, Domain, Kind, TenMillionths, Thousandth
 use whole::{Divisor, Whole};
 
 // One colour's axis.
+// Stays: no invariant in the type, since the definitions `axis_of` and `plan_of` (specs/Plans.antt) give an axis and a plan of any domain, also of one that
+// could not have been read, and have to keep their meaning.
 #[derive(Clone, Copy)]
 pub struct Axis {
     // One unit of the colour's domain is so many parts of its span: 1000 where the span is in thousandths.
@@ -98,15 +100,13 @@ pub fn plan_of(d: Description, depths: Depths) -> Plan
     requires in_terms { InTerms (ratio_of depths) depths }
     ensures { result ≡ plan_of d depths }
 {
-    let kind = d.kind;
     let n = d.n;
     let square = n * n;
-    let raw = depths.raw;
-    let m = raw.greatest();
+    let m = depths.raw.greatest();
     let ratio = ratio_of(depths);
     let q = ratio.bottom;
     Plan {
-        kind,
+        kind: d.kind,
         cells: n - 1,
         red: colour_axis(d, Colour::Red, m, q, 1),
         green: colour_axis(d, Colour::Green, m, q, n),

@@ -16,10 +16,8 @@ pub fn ratio_of(depths: Depths) -> Ratio
     requires { InTerms (ratio_of depths) depths }
     ensures { result ≡ ratio_of depths }
 {
-    let corrected = depths.corrected;
-    let raw = depths.raw;
-    let above = corrected.greatest() as u64;
-    let below = raw.greatest() as u64;
+    let above = depths.corrected.greatest() as u64;
+    let below = depths.raw.greatest() as u64;
     let common = common_divisor(above, below);
     Ratio {
         top: above / common,

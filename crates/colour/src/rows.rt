@@ -13,6 +13,8 @@ use rules::{Colour, Description, TenMillionths};
 use whole::Whole;
 
 // D: what the weights of a colour add up to.
+// Stays: `Readable d` in the contracts here, of the span and of the plan. A description is the caller's own value, made field by field; a type that
+// carries the fact, `den_of(Readable(d), m, c)`, would be made at each call by the same proof.
 pub fn den_of(d: Description, m: u16, c: Colour) -> u64
     requires { Readable d }
     ensures { result ≡ den_of d m c }

@@ -55,19 +55,13 @@ pub fn line(plan: Plan, pixel: Codes) -> Shares
     let red = pair_of(plan.red, cells, pixel.red);
     let green = pair_of(plan.green, cells, pixel.green);
     let blue = pair_of(plan.blue, cells, pixel.blue);
-    let first = red.low;
-    let second = red.high;
-    let third = green.low;
-    let fourth = green.high;
-    let fifth = blue.low;
-    let sixth = blue.high;
     Shares {
-        first,
-        second,
-        third,
-        fourth,
-        fifth,
-        sixth,
+        first: red.low,
+        second: red.high,
+        third: green.low,
+        fourth: green.high,
+        fifth: blue.low,
+        sixth: blue.high,
     }
 }
 
@@ -87,13 +81,10 @@ fn step_of(axis: Axis, cells: usize, code: u16) -> Step
     ensures { result ≡ step_of axis cells code }
 {
     let at = place_of(axis, cells, code);
-    let index = at.index;
-    let fraction = at.fraction;
-    let stride = axis.stride;
     Step {
-        index,
-        fraction,
-        stride,
+        index: at.index,
+        fraction: at.fraction,
+        stride: axis.stride,
     }
 }
 
@@ -172,11 +163,9 @@ pub fn steps_of(plan: Plan, pixel: Codes) -> Steps
     ensures { result ≡ steps_of plan pixel }
 {
     let cells = plan.cells;
-    let axis = plan.red;
-    let den = axis.den;
     Steps {
-        den,
-        red: step_of(axis, cells, pixel.red),
+        den: plan.red.den,
+        red: step_of(plan.red, cells, pixel.red),
         green: step_of(plan.green, cells, pixel.green),
         blue: step_of(plan.blue, cells, pixel.blue),
     }
@@ -190,9 +179,6 @@ pub fn path_by(steps: Steps) -> Shares
     let red = steps.red;
     let green = steps.green;
     let blue = steps.blue;
-    let ir = red.index;
-    let ig = green.index;
-    let ib = blue.index;
-    let start = ir + green.stride * ig + blue.stride * ib;
+    let start = red.index + green.stride * green.index + blue.stride * blue.index;
     path_along(start, steps.den, red, green, blue)
 }

@@ -6,16 +6,14 @@ ghost use Rattle.colour.specs.Plans.{Readable};
 use judge::one_domain;
 use rules::{Colour, Description, Domain, Kind, Thousandths};
 
+// Stays: the three domains are named fields of rules' Description, so `match` is the way from a colour to one of them.
 pub fn domain_of(d: Description, c: Colour) -> Domain
     ensures { result ≡ domain d c }
 {
-    let red = d.red;
-    let green = d.green;
-    let blue = d.blue;
     match c {
-        Colour::Red => red,
-        Colour::Green => green,
-        Colour::Blue => blue,
+        Colour::Red => d.red,
+        Colour::Green => d.green,
+        Colour::Blue => d.blue,
     }
 }
 
@@ -24,11 +22,7 @@ pub fn width_of(dom: Domain) -> u64
     requires { DomainFits dom }
     ensures { result ≡ width dom }
 {
-    let lower = dom.lower;
-    let upper = dom.upper;
-    let lo = lower.0;
-    let hi = upper.0;
-    (hi - lo) as u64
+    (dom.upper.0 - dom.lower.0) as u64
 }
 
 // 3D has one: w where the three colours have one domain, and else the widths in whole units times one another.
@@ -50,8 +44,7 @@ pub fn span_of(d: Description, c: Colour) -> u64
     requires { Readable d }
     ensures { result ≡ span d c }
 {
-    let kind = d.kind;
-    match kind {
+    match d.kind {
         Kind::OneD => width_of(domain_of(d, c)),
         Kind::ThreeD => common_span(d),
     }

@@ -19,6 +19,7 @@ pub struct Sums {
 
 // ---- one term more
 
+// Stays: `c as usize` would say it by the order alone in which rules declares the colours.
 pub fn colour_place(c: Colour) -> usize
     ensures { result ≡ colour_place c }
 {
@@ -34,8 +35,7 @@ pub fn sample_of(part: &[i64], c: Colour) -> TenMillionths
     requires { RowAt part.now 0 }
     ensures { result.0 ≡ sample_at part.now 0 c }
 {
-    let at = colour_place(c);
-    TenMillionths(part[at])
+    TenMillionths(part[colour_place(c)])
 }
 
 // The sum with one term more in front.
@@ -44,8 +44,7 @@ pub fn with_term(sum: Whole, weight: Whole, sample: TenMillionths) -> Whole
     requires sample_bound { nat_abs sample.0 ≤ sample_limit }
     ensures { Added sample.0 weight.0 sum.0 result.0 }
 {
-    let value = Whole(sample.0);
-    weight.times(value).plus(sum)
+    weight.times(Whole(sample.0)).plus(sum)
 }
 
 // The number of one colour, weighed.
@@ -63,13 +62,10 @@ fn with_row(sums: Sums, weight: Whole, part: &[i64]) -> Sums
     requires row_at { RowAt part.now 0 }
     ensures { (c : Colour) → Added (sample_at part.now 0 c) weight.0 (sum_in sums c) (sum_in result c) }
 {
-    let red = sums.red;
-    let green = sums.green;
-    let blue = sums.blue;
     Sums {
-        red: with_number(red, weight, part, Colour::Red),
-        green: with_number(green, weight, part, Colour::Green),
-        blue: with_number(blue, weight, part, Colour::Blue),
+        red: with_number(sums.red, weight, part, Colour::Red),
+        green: with_number(sums.green, weight, part, Colour::Green),
+        blue: with_number(sums.blue, weight, part, Colour::Blue),
     }
 }
 
@@ -80,14 +76,7 @@ pub fn row_part(table: &[i64], row: usize) -> &[i64]
     requires { RowAt table.now (3 * row) }
     ensures { Starts table.now row result.now }
 {
-    let at = 3 * row;
-    &table[at..]
-}
-
-fn weight_of(share: Share) -> Whole
-    ensures { result.0 ≡ share.weight }
-{
-    Whole(share.weight)
+    &table[3 * row..]
 }
 
 // 1D: only the number that is wanted.
@@ -96,7 +85,7 @@ fn add_number(table: &[i64], share: Share, c: Colour, sum: Whole) -> Whole
     requires row_at { RowAt table.now (3 * share.row) }
     ensures { Added (sample_at table.now share.row c) share.weight sum.0 result.0 }
 {
-    with_number(sum, weight_of(share), row_part(table, share.row), c)
+    with_number(sum, Whole(share.weight), row_part(table, share.row), c)
 }
 
 // 3D: all three.
@@ -105,7 +94,7 @@ fn add_row(table: &[i64], share: Share, sums: Sums) -> Sums
     requires row_at { RowAt table.now (3 * share.row) }
     ensures { (c : Colour) → Added (sample_at table.now share.row c) share.weight (sum_in sums c) (sum_in result c) }
 {
-    with_row(sums, weight_of(share), row_part(table, share.row))
+    with_row(sums, Whole(share.weight), row_part(table, share.row))
 }
 
 // ---- S
@@ -115,9 +104,12 @@ pub fn pair_sum(table: &[i64], pair: Pair, c: Colour) -> Whole
     requires { SharesFit table.now (of_pair pair) }
     ensures { Totalled table.now c (of_pair pair) result.0 }
 {
-    let low = pair.low;
-    let high = pair.high;
-    add_number(table, low, c, add_number(table, high, c, Whole(0)))
+    add_number(
+        table,
+        pair.low,
+        c,
+        add_number(table, pair.high, c, Whole(0)),
+    )
 }
 
 // 3D: the four rows of the path for all colours.

@@ -1,9 +1,9 @@
 // How much memory a call takes, by what its arguments name. None of it is proved to be enough, and none has to be: with too little a file is refused.
 use crate::verbs::Verb;
 use crate::{help_wanted, verb_named};
-use desk::{Extent, Host, argument, argument_count, extent_of, hold};
+use desk::{Host, argument, argument_count, hold};
 use judge::{count_rows, in_range};
-use pointing::{SizeFound, size_in};
+use pointing::size_in;
 use rules::Kind;
 use std::alloc::AllocError;
 
@@ -52,7 +52,7 @@ fn file_room(length: usize) -> usize {
 // How many rows the size line of a file asks for.
 fn rows_asked(file: &[u8]) -> usize {
     match size_in(file) {
-        SizeFound::Given(size) => {
+        Some(size) => {
             let kind = size.kind;
             if in_range(kind, size.n) {
                 count_rows(kind, size.n)
@@ -60,7 +60,7 @@ fn rows_asked(file: &[u8]) -> usize {
                 0
             }
         }
-        SizeFound::NotGiven => 0,
+        None => 0,
     }
 }
 
@@ -97,14 +97,9 @@ fn table_room(host: &mut Host) -> Room {
 fn named_room(host: &Host, place: usize) -> usize {
     let mut path = io::buffer();
     let n = argument(host, place, &mut path);
-    match extent_of(host, &path[..n]) {
-        Extent::Bytes(length) => file_room(if length < MOST_FILE as u64 {
-            length as usize
-        } else {
-            MOST_FILE
-        }),
-        Extent::Nothing => 1,
-        Extent::Unknown => MOST_FILE,
+    match host.extent(&path[..n]) {
+        Some(length) => file_room(length.min(MOST_FILE as u64) as usize),
+        None => MOST_FILE,
     }
 }
 

@@ -4,3 +4,5 @@
 pub mod ThreeWords
 -- N, kept at one past its greatest
 pub mod Sizes
+-- an item made of a value found
+pub mod Mapped

@@ -4,6 +4,7 @@ use mathlib.Core.Path.{◌≡◌, refl, ap₂, subst}
 use mathlib.Core.List.{[], ◌∷◌, ◌++◌}
 use native.Mathlib.Omega.{arith}
 use lib.ListN.{length, length-append}
+use Rattle.std.specs.Prelude.{Option, Some, None, Result, Ok, Err}
 use Rattle.rules.specs.Decimals.{decimal}
 use Rattle.rules.specs.Units.{depths_of, together}
 use Rattle.rules.specs.declared.DepthsFound.TheVariants.{Both}
@@ -13,35 +14,31 @@ use Rattle.ppm.specs.Header.{SizedFrame, most_size, most_maxval}
 use Rattle.ppm.specs.Scales.{scale_of, ScaleFits}
 use Rattle.ppm.specs.Written.{header_text}
 use Rattle.ppm.specs.declared.depth.Scale.{Scale}
-use Rattle.ppm.specs.declared.depth.ScaleFound.{ScaleFound}
-use Rattle.ppm.specs.declared.depth.ScaleFound.TheVariants.{Known, Unknown}
 use Rattle.ppm.specs.declared.header.Frame.{Frame}
 use Rattle.ppm.proofs.Scaling.{scale-fits}
 use Rattle.desk.specs.declared.arguments.Last.{Last}
 use Rattle.correct.specs.Headers.{longest_header}
 use Rattle.correct.specs.Jobs.{Agrees, bits_in, depths_in, job_of, maxval_wanted, with_corrected, with_picture, with_raw}
 use Rattle.correct.specs.declared.jobs.Job.{Job}
-use Rattle.correct.specs.declared.jobs.JobFound.{JobFound}
-use Rattle.correct.specs.declared.jobs.JobFound.TheVariants.{Ready, PictureUnknown, OutputUnknown}
+use Rattle.correct.specs.declared.jobs.NoDepth.{NoDepth}
 
 -- ---- a job that is found agrees
 
-abbrev Agreed : JobFound → Type 0
-Agreed (Ready job) = Agrees job
-Agreed PictureUnknown = Unit {0}
-Agreed OutputUnknown = Unit {0}
+abbrev Agreed : Result Job NoDepth → Type 0
+Agreed (Ok job) = Agrees job
+Agreed (Err none) = Unit {0}
 
 module _ (frame : Frame) (sized : SizedFrame frame) (maxval : ℕ) where
-  output-agrees : (raw : Scale) → scale_of frame.maxval ≡ Known raw → (x : ScaleFound) → scale_of maxval ≡ x → Agreed (with_corrected frame maxval raw x)
-  output-agrees raw g (Known corrected) e = record { raw = g; corrected = e; sized = sized }
-  output-agrees raw g Unknown e = tt
+  output-agrees : (raw : Scale) → scale_of frame.maxval ≡ Some raw → (x : Option Scale) → scale_of maxval ≡ x → Agreed (with_corrected frame maxval raw x)
+  output-agrees raw g (Some corrected) e = record { raw = g; corrected = e; sized = sized }
+  output-agrees raw g None e = tt
 
-  picture-agrees : (x : ScaleFound) → scale_of frame.maxval ≡ x → Agreed (with_picture frame maxval x)
+  picture-agrees : (x : Option Scale) → scale_of frame.maxval ≡ x → Agreed (with_picture frame maxval x)
   unfolding with_raw
-  picture-agrees (Known raw) e = output-agrees raw e (scale_of maxval) refl
-  picture-agrees Unknown e = tt
+  picture-agrees (Some raw) e = output-agrees raw e (scale_of maxval) refl
+  picture-agrees None e = tt
 
-pub job-agrees : (frame : Frame) (wanted : Last) {job : Job} → SizedFrame frame → job_of frame wanted ≡ Ready job → Agrees job
+pub job-agrees : (frame : Frame) (wanted : Last) {job : Job} → SizedFrame frame → job_of frame wanted ≡ Ok job → Agrees job
 unfolding job_of
 job-agrees frame wanted sized e = subst Agreed e (picture-agrees frame sized (maxval_wanted wanted frame.maxval) (scale_of frame.maxval) refl)
 

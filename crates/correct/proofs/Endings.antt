@@ -5,12 +5,13 @@ use mathlib.Core.Bool.{Bool, true, false, cond, ◌&&◌}
 use mathlib.Core.Logic.{inl, inr}
 use native.Mathlib.Omega.{arith}
 use lib.Dec.{ltb}
+use Rattle.std.specs.Prelude.{Result, Ok, Err, ⊤}
 use Rattle.desk.specs.Outcomes.{EndsAs}
 use Rattle.desk.specs.declared.outcomes.Outcome.{Outcome}
 use Rattle.desk.specs.declared.outcomes.Outcome.TheVariants.{Done, Refused, Failed}
 use Rattle.correct.specs.Outcomes.{ended, is_left, outcome_by, outcome_of, refusal}
 use Rattle.correct.specs.declared.outcomes.Fate.{Fate}
-use Rattle.correct.specs.declared.outcomes.Fate.TheVariants.{Whole, Missing, Unfit, Stopped, Broken}
+use Rattle.correct.specs.declared.outcomes.Fate.TheVariants.{Missing, Unfit, Stopped, Broken}
 use Rattle.correct.specs.declared.outcomes.Story.{Story}
 
 pub failed-as : (o : Outcome) {r : Outcome} → EndsAs Failed r → EndsAs o r
@@ -39,17 +40,17 @@ nothing-stays false = refl
 
 module _ (stays : Bool) (story : Story) where
   -- where the input ends before a picture, none is written, whole or in part
-  none_left : story.last ≡ Missing → ended story.whole ≡ Refused → is_left stays story ≡ false
+  none_left : story.last ≡ Err Missing → ended story.whole ≡ Refused → is_left stays story ≡ false
   unfolding ended is_left
   none_left g e = rw (g, not_some (ltb 0 story.whole) e) (nothing-stays stays)
 
-  clean-by : (last : Fate) → story.last ≡ last → outcome_by stays story last ≡ Refused → is_left stays story ≡ false
+  clean-by : (last : Result ⊤ Fate) → story.last ≡ last → outcome_by stays story last ≡ Refused → is_left stays story ≡ false
   unfolding refusal
-  clean-by Whole g e = absurd (failed-never e)
-  clean-by Missing g e = none_left g e
-  clean-by Unfit g e = not_left (is_left stays story) e
-  clean-by Stopped g e = not_left (is_left stays story) e
-  clean-by Broken g e = absurd (failed-never e)
+  clean-by (Ok done) g e = absurd (failed-never e)
+  clean-by (Err Missing) g e = none_left g e
+  clean-by (Err Unfit) g e = not_left (is_left stays story) e
+  clean-by (Err Stopped) g e = not_left (is_left stays story) e
+  clean-by (Err Broken) g e = absurd (failed-never e)
 
   pub refused-clean : outcome_of stays story ≡ Refused → is_left stays story ≡ false
   unfolding outcome_of

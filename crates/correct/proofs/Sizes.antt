@@ -6,7 +6,8 @@ use native.Mathlib.Omega.{arith}
 use borrow.Author.Tests.{leb-true}
 use Rattle.rules.proofs.Tests.{and_both}
 use Rattle.ppm.specs.Raster.{byte_count, code_count}
-use Rattle.correct.specs.Pieces.{Buffers, has_room, pixel_bytes, piece_pixels}
+use Rattle.correct.specs.Pieces.{pixel_bytes}
+use Rattle.correct.specs.Sizes.{Buffers, has_room, piece_pixels}
 
 pub pixel-there : (wide : Bool) → 0 < pixel_bytes wide
 pixel-there false = omega arith

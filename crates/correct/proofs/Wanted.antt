@@ -2,9 +2,9 @@
 use Prim.Native.Nat.{ℕ}
 use mathlib.Core.Path.{◌≡◌, refl}
 use Rattle.ppm.specs.Scales.{scale_of}
-use Rattle.ppm.specs.declared.depth.ScaleFound.TheVariants.{Unknown}
+use Rattle.std.specs.Prelude.{None}
 use Rattle.desk.specs.declared.arguments.Last.TheVariants.{TooGreat}
 use Rattle.correct.specs.Jobs.{maxval_wanted}
 
-pub too-great-unknown : (picture : ℕ) → scale_of (maxval_wanted TooGreat picture) ≡ Unknown
+pub too-great-unknown : (picture : ℕ) → scale_of (maxval_wanted TooGreat picture) ≡ None
 too-great-unknown picture = refl

@@ -1,19 +1,17 @@
 -- What a picture needs: its frame, the output's maxval, and what both maxvals say of the codes.
-use Rattle.std.specs.Prelude.{ℕ, ◌≡◌}
+use Rattle.std.specs.Prelude.{ℕ, ◌≡◌, Option, Some, None, Result, Ok, Err}
 use Rattle.rules.specs.Units.{bits_of}
 use Rattle.rules.specs.declared.Bits.{Bits}
 use Rattle.rules.specs.declared.Depths.{Depths}
 use Rattle.ppm.specs.Header.{SizedFrame}
 use Rattle.ppm.specs.Scales.{scale_of}
 use Rattle.ppm.specs.declared.depth.Scale.{Scale}
-use Rattle.ppm.specs.declared.depth.ScaleFound.{ScaleFound}
-use Rattle.ppm.specs.declared.depth.ScaleFound.TheVariants.{Known, Unknown}
 use Rattle.ppm.specs.declared.header.Frame.{Frame}
 use Rattle.desk.specs.declared.arguments.Last.{Last}
 use Rattle.desk.specs.declared.arguments.Last.TheVariants.{Nothing, Number, TooGreat, Unclear}
 use Rattle.correct.specs.declared.jobs.Job.{Job}
-use Rattle.correct.specs.declared.jobs.JobFound.{JobFound}
-use Rattle.correct.specs.declared.jobs.JobFound.TheVariants.{Ready, PictureUnknown, OutputUnknown}
+use Rattle.correct.specs.declared.jobs.NoDepth.{NoDepth}
+use Rattle.correct.specs.declared.jobs.NoDepth.TheVariants.{Picture, Output}
 use Rattle.correct.specs.declared.jobs.Scales.{Scales}
 
 -- the depths of the picture and of the output
@@ -32,23 +30,23 @@ maxval_wanted Unclear picture = picture
 
 -- ---- a picture's job
 
-abbrev pub with_corrected : Frame → ℕ → Scale → ScaleFound → JobFound
-with_corrected frame maxval raw (Known corrected) = Ready (record { frame = frame; maxval = maxval; scales = record { raw = raw; corrected = corrected } })
-with_corrected frame maxval raw Unknown = OutputUnknown
+abbrev pub with_corrected : Frame → ℕ → Scale → Option Scale → Result Job NoDepth
+with_corrected frame maxval raw (Some corrected) = Ok (record { frame = frame; maxval = maxval; scales = record { raw = raw; corrected = corrected } })
+with_corrected frame maxval raw None = Err Output
 
-unfoldable pub with_raw : Frame → ℕ → Scale → JobFound
+unfoldable pub with_raw : Frame → ℕ → Scale → Result Job NoDepth
 with_raw frame maxval raw = with_corrected frame maxval raw (scale_of maxval)
 
-abbrev pub with_picture : Frame → ℕ → ScaleFound → JobFound
-with_picture frame maxval (Known raw) = with_raw frame maxval raw
-with_picture frame maxval Unknown = PictureUnknown
+abbrev pub with_picture : Frame → ℕ → Option Scale → Result Job NoDepth
+with_picture frame maxval (Some raw) = with_raw frame maxval raw
+with_picture frame maxval None = Err Picture
 
 -- the picture's maxval is tried first
-unfoldable pub job_of : Frame → Last → JobFound
+unfoldable pub job_of : Frame → Last → Result Job NoDepth
 job_of frame wanted = with_picture frame (maxval_wanted wanted frame.maxval) (scale_of frame.maxval)
 
 -- the scales are those of the maxvals: of the picture's header, and of the one that is written; and the frame is within its limits
 pub record Agrees (job : Job) : Type 0 where
-  pub raw : scale_of job.frame.maxval ≡ Known job.scales.raw
-  pub corrected : scale_of job.maxval ≡ Known job.scales.corrected
+  pub raw : scale_of job.frame.maxval ≡ Some job.scales.raw
+  pub corrected : scale_of job.maxval ≡ Some job.scales.corrected
   pub sized : SizedFrame job.frame

@@ -1,5 +1,5 @@
 -- A piece of a picture: the pixels that its bytes are, up to the first that has a code above the greatest, corrected.
-use Rattle.std.specs.Prelude.{ℕ, ◌+◌, ◌*◌, ◌/◌, ◌≤◌, ◌<◌, ◌≡◌, Bool, true, false, cond, ◌&&◌, List, ◌⊎◌, leb, ltb, ℤ, length, take}
+use Rattle.std.specs.Prelude.{ℕ, ◌+◌, ◌*◌, ◌/◌, ◌≤◌, ◌<◌, ◌≡◌, Bool, true, false, cond, List, ◌⊎◌, ltb, ℤ, length, take, Option, Some, None, Result, Ok, Err, ⊤}
 use Rattle.rules.specs.Descriptions.{could_be_read}
 use Rattle.rules.specs.Picturing.{corrected}
 use Rattle.rules.specs.Units.{depths_of}
@@ -11,12 +11,11 @@ use Rattle.ppm.specs.Excess.{within, first_above}
 use Rattle.ppm.specs.Header.{most_size}
 use Rattle.ppm.specs.Raster.{bytes_of, byte_count, code_count, codes_of}
 use Rattle.ppm.specs.declared.excess.Excess.{Excess}
-use Rattle.ppm.specs.declared.excess.Excess.TheVariants.{Nothing, Above}
 use Rattle.correct.specs.Jobs.{bits_in, depths_in}
 use Rattle.correct.specs.declared.jobs.Scales.{Scales}
-use Rattle.correct.specs.declared.pieces.Passed.{Passed}
-use Rattle.correct.specs.declared.pieces.Passed.TheVariants.{Whole, Cut, TooGreat, Unread, Unwritten}
 use Rattle.correct.specs.declared.pieces.Piece.{Piece}
+use Rattle.correct.specs.declared.pieces.Stop.{Stop}
+use Rattle.correct.specs.declared.pieces.Stop.TheVariants.{Cut, TooGreat, Unread, Unwritten}
 
 -- the bytes of a pixel
 abbrev pub pixel_bytes : Bool → ℕ
@@ -51,23 +50,6 @@ pub record Corrects (d : Description) (table : List ℤ) (s : Scales) (input : L
 
 -- ---- sizes
 
--- the pixels of a piece
-abbrev pub piece_pixels : ℕ
-piece_pixels = 1_048_576
-
--- and its most bytes
-abbrev pub piece_bytes : ℕ
-piece_bytes = 6_291_456
-
--- lengths that hold a piece as bytes, as raw and as corrected codes
-pub record Buffers (bytes raw corrected : ℕ) : Type 0 where
-  pub of_bytes : piece_bytes ≤ bytes
-  pub of_raw : 3_145_728 ≤ raw
-  pub of_corrected : raw ≤ corrected
-
-unfoldable pub has_room : ℕ → ℕ → ℕ → Bool
-has_room bytes raw corrected = leb piece_bytes bytes && (leb 3_145_728 raw && leb raw corrected)
-
 -- a header's greatest width times its greatest height
 abbrev pub most_pixels : ℕ
 most_pixels = most_size * most_size
@@ -75,15 +57,15 @@ most_pixels = most_size * most_size
 -- ---- how far a piece went
 
 -- a piece of `want` pixels, the first of which has a number in the picture: to the code that is too great, to where the input ends, or to its own end
-unfoldable pub passed_by : Excess → Piece → ℕ → ℕ → Passed
-passed_by (Above colour code) piece first want = TooGreat (first + piece.pixels) colour code
-passed_by Nothing piece first want = cond (ltb piece.pixels want) (Cut (first + piece.pixels)) Whole
+unfoldable pub passed_by : Option Excess → Piece → ℕ → ℕ → Result ⊤ Stop
+passed_by (Some excess) piece first want = Err (TooGreat (first + piece.pixels) excess)
+passed_by None piece first want = cond (ltb piece.pixels want) (Err (Cut (first + piece.pixels))) (Ok tt)
 
-unfoldable pub passed_of : Piece → ℕ → ℕ → Passed
+unfoldable pub passed_of : Piece → ℕ → ℕ → Result ⊤ Stop
 passed_of piece first want = passed_by piece.excess piece first want
 
 -- some input of a piece's length at most was corrected, and r says how far it went
-pub record WentSoFar (d : Description) (table : List ℤ) (s : Scales) (first want : ℕ) (r : Passed) : Type 0 where
+pub record WentSoFar (d : Description) (table : List ℤ) (s : Scales) (first want : ℕ) (r : Result ⊤ Stop) : Type 0 where
   pub input : List ℕ
   pub piece : Piece
   pub bytes : List ℕ
@@ -92,13 +74,16 @@ pub record WentSoFar (d : Description) (table : List ℤ) (s : Scales) (first wa
   pub told : r ≡ passed_of piece first want
 
 -- what becomes of a piece: it cannot be read, or not be written, or it goes so far
-abbrev pub PieceGoes : Description → List ℤ → Scales → ℕ → ℕ → Passed → Type 0
-PieceGoes d table s first want r = (r ≡ Unread first) ⊎ ((r ≡ Unwritten) ⊎ WentSoFar d table s first want r)
+abbrev pub PieceGoes : Description → List ℤ → Scales → ℕ → ℕ → Result ⊤ Stop → Type 0
+PieceGoes d table s first want r = (r ≡ Err (Unread first)) ⊎ ((r ≡ Err Unwritten) ⊎ WentSoFar d table s first want r)
 
 -- a code that is told as too great is above m
-abbrev pub TrulyTold : ℕ → Passed → Type 0
-TrulyTold m Whole = Unit {0}
-TrulyTold m (Cut pixel) = Unit {0}
-TrulyTold m (TooGreat pixel colour code) = m < code
-TrulyTold m (Unread pixel) = Unit {0}
-TrulyTold m Unwritten = Unit {0}
+abbrev pub StopTruly : ℕ → Stop → Type 0
+StopTruly m (Cut pixel) = Unit {0}
+StopTruly m (TooGreat pixel excess) = m < excess.code
+StopTruly m (Unread pixel) = Unit {0}
+StopTruly m Unwritten = Unit {0}
+
+abbrev pub TrulyTold : ℕ → Result ⊤ Stop → Type 0
+TrulyTold m (Ok done) = Unit {0}
+TrulyTold m (Err stop) = StopTruly m stop

@@ -12,24 +12,12 @@ pub struct Call {
     pub wanted: Last,
 }
 
-#[derive(Clone, Copy)]
-pub enum Asked {
-    For(Call),
-    Unclear,
-}
-
 // Whether a word begins with two hyphens.
 #[tactic(auto, unfolding(crate::specs::Calls::begins_as_option))]
 fn begins_as_option(word: &[u8]) -> bool
     ensures { result ≡ begins_as_option word.now }
 {
-    if word.len() < 2 {
-        return false;
-    }
-    if word[0] != b'-' {
-        return false;
-    }
-    word[1] == b'-'
+    matches!(word, [b'-', b'-', ..])
 }
 
 fn is_option_at(host: &Host, place: usize) -> bool {
@@ -49,22 +37,19 @@ fn maxval_at(host: &Host, place: usize) -> Last {
 }
 
 // After the table's name IN and OUT, or neither, and then perhaps the option. With them no name may look like an option.
-pub fn asked_for(host: &Host) -> Asked {
+pub fn asked_for(host: &Host) -> Option<Call> {
     let unnamed = maxval_at(host, 3);
     let Last::Unclear = unnamed else {
-        return Asked::For(Call {
+        return Some(Call {
             named: false,
             wanted: unnamed,
         });
     };
     let wanted = maxval_at(host, 5);
-    if let Last::Unclear = wanted {
-        return Asked::Unclear;
+    if matches!(wanted, Last::Unclear) || !are_names(host) {
+        return None;
     }
-    if !are_names(host) {
-        return Asked::Unclear;
-    }
-    Asked::For(Call {
+    Some(Call {
         named: true,
         wanted,
     })

@@ -1,23 +1,21 @@
 // From the file IN to the file OUT. The output is written beside OUT, under a name of its own, and takes OUT's name when it is whole.
-ghost use Rattle.std.specs.Prelude.{◌≡◌, true, false, ◌+◌, ◌<◌, ◌≤◌, length};
+ghost use Rattle.std.specs.Prelude.{◌≡◌, false, ◌+◌, ◌<◌, ◌≤◌, IfSome, length};
 ghost use Rattle.io.specs.Counts.{IsPrefixLen};
-ghost use Rattle.rules.specs.Descriptions.{could_be_read};
 ghost use Rattle.lettering.specs.Putting.{Room, Puts};
 ghost use Rattle.desk.specs.Outcomes.{EndsAs};
 ghost use Rattle.correct.specs.Outcomes.{outcome_of};
 ghost use Rattle.correct.specs.Parts.{most_name, part_name};
-ghost use Rattle.correct.specs.Pieces.{Buffers};
 
 use crate::ends::Ends;
 use crate::outcomes::{Story, outcome_of};
 use crate::pictures::pass_pictures;
+use crate::space::{Space, Table};
 use crate::words;
 use desk::{
     Host, Input, Last, Outcome, Output, create_output, is_link, is_missing, is_no_file, is_taken,
     open_input, open_update, remove, rename, word_at,
 };
-use lettering::{put, put_byte};
-use rules::Description;
+use lettering::Pen;
 
 // The longest name that the system takes.
 const LAST: usize = 4095;
@@ -29,23 +27,24 @@ const PART_BYTES: usize = 8;
 
 // ---- names
 
-// The name that an argument gives, put at the start of `path`, and how many bytes it has; or 0, once it was said why it is none.
-fn name_at(host: &mut Host, place: usize, what: &[u8], path: &mut [u8]) -> usize
-    ensures counts { IsPrefixLen result path.new }
-    ensures within { result ≤ most_name }
+// The name that an argument gives, put at the start of `path`, and how many bytes it has; or nothing, once it was said why it is none.
+fn name_at(host: &mut Host, place: usize, what: &[u8], path: &mut [u8]) -> Option<usize>
+    ensures counts { IfSome result (λ n. IsPrefixLen n path.new) }
+    ensures within { IfSome result (λ n. n ≤ most_name) }
 {
     let Some(n) = word_at(host, place, &mut *path) else {
         words::say_long(host, what);
-        return 0;
+        return None;
     };
     if n > LAST {
         words::say_long(host, what);
-        return 0;
+        return None;
     }
     if n == 0 {
         words::say_empty_name(host, what);
+        return None;
     }
-    n
+    Some(n)
 }
 
 // ---- OUT, as it is found
@@ -96,18 +95,19 @@ fn put_part_name(part: &mut [u8], path: &[u8], number: u8) -> usize
     requires room { Room part.old 0 (part_name path.now number) }
     ensures { Puts part.old 0 (part_name path.now number) result part.new }
 {
-    let after_path = put(part, 0, path);
-    let after_word = put(part, after_path, b".part-");
-    let after_tens = put_byte(part, after_word, b'0' + number / 10);
-    put_byte(part, after_tens, b'0' + number % 10)
+    let mut pen = Pen { bytes: part, at: 0 };
+    pen.put(path);
+    pen.put(b".part-");
+    pen.put_byte(b'0' + number / 10);
+    pen.put_byte(b'0' + number % 10);
+    pen.at
 }
 
 // Makes the first part whose name is not taken, and answers it, open to write, or nothing.
 fn make_part(host: &mut Host, path: &[u8], part: &mut [u8]) -> Option<Output>
     requires { length path.now + 8 ≤ length part.old }
 {
-    let mut number = 0;
-    while number < PARTS {
+    for number in 0..PARTS {
         let n = put_part_name(&mut *part, path, number);
         let made = create_output(host, &part[..n]);
         if made.is_some() {
@@ -116,7 +116,6 @@ fn make_part(host: &mut Host, path: &[u8], part: &mut [u8]) -> Option<Output>
         if !is_taken(host.failure()) {
             return None;
         }
-        number += 1;
     }
     None
 }
@@ -164,10 +163,7 @@ fn settle(host: &mut Host, story: Story, to: Output, part: &[u8], path: &[u8]) -
 // The file IN, open; or nothing, once it was said why.
 fn open_in(host: &mut Host) -> Option<Input> {
     let mut path = io::buffer();
-    let n = name_at(host, 3, b"IN", &mut path);
-    if n == 0 {
-        return None;
-    }
+    let n = name_at(host, 3, b"IN", &mut path)?;
     let from = open_input(host, &path[..n]);
     if from.is_none() {
         words::say_failure(host, b"cannot open IN");
@@ -180,16 +176,11 @@ fn correct_to(
     host: &mut Host,
     from: Input,
     path: &[u8],
-    d: Description,
-    table: &[i64],
+    table: Table<'_>,
     wanted: Last,
-    bytes: &mut [u8],
-    raw: &mut [u16],
-    corrected: &mut [u16],
+    space: &mut Space<'_>,
 ) -> Outcome
     requires path_len_bound { length path.now ≤ most_name }
-    requires table_value { could_be_read d table.now ≡ true }
-    requires buffers { Buffers (length bytes.old) (length raw.old) (length corrected.old) }
 {
     let mut part = [0u8; 4104];
     let Some(to) = make_part(host, path, &mut part) else {
@@ -201,43 +192,26 @@ fn correct_to(
         to,
         named: true,
     };
-    let story = pass_pictures(host, &mut ends, d, table, wanted, bytes, raw, corrected);
+    let story = pass_pictures(host, &mut ends, table, wanted, space);
     settle(host, story, ends.to, &part[..path.len() + PART_BYTES], path)
 }
 
 // The pictures in the file IN, to the file OUT.
 pub fn correct_files(
     host: &mut Host,
-    d: Description,
-    table: &[i64],
+    table: Table<'_>,
     wanted: Last,
-    bytes: &mut [u8],
-    raw: &mut [u16],
-    corrected: &mut [u16],
-) -> Outcome
-    requires table_value { could_be_read d table.now ≡ true }
-    requires buffers { Buffers (length bytes.old) (length raw.old) (length corrected.old) }
-{
+    space: &mut Space<'_>,
+) -> Outcome {
     let mut path = io::buffer();
-    let n = name_at(host, 4, b"OUT", &mut path);
-    if n == 0 {
+    let Some(n) = name_at(host, 4, b"OUT", &mut path) else {
         return Outcome::Failed;
-    }
+    };
     if !is_fit(host, &path[..n]) {
         return Outcome::Failed;
     }
     let Some(from) = open_in(host) else {
         return Outcome::Failed;
     };
-    correct_to(
-        host,
-        from,
-        &path[..n],
-        d,
-        table,
-        wanted,
-        bytes,
-        raw,
-        corrected,
-    )
+    correct_to(host, from, &path[..n], table, wanted, space)
 }

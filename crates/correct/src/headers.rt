@@ -9,66 +9,55 @@ ghost use Rattle.correct.specs.Pieces.{most_pixels};
 
 use crate::jobs::Job;
 use desk::{Filled, Input, Output, fill};
-use ppm::{Fault, Frame, Header, header_of, put_header};
+use ppm::{Fault, Frame, header_of, put_header};
 
-// What came of reading a header: it was read, as far as it goes; it does not end within the space that there is for it; there is not one byte of it; or
-// the system could not read.
-#[derive(Clone, Copy)]
-pub enum Heading {
-    Read(Header),
+// Why a picture has no header: what was read of it is wrong; it does not end within the space that there is for it; there is not one byte of it; or the
+// system could not read.
+#[derive(Clone, Copy, Debug, PartialEq, Eq)]
+pub enum NoHeader {
+    Wrong(Fault),
     TooLong,
     Empty,
     Unread,
 }
 
 // Whether more bytes cannot change what a header says.
-fn is_settled(header: Header) -> bool
+fn is_settled(header: Result<Frame, Fault>) -> bool
     ensures { result ≡ settled header }
 {
-    match header {
-        Header::Stands(_) => true,
-        Header::Wrong(fault) => match fault {
-            Fault::EndsEarly => false,
-            Fault::NotP6(_) => true,
-            Fault::Malformed(_) => true,
-            Fault::Beyond(_) => true,
-        },
-    }
+    !matches!(header, Err(Fault::EndsEarly))
 }
 
 // The input ends after so many bytes of a header.
-fn ended_after(n: usize) -> Heading
-    ensures { SizedHeading result }
-{
+fn ended_after(n: usize) -> NoHeader {
     if n == 0 {
-        return Heading::Empty;
+        NoHeader::Empty
+    } else {
+        NoHeader::Wrong(Fault::EndsEarly)
     }
-    Heading::Read(Header::Wrong(Fault::EndsEarly))
 }
 
 // Byte by byte, so that no pixel is read with the header.
-fn read_into(from: &mut Input, bytes: &mut [u8]) -> Heading
+fn read_into(from: &mut Input, bytes: &mut [u8]) -> Result<Frame, NoHeader>
     ensures { SizedHeading result }
 {
-    let mut n = 0;
-    while n < bytes.len() {
+    for n in 0..bytes.len() {
         let Filled::Bytes(more) = fill(&mut *from, &mut bytes[n..n + 1]) else {
-            return Heading::Unread;
+            return Err(NoHeader::Unread);
         };
         if more == 0 {
-            return ended_after(n);
+            return Err(ended_after(n));
         }
-        n += 1;
-        let header = header_of(&bytes[..n]);
+        let header = header_of(&bytes[..n + 1]);
         if is_settled(header) {
-            return Heading::Read(header);
+            return header.map_err(|fault| NoHeader::Wrong(fault));
         }
     }
-    Heading::TooLong
+    Err(NoHeader::TooLong)
 }
 
 // The header of the next picture; it ends within 4,096 bytes.
-pub fn read(from: &mut Input) -> Heading
+pub fn read(from: &mut Input) -> Result<Frame, NoHeader>
     ensures { SizedHeading result }
 {
     let mut bytes = io::buffer();

@@ -10,81 +10,62 @@ mod jobs;
 mod outcomes;
 mod pictures;
 mod pieces;
+mod space;
 mod words;
 
-ghost use Rattle.std.specs.Prelude.{◌≡◌, true, length};
-ghost use Rattle.rules.specs.Descriptions.{could_be_read};
-ghost use Rattle.correct.specs.Pieces.{Buffers};
-
-use call::{Asked, Call, asked_for};
+use call::{Call, asked_for};
 use desk::{Host, Input, Last, Loaded, Outcome, Output, load_argument, write};
 use ends::Ends;
 use files::correct_files;
 use outcomes::outcome_on_output;
 use pictures::pass_pictures;
 use pieces::has_room;
-use rules::Description;
+use space::{Space, Table};
 pub use words::help;
 
 // The pictures on standard input.
 fn correct_input(
     host: &mut Host,
-    d: Description,
-    table: &[i64],
+    table: Table<'_>,
     wanted: Last,
-    bytes: &mut [u8],
-    raw: &mut [u16],
-    corrected: &mut [u16],
-) -> Outcome
-    requires table_value { could_be_read d table.now ≡ true }
-    requires buffers { Buffers (length bytes.old) (length raw.old) (length corrected.old) }
-{
+    space: &mut Space<'_>,
+) -> Outcome {
     let mut ends = Ends {
         from: Input::standard(host),
         to: Output::standard(host),
         named: false,
     };
-    let story = pass_pictures(host, &mut ends, d, table, wanted, bytes, raw, corrected);
-    outcome_on_output(story)
+    outcome_on_output(pass_pictures(host, &mut ends, table, wanted, space))
 }
 
 // By a table that was read: the pictures where the call says that they are.
-fn correct_with(
-    host: &mut Host,
-    d: Description,
-    table: &[i64],
-    call: Call,
-    bytes: &mut [u8],
-    raw: &mut [u16],
-    corrected: &mut [u16],
-) -> Outcome
-    requires table_value { could_be_read d table.now ≡ true }
-    requires buffers { Buffers (length bytes.old) (length raw.old) (length corrected.old) }
-{
-    let wanted = call.wanted;
+fn correct_with(host: &mut Host, table: Table<'_>, call: Call, space: &mut Space<'_>) -> Outcome {
     if call.named {
-        return correct_files(host, d, table, wanted, bytes, raw, corrected);
+        correct_files(host, table, call.wanted, space)
+    } else {
+        correct_input(host, table, call.wanted, space)
     }
-    correct_input(host, d, table, wanted, bytes, raw, corrected)
 }
 
 // The table that the argument after the verb names, and then the pictures.
 fn correct_by(
     host: &mut Host,
     file: &mut [u8],
-    table: &mut [i64],
+    places: &mut [i64],
     call: Call,
-    bytes: &mut [u8],
-    raw: &mut [u16],
-    corrected: &mut [u16],
-) -> Outcome
-    requires { Buffers (length bytes.old) (length raw.old) (length corrected.old) }
-{
-    match load_argument(host, b"erythmoda correct", 2, file, &mut *table) {
+    space: &mut Space<'_>,
+) -> Outcome {
+    match load_argument(host, b"erythmoda correct", 2, file, &mut *places) {
         Loaded::Table {
             description,
             bytes: _,
-        } => correct_with(host, description, table, call, bytes, raw, corrected),
+        } => {
+            let table = Table {
+                description,
+                places,
+            };
+            correct_with(host, table, call, space)
+        }
         Loaded::Refused => Outcome::Refused,
         Loaded::Unread => Outcome::Failed,
     }
@@ -92,10 +73,7 @@ fn correct_by(
 
 // Whether the arguments ask for pictures to be corrected, for which a table is then loaded.
 pub fn is_understood(host: &Host) -> bool {
-    match asked_for(host) {
-        Asked::For(_) => true,
-        Asked::Unclear => false,
-    }
+    asked_for(host).is_some()
 }
 
 // What the arguments ask for, in lent space for the file, the table, and a piece of a picture as bytes, raw and corrected codes.
@@ -107,7 +85,7 @@ pub fn correct(
     raw: &mut [u16],
     corrected: &mut [u16],
 ) -> Outcome {
-    let Asked::For(call) = asked_for(host) else {
+    let Some(call) = asked_for(host) else {
         help(&mut host.err);
         return Outcome::Failed;
     };
@@ -118,5 +96,10 @@ pub fn correct(
         );
         return Outcome::Failed;
     }
-    correct_by(host, file, table, call, bytes, raw, corrected)
+    let mut space = Space {
+        bytes,
+        raw,
+        corrected,
+    };
+    correct_by(host, file, table, call, &mut space)
 }

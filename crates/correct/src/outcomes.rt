@@ -1,43 +1,49 @@
 // How the work ends: by what became of the pictures, and whether something of them is left in the output.
 ghost use Rattle.std.specs.Prelude.{◌≡◌, true};
-ghost use Rattle.correct.specs.Outcomes.{ended, fate_of, is_left, outcome_of, refusal};
+ghost use Rattle.correct.specs.Outcomes.{ended, fate_of, fate_without, is_left, outcome_of, refusal};
 
-use crate::pieces::Passed;
+use crate::headers::NoHeader;
+use crate::pieces::Stop;
 use desk::Outcome;
 
-// What became of a picture: all of it is written; there is none, since the input ends where its header would begin; its header or a maxval is wrong, and
-// nothing of it is written; it stops at a pixel, and what stands before that is written; or the system could not read or write.
-#[derive(Clone, Copy)]
+// What became of a picture that is not written whole: there is none, since the input ends where its header would begin; its header or a maxval is wrong,
+// and nothing of it is written; it stops at a pixel, and what stands before that is written; or the system could not read or write.
+#[derive(Clone, Copy, Debug, PartialEq, Eq)]
 pub enum Fate {
-    Whole,
     Missing,
     Unfit,
     Stopped,
     Broken,
 }
 
-// How many pictures were written whole, and what became of the next.
+// How many pictures were written whole, and what became of the last.
 #[derive(Clone, Copy)]
 pub struct Story {
     pub whole: u64,
-    pub last: Fate,
+    pub last: Result<(), Fate>,
 }
 
 // A picture whose header is written.
 #[tactic(auto, unfolding(crate::specs::Outcomes::fate_of))]
-pub fn fate_of(passed: Passed) -> Fate
+pub fn fate_of(passed: Result<(), Stop>) -> Result<(), Fate>
     ensures { result ≡ fate_of passed }
 {
     match passed {
-        Passed::Whole => Fate::Whole,
-        Passed::Cut(_) => Fate::Stopped,
-        Passed::TooGreat {
-            pixel: _,
-            colour: _,
-            code: _,
-        } => Fate::Stopped,
-        Passed::Unread(_) => Fate::Broken,
-        Passed::Unwritten => Fate::Broken,
+        Ok(()) => Ok(()),
+        Err(Stop::Cut(_)) => Err(Fate::Stopped),
+        Err(Stop::TooGreat { .. }) => Err(Fate::Stopped),
+        Err(Stop::Unread(_) | Stop::Unwritten) => Err(Fate::Broken),
+    }
+}
+
+// One that has no header.
+pub fn fate_without(none: NoHeader) -> Fate
+    ensures { result ≡ fate_without none }
+{
+    match none {
+        NoHeader::Wrong(_) | NoHeader::TooLong => Fate::Unfit,
+        NoHeader::Empty => Fate::Missing,
+        NoHeader::Unread => Fate::Broken,
     }
 }
 
@@ -46,20 +52,7 @@ pub fn fate_of(passed: Passed) -> Fate
 fn is_left(stays: bool, story: Story) -> bool
     ensures { result ≡ is_left stays story }
 {
-    if !stays {
-        return false;
-    }
-    if story.whole > 0 {
-        return true;
-    }
-    let last = story.last;
-    match last {
-        Fate::Whole => false,
-        Fate::Missing => false,
-        Fate::Unfit => false,
-        Fate::Stopped => true,
-        Fate::Broken => false,
-    }
+    stays && (story.whole > 0 || matches!(story.last, Err(Fate::Stopped)))
 }
 
 // Of pictures that are wrong.
@@ -89,13 +82,10 @@ fn ended(whole: u64) -> Outcome
 pub fn outcome_of(stays: bool, story: Story) -> Outcome
     ensures { result ≡ outcome_of stays story }
 {
-    let last = story.last;
-    match last {
-        Fate::Whole => Outcome::Failed,
-        Fate::Missing => ended(story.whole),
-        Fate::Unfit => refusal(stays, story),
-        Fate::Stopped => refusal(stays, story),
-        Fate::Broken => Outcome::Failed,
+    match story.last {
+        Ok(()) | Err(Fate::Broken) => Outcome::Failed,
+        Err(Fate::Missing) => ended(story.whole),
+        Err(Fate::Unfit | Fate::Stopped) => refusal(stays, story),
     }
 }
 

@@ -1,23 +1,20 @@
 // Pictures, one after another: each with its own header, until the input ends.
-ghost use Rattle.std.specs.Prelude.{◌≡◌, true, length};
-ghost use Rattle.rules.specs.Descriptions.{could_be_read};
+ghost use Rattle.std.specs.Prelude.{◌≡◌, Ok};
 ghost use Rattle.ppm.specs.Header.{SizedFrame};
 ghost use Rattle.correct.specs.Headers.{SizedHeading};
 ghost use Rattle.correct.specs.Jobs.{Agrees, job_of};
 ghost use Rattle.correct.specs.Outcomes.{Becomes, BecomesOf};
-ghost use Rattle.correct.specs.Pieces.{Buffers};
-ghost use Rattle.correct.specs.declared.jobs.JobFound.TheVariants.{Ready};
 
 use crate::ends::Ends;
-use crate::headers::Heading;
-use crate::jobs::{Job, JobFound, depths_in, job_of};
-use crate::outcomes::{Fate, Story, fate_of};
+use crate::headers::NoHeader;
+use crate::jobs::{Job, NoDepth, depths_in, job_of};
+use crate::outcomes::{Fate, Story, fate_of, fate_without};
 use crate::pieces::pass_all;
+use crate::space::{Space, Table};
 use crate::{headers, words};
 use colour::plan_of;
 use desk::{Host, Last};
-use ppm::{Frame, Header};
-use rules::Description;
+use ppm::Frame;
 
 // More pictures than this are not counted.
 const MOST_PICTURES: u64 = 1_000_000_000_000_000_000;
@@ -27,25 +24,22 @@ fn pass_job(
     host: &mut Host,
     ends: &mut Ends,
     number: u64,
-    d: Description,
-    table: &[i64],
+    table: Table<'_>,
     job: Job,
-    bytes: &mut [u8],
-    raw: &mut [u16],
-    corrected: &mut [u16],
-) -> Fate
-    requires table_value { could_be_read d table.now ≡ true }
+    space: &mut Space<'_>,
+) -> Result<(), Fate>
     requires agrees { Agrees job }
-    requires buffers { Buffers (length bytes.old) (length raw.old) (length corrected.old) }
-    ensures { BecomesOf (Ready job) result }
+    ensures { BecomesOf (Ok job) result }
 {
     if !headers::write(&mut ends.to, job) {
         words::say_unwritten(host, ends, number);
-        return Fate::Broken;
+        return Err(Fate::Broken);
     }
-    let plan = plan_of(d, depths_in(job.scales));
-    let passed = pass_all(ends, plan, table, job, bytes, raw, corrected);
-    words::say_passed(host, ends, number, passed, job.frame);
+    let plan = plan_of(table.description, depths_in(job.scales));
+    let passed = pass_all(ends, plan, table.places, job, space);
+    if let Err(stop) = passed {
+        words::say_stop(host, ends, number, stop, job.frame);
+    }
     fate_of(passed)
 }
 
@@ -54,29 +48,24 @@ fn pass_frame(
     host: &mut Host,
     ends: &mut Ends,
     number: u64,
-    d: Description,
-    table: &[i64],
+    table: Table<'_>,
     frame: Frame,
     wanted: Last,
-    bytes: &mut [u8],
-    raw: &mut [u16],
-    corrected: &mut [u16],
-) -> Fate
-    requires table_value { could_be_read d table.now ≡ true }
+    space: &mut Space<'_>,
+) -> Result<(), Fate>
     requires sized_frame { SizedFrame frame }
-    requires buffers { Buffers (length bytes.old) (length raw.old) (length corrected.old) }
     ensures { BecomesOf (job_of frame wanted) result }
 {
     match job_of(frame, wanted) {
-        JobFound::PictureUnknown => {
+        Err(NoDepth::Picture) => {
             words::say_maxval(host, number, frame.maxval);
-            Fate::Unfit
+            Err(Fate::Unfit)
         }
-        JobFound::OutputUnknown => {
+        Err(NoDepth::Output) => {
             words::say_wanted(host);
-            Fate::Unfit
+            Err(Fate::Unfit)
         }
-        JobFound::Ready(job) => pass_job(host, ends, number, d, table, job, bytes, raw, corrected),
+        Ok(job) => pass_job(host, ends, number, table, job, space),
     }
 }
 
@@ -85,29 +74,20 @@ fn pass_headed(
     host: &mut Host,
     ends: &mut Ends,
     number: u64,
-    d: Description,
-    table: &[i64],
-    heading: Heading,
+    table: Table<'_>,
+    heading: Result<Frame, NoHeader>,
     wanted: Last,
-    bytes: &mut [u8],
-    raw: &mut [u16],
-    corrected: &mut [u16],
-) -> Fate
-    requires table_value { could_be_read d table.now ≡ true }
-    requires buffers { Buffers (length bytes.old) (length raw.old) (length corrected.old) }
+    space: &mut Space<'_>,
+) -> Result<(), Fate>
     requires sized_heading { SizedHeading heading }
     ensures { Becomes wanted heading result }
 {
     match heading {
-        Heading::Unread => Fate::Broken,
-        Heading::Empty => Fate::Missing,
-        Heading::TooLong => Fate::Unfit,
-        Heading::Read(header) => match header {
-            Header::Wrong(_) => Fate::Unfit,
-            Header::Stands(frame) => pass_frame(
-                host, ends, number, d, table, frame, wanted, bytes, raw, corrected,
-            ),
-        },
+        Ok(frame) => pass_frame(host, ends, number, table, frame, wanted, space),
+        Err(none) => {
+            words::say_no_header(host, ends, number, none);
+            Err(fate_without(none))
+        }
     }
 }
 
@@ -116,58 +96,31 @@ fn pass_picture(
     host: &mut Host,
     ends: &mut Ends,
     number: u64,
-    d: Description,
-    table: &[i64],
+    table: Table<'_>,
     wanted: Last,
-    bytes: &mut [u8],
-    raw: &mut [u16],
-    corrected: &mut [u16],
-) -> Fate
-    requires table_value { could_be_read d table.now ≡ true }
-    requires buffers { Buffers (length bytes.old) (length raw.old) (length corrected.old) }
-{
+    space: &mut Space<'_>,
+) -> Result<(), Fate> {
     let heading = headers::read(&mut ends.from);
-    words::say_heading(host, ends, number, heading);
-    pass_headed(
-        host, ends, number, d, table, heading, wanted, bytes, raw, corrected,
-    )
+    pass_headed(host, ends, number, table, heading, wanted, space)
 }
 
 // All pictures, up to the end of the input or the first that is not whole.
 pub fn pass_pictures(
     host: &mut Host,
     ends: &mut Ends,
-    d: Description,
-    table: &[i64],
+    table: Table<'_>,
     wanted: Last,
-    bytes: &mut [u8],
-    raw: &mut [u16],
-    corrected: &mut [u16],
-) -> Story
-    requires table_value { could_be_read d table.now ≡ true }
-    requires buffers { Buffers (length bytes.old) (length raw.old) (length corrected.old) }
-{
-    let mut whole = 0;
-    while whole < MOST_PICTURES {
-        let fate = pass_picture(
-            host,
-            ends,
-            whole + 1,
-            d,
-            table,
-            wanted,
-            &mut *bytes,
-            &mut *raw,
-            &mut *corrected,
-        );
-        let Fate::Whole = fate else {
-            return Story { whole, last: fate };
-        };
-        whole += 1;
+    space: &mut Space<'_>,
+) -> Story {
+    for whole in 0..MOST_PICTURES {
+        let last = pass_picture(host, ends, whole + 1, table, wanted, space);
+        if last.is_err() {
+            return Story { whole, last };
+        }
     }
     words::say_uncounted(host);
     Story {
-        whole,
-        last: Fate::Whole,
+        whole: MOST_PICTURES,
+        last: Ok(()),
     }
 }

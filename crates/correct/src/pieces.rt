@@ -2,27 +2,23 @@
 ghost use Rattle.std.specs.Prelude.{◌≡◌, ◌≤◌, min, length, take};
 ghost use Rattle.rules.specs.declared.Description.{Description};
 ghost use Rattle.correct.specs.Jobs.{Agrees};
-ghost use Rattle.correct.specs.Pieces.{Buffers, Corrects, PieceGoes, Readable, Room, TrulyTold, has_room, most_pixels, passed_of, piece_bytes, piece_pixels, pixel_bytes};
+ghost use Rattle.correct.specs.Pieces.{Corrects, PieceGoes, Readable, Room, TrulyTold, most_pixels, passed_of, pixel_bytes};
+ghost use Rattle.correct.specs.Sizes.{has_room, piece_bytes, piece_pixels};
 
 use crate::ends::Ends;
 use crate::headers::pixels;
 use crate::jobs::{Job, Scales, depths_in};
+use crate::space::Space;
 use colour::Plan;
 use desk::{Filled, fill};
 use picture::correct_all;
 use ppm::{Excess, bytes_from, codes_from, count_within, excess_at};
-use rules::Colour;
 
-// What became of the pixels: all are written, or the pixel at which it stopped.
-#[derive(Clone, Copy)]
-pub enum Passed {
-    Whole,
+// Why not all pixels are written, and at which pixel it stopped.
+#[derive(Clone, Copy, Debug, PartialEq, Eq)]
+pub enum Stop {
     Cut(u64),
-    TooGreat {
-        pixel: u64,
-        colour: Colour,
-        code: u16,
-    },
+    TooGreat { pixel: u64, excess: Excess },
     Unread(u64),
     Unwritten,
 }
@@ -32,7 +28,7 @@ pub enum Passed {
 struct Piece {
     pixels: usize,
     bytes: usize,
-    excess: Excess,
+    excess: Option<Excess>,
 }
 
 // A piece is what fixed memory holds of a picture. The larger it is, the fewer are the reads and writes; and of a 1D table the codes that are kept are worked
@@ -40,17 +36,11 @@ struct Piece {
 const PIECE_PIXELS: usize = 1_048_576;
 
 // Whether lent space of these lengths holds a piece: as bytes, as raw and as corrected codes.
-#[tactic(auto, unfolding(crate::specs::Pieces::has_room))]
+#[tactic(auto, unfolding(crate::specs::Sizes::has_room))]
 pub fn has_room(bytes: usize, raw: usize, corrected: usize) -> bool
     ensures { result ≡ has_room bytes raw corrected }
 {
-    if bytes < PIECE_PIXELS * 6 {
-        return false;
-    }
-    if raw < PIECE_PIXELS * 3 {
-        return false;
-    }
-    raw <= corrected
+    bytes >= PIECE_PIXELS * 6 && raw >= PIECE_PIXELS * 3 && raw <= corrected
 }
 
 // Corrects the pixels that the first n bytes are, up to the first that has a code above the greatest, into the same bytes.
@@ -99,26 +89,18 @@ fn pixel_bytes(wide: bool) -> usize
 
 // What became of a piece of so many pixels, once what could be corrected of it is written. Its first pixel has a number in the picture.
 #[tactic(auto, unfolding(crate::specs::Pieces::passed_of, crate::specs::Pieces::passed_by))]
-fn passed_of(piece: Piece, first: u64, want: usize) -> Passed
+fn passed_of(piece: Piece, first: u64, want: usize) -> Result<(), Stop>
     requires { (first ≤ most_pixels) × (piece.pixels ≤ piece_bytes) }
     ensures { result ≡ passed_of piece first want }
 {
-    let pixels = piece.pixels;
-    let pixel = first + pixels as u64;
-    let excess = piece.excess;
-    match excess {
-        Excess::Above { colour, code } => Passed::TooGreat {
-            pixel,
-            colour,
-            code,
-        },
-        Excess::Nothing => {
-            if pixels < want {
-                return Passed::Cut(pixel);
-            }
-            Passed::Whole
-        }
+    let pixel = first + piece.pixels as u64;
+    if let Some(excess) = piece.excess {
+        return Err(Stop::TooGreat { pixel, excess });
     }
+    if piece.pixels < want {
+        return Err(Stop::Cut(pixel));
+    }
+    Ok(())
 }
 
 // One piece of so many pixels.
@@ -129,24 +111,27 @@ fn pass_piece(
     scales: Scales,
     first: u64,
     want: usize,
-    bytes: &mut [u8],
-    raw: &mut [u16],
-    corrected: &mut [u16],
-) -> Passed
+    space: &mut Space<'_>,
+) -> Result<(), Stop>
     requires readable { (d : Description) × Readable d table.now scales plan }
-    requires buffers { Buffers (length bytes.old) (length raw.old) (length corrected.old) }
     requires first_le_most_pixels { (first ≤ most_pixels) × (want ≤ piece_pixels) }
     ensures { (d : Description) → Readable d table.now scales plan → PieceGoes d table.now scales first want result }
 {
-    let of_raw = scales.raw;
-    let size = pixel_bytes(of_raw.wide);
-    let Filled::Bytes(got) = fill(&mut ends.from, &mut bytes[..want * size]) else {
-        return Passed::Unread(first);
+    let size = pixel_bytes(scales.raw.wide);
+    let Filled::Bytes(got) = fill(&mut ends.from, &mut space.bytes[..want * size]) else {
+        return Err(Stop::Unread(first));
     };
-    let piece = correct_piece(plan, table, scales, &mut *bytes, got, raw, corrected);
-    let made = piece.bytes;
-    if !ends.to.write(&bytes[..made]) {
-        return Passed::Unwritten;
+    let piece = correct_piece(
+        plan,
+        table,
+        scales,
+        &mut *space.bytes,
+        got,
+        &mut *space.raw,
+        &mut *space.corrected,
+    );
+    if !ends.to.write(&space.bytes[..piece.bytes]) {
+        return Err(Stop::Unwritten);
     }
     passed_of(piece, first, want)
 }
@@ -155,11 +140,7 @@ fn pass_piece(
 fn next_piece(left: u64) -> usize
     ensures { result ≡ min left piece_pixels }
 {
-    if left < PIECE_PIXELS as u64 {
-        left as usize
-    } else {
-        PIECE_PIXELS
-    }
+    left.min(PIECE_PIXELS as u64) as usize
 }
 
 // The pixels of a picture whose header is written.
@@ -168,34 +149,18 @@ pub fn pass_all(
     plan: Plan,
     table: &[i64],
     job: Job,
-    bytes: &mut [u8],
-    raw: &mut [u16],
-    corrected: &mut [u16],
-) -> Passed
+    space: &mut Space<'_>,
+) -> Result<(), Stop>
     requires readable { (d : Description) × Readable d table.now job.scales plan }
     requires agrees { Agrees job }
-    requires buffers { Buffers (length bytes.old) (length raw.old) (length corrected.old) }
     ensures { TrulyTold job.scales.raw.depth.greatest result }
 {
     let pixels = pixels(job.frame);
     let mut left = pixels;
     while left > 0 {
         let want = next_piece(left);
-        let passed = pass_piece(
-            &mut *ends,
-            plan,
-            table,
-            job.scales,
-            pixels - left,
-            want,
-            &mut *bytes,
-            &mut *raw,
-            &mut *corrected,
-        );
-        let Passed::Whole = passed else {
-            return passed;
-        };
+        pass_piece(ends, plan, table, job.scales, pixels - left, want, space)?;
         left -= want as u64;
     }
-    Passed::Whole
+    Ok(())
 }

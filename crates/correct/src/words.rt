@@ -1,11 +1,11 @@
 // How the verb is called, and in one line on standard error what stopped it.
-ghost use Rattle.correct.specs.Pieces.{TrulyTold};
+ghost use Rattle.correct.specs.Pieces.{StopTruly};
 
 use crate::ends::Ends;
-use crate::headers::Heading;
-use crate::pieces::Passed;
+use crate::headers::NoHeader;
+use crate::pieces::Stop;
 use desk::{Host, Output, say_failed, write, write_count};
-use ppm::{Fault, Frame, Header, Kind, Part};
+use ppm::{Excess, Fault, Frame, Kind, Part};
 use rules::Colour;
 
 // ---- help
@@ -249,18 +249,6 @@ fn say_fault(host: &mut Host, fault: Fault) {
     }
 }
 
-// A header that does not stand; of one that does nothing is said.
-fn say_header(host: &mut Host, number: u64, header: Header) {
-    match header {
-        Header::Stands(_) => {}
-        Header::Wrong(fault) => {
-            say_start(host, number);
-            say_fault(host, fault);
-            say(host, b"\n");
-        }
-    }
-}
-
 // The input may end where a header would begin, but for the first.
 fn say_empty(host: &mut Host, number: u64) {
     if number == 1 {
@@ -268,18 +256,22 @@ fn say_empty(host: &mut Host, number: u64) {
     }
 }
 
-pub fn say_heading(host: &mut Host, ends: &Ends, number: u64, heading: Heading) {
-    match heading {
-        Heading::Read(header) => say_header(host, number, header),
-        Heading::TooLong => {
+pub fn say_no_header(host: &mut Host, ends: &Ends, number: u64, none: NoHeader) {
+    match none {
+        NoHeader::Wrong(fault) => {
+            say_start(host, number);
+            say_fault(host, fault);
+            say(host, b"\n");
+        }
+        NoHeader::TooLong => {
             say_start(host, number);
             say(
                 host,
                 b"the header does not end within the first 4,096 bytes of the picture\n",
             );
         }
-        Heading::Empty => say_empty(host, number),
-        Heading::Unread => {
+        NoHeader::Empty => say_empty(host, number),
+        NoHeader::Unread => {
             say_start(host, number);
             fail_to_read(host, ends);
         }
@@ -318,41 +310,36 @@ fn say_place(host: &mut Host, number: u64, pixel: u64, width: u64) {
 }
 
 // As `green is 1024, above 1023`.
-fn say_excess(host: &mut Host, colour: Colour, code: u16, maxval: u64) {
-    match colour {
+fn say_excess(host: &mut Host, excess: Excess, maxval: u64) {
+    match excess.colour {
         Colour::Red => say(host, b"red is "),
         Colour::Green => say(host, b"green is "),
         Colour::Blue => say(host, b"blue is "),
     }
-    write_count(&mut host.err, code as u64);
+    write_count(&mut host.err, excess.code as u64);
     say(host, b", above ");
     write_count(&mut host.err, maxval);
     say(host, b"\n");
 }
 
 // A code that is told as above maxval is.
-pub fn say_passed(host: &mut Host, ends: &Ends, number: u64, passed: Passed, frame: Frame)
-    requires { TrulyTold frame.maxval passed }
+pub fn say_stop(host: &mut Host, ends: &Ends, number: u64, stop: Stop, frame: Frame)
+    requires { StopTruly frame.maxval stop }
 {
-    match passed {
-        Passed::Whole => {}
-        Passed::Cut(pixel) => {
+    match stop {
+        Stop::Cut(pixel) => {
             say_place(host, number, pixel, frame.width);
             say(host, b"the picture ends there\n");
         }
-        Passed::TooGreat {
-            pixel,
-            colour,
-            code,
-        } => {
+        Stop::TooGreat { pixel, excess } => {
             say_place(host, number, pixel, frame.width);
-            say_excess(host, colour, code, frame.maxval);
+            say_excess(host, excess, frame.maxval);
         }
-        Passed::Unread(pixel) => {
+        Stop::Unread(pixel) => {
             say_place(host, number, pixel, frame.width);
             fail_to_read(host, ends);
         }
-        Passed::Unwritten => say_unwritten(host, ends, number),
+        Stop::Unwritten => say_unwritten(host, ends, number),
     }
 }
 

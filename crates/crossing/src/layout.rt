@@ -1,85 +1,53 @@
 // How descriptions, pixels, codes, rows and weights lie in the numbers that C lends.
 ghost use Rattle.std.specs.Prelude.{◌≡◌, map, ◌<◌};
 ghost use Rattle.rules.specs.Answers.{codes_of, shares_of};
-ghost use Rattle.rules.specs.Boundary.{Crossable, RowsFit, eleven_of, description_in, described_in, domain_in, count_in, title_at, pixel_in, share_in, shares_in, kind_number, mark_number, colour_in};
-ghost use Rattle.crossing.specs.Layout.{crossed, crossed_colour};
+ghost use Rattle.rules.specs.Boundary.{Crossable, RowsFit, eleven_of, description_in, described_in, domain_in, count_in, kind_in, title_at, pixel_in, share_in, shares_in, kind_number, colour_in};
+ghost use Rattle.crossing.specs.Layout.{crossed};
 
 use rules::{Codes, Colour, Description, Domain, Kind, Share, Shares, Thousandths, Title};
 use whole::Whole;
 
 // ---- a description as eleven numbers
 
-fn kind_number(kind: Kind) -> Whole
-    ensures { result.0 ≡ kind_number kind }
+// Stays: a function, and no `From<Kind>` or `TryFrom<i64>`, since `Kind` belongs to rules, where nothing else has C's numbers.
+fn kind_number(kind: Kind) -> i64
+    ensures { result ≡ kind_number kind }
 {
     match kind {
-        Kind::OneD => Whole(1),
-        Kind::ThreeD => Whole(3),
+        Kind::OneD => 1,
+        Kind::ThreeD => 3,
     }
-}
-
-fn mark_number(there: bool) -> Whole
-    ensures { result.0 ≡ mark_number there }
-{
-    if there { Whole(1) } else { Whole(0) }
-}
-
-fn bound_number(bound: Thousandths) -> Whole
-    ensures { result.0 ≡ bound.0 }
-{
-    Whole(bound.0)
 }
 
 pub fn eleven_of(d: Description) -> [i64; 11]
     requires { Crossable d }
     ensures { result ≡ eleven_of d }
 {
-    let kind_of = d.kind;
-    let title = d.title;
-    let kind = kind_number(kind_of);
-    let n = Whole::of(d.n as u64);
-    let red_lower = bound_number(d.red.lower);
-    let green_lower = bound_number(d.green.lower);
-    let blue_lower = bound_number(d.blue.lower);
-    let red_upper = bound_number(d.red.upper);
-    let green_upper = bound_number(d.green.upper);
-    let blue_upper = bound_number(d.blue.upper);
-    let there = mark_number(title.there);
-    let place = Whole::of(title.place as u64);
-    let length = Whole::of(title.length as u64);
     [
-        kind.0,
-        n.0,
-        red_lower.0,
-        green_lower.0,
-        blue_lower.0,
-        red_upper.0,
-        green_upper.0,
-        blue_upper.0,
-        there.0,
-        place.0,
-        length.0,
+        kind_number(d.kind),
+        d.n as i64,
+        d.red.lower.0,
+        d.green.lower.0,
+        d.blue.lower.0,
+        d.red.upper.0,
+        d.green.upper.0,
+        d.blue.upper.0,
+        i64::from(d.title.there),
+        d.title.place as i64,
+        d.title.length as i64,
     ]
 }
 
 // ---- and back
-
-#[derive(Clone, Copy)]
-pub enum DescriptionFound {
-    Known(Description),
-    Unknown,
-}
 
 // A colour's domain: its bounds stand three places apart.
 fn domain_at(eleven: &[i64; 11], colour: usize) -> Domain
     requires { colour < 3 }
     ensures { result ≡ domain_in eleven.now colour }
 {
-    let lower = eleven[2 + colour];
-    let upper = eleven[5 + colour];
     Domain {
-        lower: Thousandths(lower),
-        upper: Thousandths(upper),
+        lower: Thousandths(eleven[2 + colour]),
+        upper: Thousandths(eleven[5 + colour]),
     }
 }
 
@@ -88,17 +56,15 @@ fn count_at(eleven: &[i64; 11], at: usize) -> usize
     requires { at < 11 }
     ensures { result ≡ count_in eleven.now at }
 {
-    let number = Whole(eleven[at]);
-    number.above() as usize
+    Whole(eleven[at]).above() as usize
 }
 
 // 0 is without a title, and any other number with one.
 fn title_at(eleven: &[i64; 11]) -> Title
     ensures { result ≡ title_at eleven.now }
 {
-    let mark = Whole(eleven[8]);
     Title {
-        there: mark.size() != 0,
+        there: eleven[8] != 0,
         place: count_at(eleven, 9),
         length: count_at(eleven, 10),
     }
@@ -117,22 +83,28 @@ fn description_in(eleven: &[i64; 11], kind: Kind) -> Description
     }
 }
 
+// The first number names the kind, by 1 or 3.
+fn kind_at(eleven: &[i64; 11]) -> Option<Kind>
+    ensures { result ≡ crossed (kind_in eleven.now) }
+{
+    match eleven[0] {
+        1 => Some(Kind::OneD),
+        3 => Some(Kind::ThreeD),
+        _ => None,
+    }
+}
+
 // What eleven numbers describe, if the first names a kind.
-pub fn described(eleven: &[i64; 11]) -> DescriptionFound
+pub fn described(eleven: &[i64; 11]) -> Option<Description>
     ensures { result ≡ crossed (described_in eleven.now) }
 {
-    let first = Whole(eleven[0]);
-    let kind = first.above();
-    if kind == 1 {
-        return DescriptionFound::Known(description_in(eleven, Kind::OneD));
-    }
-    if kind == 3 {
-        return DescriptionFound::Known(description_in(eleven, Kind::ThreeD));
-    }
-    DescriptionFound::Unknown
+    let kind = kind_at(eleven)?;
+    Some(description_in(eleven, kind))
 }
 
 // ---- a look's pixel, codes, rows and weights
+
+// Stays: `Codes` and `Shares` belong to rules, so `From` for them would stand there, away from how C's numbers lie; and `codes.into()` says less.
 
 pub fn pixel_of(codes: &[u16; 3]) -> Codes
     ensures { result ≡ pixel_in codes.now }
@@ -209,19 +181,14 @@ pub fn shares_in(rows: &[u32; 6], weights: &[i64; 6]) -> Shares
 
 // ---- a colour as a number
 
-#[derive(Clone, Copy)]
-pub enum ColourFound {
-    Known(Colour),
-    Unknown,
-}
-
-pub fn colour_of(number: u32) -> ColourFound
-    ensures { result ≡ crossed_colour (colour_in number) }
+// Stays: as with kinds, `Colour` belongs to rules.
+pub fn colour_of(number: u32) -> Option<Colour>
+    ensures { result ≡ crossed (colour_in number) }
 {
     match number {
-        0 => ColourFound::Known(Colour::Red),
-        1 => ColourFound::Known(Colour::Green),
-        2 => ColourFound::Known(Colour::Blue),
-        _ => ColourFound::Unknown,
+        0 => Some(Colour::Red),
+        1 => Some(Colour::Green),
+        2 => Some(Colour::Blue),
+        _ => None,
     }
 }

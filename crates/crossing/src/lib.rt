@@ -7,8 +7,7 @@ pub use answers::{
     second_codes, second_number, write_number, written_length,
 };
 pub use layout::{
-    ColourFound, DescriptionFound, codes_laid, colour_of, described, eleven_of, pixel_of,
-    rows_laid, shares_in, weights_laid,
+    codes_laid, colour_of, described, eleven_of, pixel_of, rows_laid, shares_in, weights_laid,
 };
 
 mod answers;

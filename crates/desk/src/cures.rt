@@ -5,7 +5,7 @@ use crate::host::Output;
 use crate::printing::{write, write_count, write_hex};
 use judge::{count_rows, in_range};
 use numbers::number_of;
-use pointing::{SizeFound, line_spot, point_at, rows_in, size_in};
+use pointing::{line_spot, point_at, rows_in, size_in};
 use rules::{Form, Keyword, Kind, Number, Refusal, Size, TenMillionths};
 use text::form_of;
 
@@ -238,8 +238,8 @@ fn write_asked(out: &mut Output, size: Size) -> bool {
 fn write_counts(out: &mut Output, file: &[u8]) -> bool {
     let there = write(out, b": there are ") && write_count(out, rows_in(file) as u64);
     match size_in(file) {
-        SizeFound::Given(size) => there && write_asked(out, size),
-        SizeFound::NotGiven => there,
+        Some(size) => there && write_asked(out, size),
+        None => there,
     }
 }
 

@@ -1,6 +1,26 @@
 // What a system call's failure says, on standard error: the program, what it was about, and the system's own words.
-use crate::host::{Host, Input, say_failed};
+use crate::host::{Host, Input, Reason, say_failed};
 use crate::printing::write;
+use std::io;
+use std::io::Write;
+
+// As `explain: cannot write standard output: No space left on device`.
+pub fn say_error(host: &mut Host, what: &str, error: io::Error) {
+    let program = host.program;
+    let _ = writeln!(host.err, "{program}: {what}: {}", Reason(error));
+}
+
+// The same, with the name of a file behind what failed.
+pub fn say_error_of(host: &mut Host, what: &str, name: &[u8], error: io::Error) {
+    let _ = write_error_of(host, what, name, error);
+}
+
+fn write_error_of(host: &mut Host, what: &str, name: &[u8], error: io::Error) -> io::Result<()> {
+    let program = host.program;
+    write!(host.err, "{program}: {what} ")?;
+    host.err.write_all(name)?;
+    writeln!(host.err, ": {}", Reason(error))
+}
 
 fn say_start(host: &mut Host, program: &[u8], what: &[u8]) {
     write(&mut host.err, program);

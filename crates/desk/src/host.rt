@@ -1,6 +1,5 @@
 // What a program at the desk runs on: its arguments, its files, the two streams that it writes, and why the system last failed.
-ghost use Rattle.std.specs.Prelude.{◌≤◌, IfSome, length};
-ghost use Rattle.std.specs.Io.{ReadsAtMost};
+ghost use Rattle.std.specs.Prelude.{◌≤◌, IfOk, IfSome, length};
 
 use std::alloc::Global;
 use std::env::FillError;
@@ -14,9 +13,6 @@ const NOT_TEXT: i32 = 84;
 
 // What it calls a file that cannot be brought to a disk, as a device or a pipe cannot (EINVAL).
 const NO_FILE: i32 = 22;
-
-// The longest of the system's words.
-const MOST_WORDS: usize = 256;
 
 // ---- where bytes come from
 
@@ -53,6 +49,16 @@ pub struct Input {
     failure: Option<io::Error>,
 }
 
+impl Read for Input {
+    fn read(&mut self, space: &mut [u8]) -> io::Result<usize> {
+        match &mut self.source {
+            Source::Stream(stream) => stream.read(space),
+            Source::Opened(file) => file.read(space),
+            Source::Held { bytes, at } => Ok(next_held(bytes, at, space)),
+        }
+    }
+}
+
 impl Input {
     pub fn standard(host: &Host) -> Input {
         Input {
@@ -61,27 +67,23 @@ impl Input {
         }
     }
 
-    fn once(&mut self, space: &mut [u8]) -> io::Result<usize>
-        ensures { ReadsAtMost result space.new }
+    // The first bytes that an input has, as far as there is space. A read that fails is not the end of the input: what came before it is no answer.
+    pub fn fill(&mut self, space: &mut [u8]) -> io::Result<usize>
+        ensures { IfOk result (λ n. n ≤ length space.new) }
     {
-        match &mut self.source {
-            Source::Stream(stream) => stream.read(space),
-            Source::Opened(file) => file.read(space),
-            Source::Held { bytes, at } => Ok(next_held(bytes, at, space)),
+        let mut n = 0;
+        while n < space.len() {
+            let more = self.read(&mut space[n..])?;
+            if more == 0 {
+                return Ok(n);
+            }
+            n += more;
         }
+        Ok(n)
     }
 
-    // How many bytes were read to the start of the space, 0 at the end of the input; or none, where it cannot be read.
-    pub fn read(&mut self, space: &mut [u8]) -> Option<usize>
-        ensures { IfSome result (λ n. n ≤ length space.new) }
-    {
-        match self.once(&mut *space) {
-            Ok(n) => Some(n),
-            Err(error) => {
-                self.failure = Some(error);
-                None
-            }
-        }
+    pub(crate) fn failed(&mut self, error: io::Error) {
+        self.failure = Some(error);
     }
 
     pub fn failure(&self) -> Option<io::Error> {
@@ -105,6 +107,21 @@ pub struct Output {
     failure: Option<io::Error>,
 }
 
+impl Write for Output {
+    fn write(&mut self, text: &[u8]) -> io::Result<usize> {
+        match &mut self.sink {
+            Sink::Out(stream) => stream.write(text),
+            Sink::Err(stream) => stream.write(text),
+            Sink::Opened(file) => file.write(text),
+        }
+    }
+
+    // What is written is with the system at once.
+    fn flush(&mut self) -> io::Result<()> {
+        Ok(())
+    }
+}
+
 impl Output {
     pub fn standard(host: &Host) -> Output {
         Output::to(Sink::Out(host.rt.stdout()))
@@ -117,15 +134,8 @@ impl Output {
         }
     }
 
-    fn put(&mut self, text: &[u8]) -> io::Result<()> {
-        match &mut self.sink {
-            Sink::Out(stream) => stream.write_all(text),
-            Sink::Err(stream) => stream.write_all(text),
-            Sink::Opened(file) => file.write_all(text),
-        }
-    }
-
-    fn keep(&mut self) -> io::Result<()> {
+    // Brings what was written to a file to its disk.
+    pub fn sync_all(&self) -> io::Result<()> {
         match &self.sink {
             Sink::Out(_) => Ok(()),
             Sink::Err(_) => Ok(()),
@@ -145,13 +155,13 @@ impl Output {
 
     // Whether all of the text was written.
     pub fn write(&mut self, text: &[u8]) -> bool {
-        let done = self.put(text);
+        let done = self.write_all(text);
         self.succeeds(done)
     }
 
     // Whether what was written to a file is on its disk.
     pub fn sync(&mut self) -> bool {
-        let done = self.keep();
+        let done = self.sync_all();
         self.succeeds(done)
     }
 
@@ -162,13 +172,14 @@ impl Output {
 
 // ---- the program's surroundings
 
-// The system, standard output and standard error, the bytes of a file that was read before it is asked for, and why the last call that is about a name
-// failed, if one did.
+// The system, standard output and standard error, what the program is called in each line there, the bytes of a file that was read before it is asked for,
+// and why the last call that is about a name failed, if one did.
 #[derive(Drop)]
 pub struct Host {
     rt: HostRuntime,
     pub out: Output,
     pub err: Output,
+    pub program: &'static str,
     held: Option<Vec<u8>>,
     failure: Option<io::Error>,
 }
@@ -179,6 +190,7 @@ impl Host {
             rt,
             out: Output::to(Sink::Out(rt.stdout())),
             err: Output::to(Sink::Err(rt.stderr())),
+            program: "erythmoda",
             held: None,
             failure: None,
         }
@@ -259,20 +271,60 @@ fn open(rt: HostRuntime, path: &[u8]) -> io::Result<File> {
     File::open(&rt, text_of(path)?)
 }
 
-// The file with this name, open to read; or none, and the host has the reason. Where a file is held, the first that is asked for is that one.
-pub fn open_input(host: &mut Host, path: &[u8]) -> Option<Input> {
-    if let Some(bytes) = host.held.take() {
-        return Some(Input {
-            source: Source::Held { bytes, at: 0 },
+impl Host {
+    // The file with this name, open to read. Where a file is held, the first that is asked for is that one.
+    pub fn open(&mut self, path: &[u8]) -> io::Result<Input> {
+        let source = match self.held.take() {
+            Some(bytes) => Source::Held { bytes, at: 0 },
+            None => Source::Opened(open(self.rt, path)?),
+        };
+        Ok(Input {
+            source,
             failure: None,
-        });
+        })
     }
-    let opened = open(host.rt, path);
-    let file = host.got(opened)?;
-    Some(Input {
-        source: Source::Opened(file),
-        failure: None,
-    })
+
+    // A new file with this name, which no file has yet, open to write.
+    pub fn create(&self, path: &[u8]) -> io::Result<Output> {
+        let file = File::create_new(&self.rt, text_of(path)?)?;
+        Ok(Output::to(Sink::Opened(file)))
+    }
+
+    // The file with this name, open to read and to write, with its bytes as they are. A device is not waited for: it is not even opened.
+    pub fn open_to_update(&self, path: &[u8]) -> io::Result<Output> {
+        let name = text_of(path)?;
+        if is_device(self.rt, name) {
+            return Err(io::Error::from_raw_os_error(NO_FILE));
+        }
+        let mut how = OpenOptions::new();
+        how.read(true);
+        how.write(true);
+        let file = how.open(&self.rt, name)?;
+        Ok(Output::to(Sink::Opened(file)))
+    }
+
+    // Gives the file with one name the other.
+    pub fn rename(&self, from: &[u8], to: &[u8]) -> io::Result<()> {
+        fs::rename(&self.rt, text_of(from)?, text_of(to)?)
+    }
+
+    pub fn remove(&self, path: &[u8]) -> io::Result<()> {
+        fs::remove_file(&self.rt, text_of(path)?)
+    }
+
+    // How many bytes there are to read under a name, none in a folder or where no file has the name; or nobody knows.
+    pub fn extent(&self, path: &[u8]) -> Option<u64> {
+        match measured(self.rt, path) {
+            Ok(found) => found,
+            Err(_) => Some(0),
+        }
+    }
+}
+
+// The file with this name, open to read; or none, and the host has the reason.
+pub fn open_input(host: &mut Host, path: &[u8]) -> Option<Input> {
+    let opened = host.open(path);
+    host.got(opened)
 }
 
 // How much is read at once of a file that is held.
@@ -319,15 +371,10 @@ impl Host {
     }
 }
 
-fn create(rt: HostRuntime, path: &[u8]) -> io::Result<File> {
-    File::create_new(&rt, text_of(path)?)
-}
-
 // A new file with this name, which no file has yet, open to write; or none, and the host has the reason.
 pub fn create_output(host: &mut Host, path: &[u8]) -> Option<Output> {
-    let created = create(host.rt, path);
-    let file = host.got(created)?;
-    Some(Output::to(Sink::Opened(file)))
+    let created = host.create(path);
+    host.got(created)
 }
 
 // Whether a name is that of a device or a pipe.
@@ -338,23 +385,10 @@ fn is_device(rt: HostRuntime, name: &str) -> bool {
     }
 }
 
-// A device is not waited for: it is not even opened.
-fn update(rt: HostRuntime, path: &[u8]) -> io::Result<File> {
-    let name = text_of(path)?;
-    if is_device(rt, name) {
-        return Err(io::Error::from_raw_os_error(NO_FILE));
-    }
-    let mut how = OpenOptions::new();
-    how.read(true);
-    how.write(true);
-    how.open(&rt, name)
-}
-
 // The file with this name, open to read and to write, with its bytes as they are; or none, and the host has the reason.
 pub fn open_update(host: &mut Host, path: &[u8]) -> Option<Output> {
-    let opened = update(host.rt, path);
-    let file = host.got(opened)?;
-    Some(Output::to(Sink::Opened(file)))
+    let opened = host.open_to_update(path);
+    host.got(opened)
 }
 
 fn leads_on(rt: HostRuntime, path: &[u8]) -> io::Result<bool> {
@@ -370,56 +404,33 @@ pub fn is_link(host: &Host, path: &[u8]) -> bool {
     }
 }
 
-fn move_to(rt: HostRuntime, from: &[u8], to: &[u8]) -> io::Result<()> {
-    fs::rename(&rt, text_of(from)?, text_of(to)?)
-}
-
 // Whether the file with one name has the other now.
 pub fn rename(host: &mut Host, from: &[u8], to: &[u8]) -> bool {
-    let done = move_to(host.rt, from, to);
+    let done = host.rename(from, to);
     host.got(done).is_some()
-}
-
-fn take_away(rt: HostRuntime, path: &[u8]) -> io::Result<()> {
-    fs::remove_file(&rt, text_of(path)?)
 }
 
 // Whether the file with this name is gone.
 pub fn remove(host: &mut Host, path: &[u8]) -> bool {
-    let done = take_away(host.rt, path);
+    let done = host.remove(path);
     host.got(done).is_some()
 }
 
-// How much there is to read under a name: so many bytes of a plain file, nothing of a folder or where no file has the name, or what nobody knows.
-#[derive(Clone, Copy)]
-pub enum Extent {
-    Bytes(u64),
-    Nothing,
-    Unknown,
-}
-
-fn measured(rt: HostRuntime, path: &[u8]) -> io::Result<Extent> {
+fn measured(rt: HostRuntime, path: &[u8]) -> io::Result<Option<u64>> {
     let about = fs::metadata(&rt, text_of(path)?)?;
     if about.is_dir() {
-        return Ok(Extent::Nothing);
+        return Ok(Some(0));
     }
     if !about.is_file() {
-        return Ok(Extent::Unknown);
+        return Ok(None);
     }
     let told = about.len();
     if told > 0 {
-        return Ok(Extent::Bytes(told));
+        return Ok(Some(told));
     }
     // A file of the system has bytes, though it tells none.
     let bytes = bytes_of(rt, path, usize::MAX)?;
-    Ok(Extent::Bytes(bytes.len() as u64))
-}
-
-pub fn extent_of(host: &Host, path: &[u8]) -> Extent {
-    match measured(host.rt, path) {
-        Ok(found) => found,
-        Err(_) => Extent::Nothing,
-    }
+    Ok(Some(bytes.len() as u64))
 }
 
 // ---- what failed
@@ -448,48 +459,42 @@ pub fn is_no_file(failure: Option<io::Error>) -> bool {
     }
 }
 
-// The first piece that a failure is written in: the system's own words, without the number of the error.
+// The system's own words for an error, without its number: the first piece that it is written in.
+#[derive(Clone, Copy)]
+pub struct Reason(pub io::Error);
+
 #[derive(Drop)]
-struct Words {
-    text: [u8; MOST_WORDS],
-    length: usize,
+struct FirstPiece<'a, W: fmt::Write> {
+    out: &'a mut fmt::Formatter<W>,
+    is_written: bool,
 }
 
-impl fmt::Write for Words {
+impl<W: fmt::Write> fmt::Write for FirstPiece<'_, W> {
     fn write_str(&mut self, piece: &str) -> fmt::Result {
-        if self.length > 0 {
+        if self.is_written {
             return Ok(());
         }
-        let bytes = piece.as_bytes();
-        let n = if bytes.len() < MOST_WORDS {
-            bytes.len()
-        } else {
-            MOST_WORDS
+        self.is_written = true;
+        self.out.write_str(piece)
+    }
+}
+
+impl fmt::Display for Reason {
+    fn fmt<W: fmt::Write>(&self, f: &mut fmt::Formatter<W>) -> fmt::Result {
+        let error = self.0;
+        let mut first = FirstPiece {
+            out: f,
+            is_written: false,
         };
-        self.text[..n].copy_from_slice(&bytes[..n]);
-        self.length = n;
-        Ok(())
+        fmt::Write::write_fmt(&mut first, format_args!("{error}"))
     }
 }
 
 // Those words, behind what failed, as a line on standard error.
 pub fn say_failed(host: &mut Host, what: &[u8], failure: Option<io::Error>) {
     host.err.write(what);
-    host.err.write(b": ");
-    if let Some(error) = failure {
-        write_words(&mut host.err, error);
-    }
-    host.err.write(b"\n");
-}
-
-fn write_words(out: &mut Output, error: io::Error) {
-    let mut words = Words {
-        text: [0u8; MOST_WORDS],
-        length: 0,
+    let _ = match failure {
+        Some(error) => writeln!(host.err, ": {}", Reason(error)),
+        None => writeln!(host.err, ": "),
     };
-    let _ = fmt::Write::write_fmt(&mut words, format_args!("{error}"));
-    let n = words.length;
-    if n < MOST_WORDS {
-        out.write(&words.text[..n]);
-    }
 }

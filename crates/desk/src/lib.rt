@@ -14,9 +14,9 @@ mod reports;
 mod tables;
 
 pub use arguments::{Argument, Last, is_word_at, number_in, option_at};
-pub use failures::{say_unread, say_unwritten};
+pub use failures::{say_error, say_error_of, say_unread, say_unwritten};
 pub use host::{
-    Extent, Host, Input, Output, argument, argument_count, create_output, extent_of, hold, is_link,
+    Host, Input, Output, Reason, argument, argument_count, create_output, hold, is_link,
     is_missing, is_no_file, is_taken, open_input, open_update, remove, rename, say_failed, word_at,
 };
 pub use loading::{Fetched, Filled, Loaded, fetch_file, fill, load_argument};

@@ -40,17 +40,13 @@ pub enum Fetched {
 pub fn fill(from: &mut Input, space: &mut [u8]) -> Filled
     ensures { Fills space.new result }
 {
-    let mut n = 0;
-    while n < space.len() {
-        let Some(more) = from.read(&mut space[n..]) else {
-            return Filled::Failed;
-        };
-        if more == 0 {
-            return Filled::Bytes(n);
+    match from.fill(&mut *space) {
+        Ok(n) => Filled::Bytes(n),
+        Err(error) => {
+            from.failed(error);
+            Filled::Failed
         }
-        n += more;
     }
-    Filled::Bytes(n)
 }
 
 // All that an input has, if it fits.
@@ -64,7 +60,7 @@ fn fetch(from: &mut Input, file: &mut [u8]) -> Fetched
         return Fetched::Bytes(n);
     }
     let mut one = [0u8; 1];
-    let Some(past) = from.read(&mut one) else {
+    let Filled::Bytes(past) = fill(&mut *from, &mut one) else {
         return Fetched::Failed;
     };
     if past > 0 {

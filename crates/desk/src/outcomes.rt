@@ -1,10 +1,11 @@
 // How a program's work ended.
-ghost use Rattle.std.specs.Prelude.{◌≡◌, cond};
+ghost use Rattle.std.specs.Prelude.{◌≡◌, cond, is_ok};
 ghost use Rattle.desk.specs.Outcomes.{status_of, worse_of};
 ghost use Rattle.desk.specs.declared.outcomes.Outcome.TheVariants.{Failed};
 
-use crate::failures::say_unwritten;
+use crate::failures::{say_error, say_unwritten};
 use crate::host::Host;
+use std::io;
 
 // Done; refused, for what the file or the picture says; or failed, by a call that is not understood or by the system.
 #[derive(Clone, Copy)]
@@ -34,6 +35,19 @@ impl Outcome {
             return other;
         }
         self
+    }
+
+    // This end, where all was written to standard output; else it is said why it was not, and the work has failed.
+    pub fn when_written(self, host: &mut Host, written: io::Result<()>) -> Outcome
+        ensures { result ≡ cond (is_ok written) self Failed }
+    {
+        match written {
+            Ok(()) => self,
+            Err(error) => {
+                say_error(host, "cannot write standard output", error);
+                Outcome::Failed
+            }
+        }
     }
 
     // This end, where all was written to standard output; else that is said, and the work has failed.

@@ -1,6 +1,6 @@
 // What is printed: text, whole numbers, and samples in plain decimals. Each answers whether all of it was written.
 use crate::host::{Host, Output};
-use lettering::put_decimals;
+use lettering::Pen;
 use rules::TenMillionths;
 use whole::Whole;
 
@@ -40,6 +40,11 @@ pub fn write_signed(out: &mut Output, n: i64) -> bool {
 // As `-0.5`, `1` or `0.0000001`.
 pub fn write_sample(out: &mut Output, sample: TenMillionths) -> bool {
     let mut text = [0u8; LONGEST];
-    let count = put_decimals(&mut text, 0, Whole(sample.0));
+    let mut pen = Pen {
+        bytes: &mut text,
+        at: 0,
+    };
+    pen.put_decimals(Whole(sample.0));
+    let count = pen.at;
     write(out, &text[..count])
 }

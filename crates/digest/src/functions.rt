@@ -6,7 +6,7 @@ fn rotate(x: u32, n: u32) -> u32
     requires { (0 < n) × (n < 32) }
     ensures { result ≡ rotated n x }
 {
-    (x >> n) | (x << (32 - n))
+    x.rotate_right(n)
 }
 
 pub fn choose(x: u32, y: u32, z: u32) -> u32

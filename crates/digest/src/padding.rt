@@ -43,10 +43,8 @@ pub fn last_bytes(rest: &[u8], bits: u64) -> [u8; 128]
 {
     let end = 64 * count_last_blocks(rest.len());
     let mut last = [0u8; 128];
-    let mut i = 0;
-    while i < 128 {
+    for i in 0..128 {
         last[i] = last_byte(rest, bits, end, i);
-        i += 1;
     }
     last
 }

@@ -3,13 +3,12 @@ ghost use Rattle.std.specs.Prelude.{◌≡◌, ◌+◌, ◌≤◌, length, take}
 ghost use Rattle.digest.specs.Sha256.{word_of, word_at, words_at, scheduled, schedule};
 
 use crate::functions::{small_sigma_0, small_sigma_1};
-use std::num::wrapping_add_u32;
 
 // Four bytes, the first of them the most significant.
 fn word_of(a: u8, b: u8, c: u8, d: u8) -> u32
     ensures { result ≡ word_of a b c d }
 {
-    (a as u32) * 0x1000000 + (b as u32) * 0x10000 + (c as u32) * 0x100 + d as u32
+    u32::from_be_bytes([a, b, c, d])
 }
 
 fn read_word(bytes: &[u8], at: usize) -> u32
@@ -25,10 +24,8 @@ fn read_block(bytes: &[u8], at: usize) -> [u32; 64]
     ensures { take 16 result ≡ words_at 16 bytes.now at }
 {
     let mut w = [0u32; 64];
-    let mut t = 0;
-    while t < 16 {
+    for t in 0..16 {
         w[t] = read_word(bytes, at + 4 * t);
-        t += 1;
     }
     w
 }
@@ -37,9 +34,10 @@ fn read_block(bytes: &[u8], at: usize) -> [u32; 64]
 fn next_word(w2: u32, w7: u32, w15: u32, w16: u32) -> u32
     ensures { result ≡ scheduled w2 w7 w15 w16 }
 {
-    let sum_of_two = wrapping_add_u32(small_sigma_1(w2), w7);
-    let sum_of_three = wrapping_add_u32(sum_of_two, small_sigma_0(w15));
-    wrapping_add_u32(sum_of_three, w16)
+    small_sigma_1(w2)
+        .wrapping_add(w7)
+        .wrapping_add(small_sigma_0(w15))
+        .wrapping_add(w16)
 }
 
 // Each of the others comes from those before it.
@@ -48,10 +46,8 @@ pub fn schedule_of(bytes: &[u8], at: usize) -> [u32; 64]
     ensures { result ≡ schedule (words_at 16 bytes.now at) }
 {
     let mut w = read_block(bytes, at);
-    let mut t = 16;
-    while t < 64 {
+    for t in 16..64 {
         w[t] = next_word(w[t - 2], w[t - 7], w[t - 15], w[t - 16]);
-        t += 1;
     }
     w
 }

@@ -20,11 +20,9 @@ fn put_word(out: &mut [u8], at: usize, word: u32) -> usize
     requires { Room out.old at (hex_word word) }
     ensures { Puts out.old at (hex_word word) result out.new }
 {
-    let mut i = 0;
-    while i < 8 {
+    for i in 0..8 {
         let place = (7 - i) as u32;
         out[at + i] = hex_byte((word >> (4 * place)) % 16);
-        i += 1;
     }
     at + 8
 }
@@ -33,12 +31,9 @@ pub fn put_digest(out: &mut [u8], at: usize, d: Digest) -> usize
     requires { Room out.old at (hexadecimal d) }
     ensures { Puts out.old at (hexadecimal d) result out.new }
 {
-    let words = [d.a, d.b, d.c, d.d, d.e, d.f, d.g, d.h];
     let mut end = at;
-    let mut i = 0;
-    while i < 8 {
-        end = put_word(out, end, words[i]);
-        i += 1;
+    for word in [d.a, d.b, d.c, d.d, d.e, d.f, d.g, d.h] {
+        end = put_word(out, end, word);
     }
     end
 }

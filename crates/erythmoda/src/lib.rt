@@ -6,10 +6,10 @@ ghost use Rattle.rules.specs.Boundary.{ReadsC, ChecksC, LooksC, FindsRowsC, Give
 ghost use Rattle.erythmoda.specs.Described.{LooksIn, FindsRowsIn, GivesCodesIn, WritesIn, InvertsIn};
 
 use crossing::{
-    ColourFound, DescriptionFound, codes_laid, colour_of, described, description_of, eleven_of,
-    first_number, first_shares, inverse_code, inverse_count, inverse_number, look_codes,
-    look_number, look_shares, picture_number, pixel_of, places_needed, read_line, read_number,
-    rows_laid, second_codes, second_number, shares_in, weights_laid, write_number, written_length,
+    codes_laid, colour_of, described, description_of, eleven_of, first_number, first_shares,
+    inverse_code, inverse_count, inverse_number, look_codes, look_number, look_shares,
+    picture_number, pixel_of, places_needed, read_line, read_number, rows_laid, second_codes,
+    second_number, shares_in, weights_laid, write_number, written_length,
 };
 use halves::{first_half, look, second_half};
 use inverse::inverse;
@@ -55,7 +55,7 @@ pub fn erythmoda_check(
 fn look_in(description: &[i64; 11], table: &[i64], bits: Bits, pixel: Codes) -> Look
     ensures { LooksIn description.now table.now bits pixel result }
 {
-    let DescriptionFound::Known(d) = described(description) else {
+    let Some(d) = described(description) else {
         return Look::Refused(Refusal::CouldNotBeRead);
     };
     look(d, table, bits, pixel)
@@ -87,7 +87,7 @@ pub fn erythmoda_look(
 fn rows_in(description: &[i64; 11], table: &[i64], raw: u32, pixel: Codes) -> FirstHalf
     ensures { FindsRowsIn description.now table.now raw pixel result }
 {
-    let DescriptionFound::Known(d) = described(description) else {
+    let Some(d) = described(description) else {
         return FirstHalf::Refused(Refusal::CouldNotBeRead);
     };
     first_half(d, table, raw, pixel)
@@ -115,7 +115,7 @@ pub fn erythmoda_rows(
 fn codes_in(description: &[i64; 11], table: &[i64], bits: Bits, shares: Shares) -> SecondHalf
     ensures { GivesCodesIn description.now table.now bits shares result }
 {
-    let DescriptionFound::Known(d) = described(description) else {
+    let Some(d) = described(description) else {
         return SecondHalf::Refused(Refusal::CouldNotBeRead);
     };
     second_half(d, table, bits, shares)
@@ -150,7 +150,7 @@ pub fn erythmoda_picture(
 ) -> u32
     ensures { PicturesC description.now table.now (bits_of raw corrected) src.now dst.old result dst.new }
 {
-    let DescriptionFound::Known(d) = described(description) else {
+    let Some(d) = described(description) else {
         return picture_number(Picture::Refused(Refusal::CouldNotBeRead));
     };
     let bits = Bits { raw, corrected };
@@ -161,7 +161,7 @@ pub fn erythmoda_picture(
 fn write_in(description: &[i64; 11], table: &[i64], title: &[u8], out: &mut [u8]) -> Write
     ensures { WritesIn description.now table.now title.now out.old result out.new }
 {
-    let DescriptionFound::Known(d) = described(description) else {
+    let Some(d) = described(description) else {
         return Write::Refused(Refusal::CouldNotBeRead);
     };
     write(d, table, title, out)
@@ -197,10 +197,10 @@ fn inverse_in(
         reason: Refusal::CouldNotBeRead,
         count: 0,
     };
-    let DescriptionFound::Known(d) = described(description) else {
+    let Some(d) = described(description) else {
         return none;
     };
-    let ColourFound::Known(c) = colour_of(colour) else {
+    let Some(c) = colour_of(colour) else {
         return none;
     };
     let aim = Aim {

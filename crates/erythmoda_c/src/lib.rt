@@ -1,5 +1,6 @@
 // The C boundary's archive: each call of the library `erythmoda` under the name that loggers link (include/erythmoda.h), with its promise. A crate is a library
 // or a static library, so the calls are written there, and here they are given to C.
+// Stays: what goes together (the widths, rows and weights, the eleven numbers) comes apart here, as the C interface has it.
 #![tactic(auto)]
 
 ghost use Rattle.rules.specs.Units.{bits_of};

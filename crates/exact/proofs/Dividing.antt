@@ -90,15 +90,16 @@ module _ {rest unit most : ℕ} (less : rest < unit) where
           all = λ e. absurd (false≢true e);
         }
 
-    pub cut : 0 < now → count ≡ most → LongDivision rest unit most (record { digits = digits; count = count; more = true })
-    cut here end =
-        record {
+    pub at-most : count ≡ most → LongDivision rest unit most (record { digits = digits; count = most; more = ltb 0 now })
+    at-most end =
+        subst (λ n. LongDivision rest unit most (record { digits = digits; count = n; more = ltb 0 now })) end
+        (record {
           within = d.within;
           digits = d.quotient;
-          more = sym (lt-ltb 0 (left rest unit count) (subst (λ n. 0 < n) d.now-left here));
+          more = ap (ltb 0) d.now-left;
           fewest = d.fewest;
           all = λ e. end;
-        }
+        })
 
 -- ---- the answer is one only
 
@@ -133,4 +134,4 @@ third : LongDivision 1 3 2 (record { digits = 33; count = 2; more = true })
 third =
     let less : 1 < 3 = omega arith in
     let one : Dividing 1 3 2 1 3 1 = next less (begun less) (omega arith) (omega arith) in
-    cut less (next less one (omega arith) (omega arith)) (omega arith) refl
+    at-most less (next less one (omega arith) (omega arith)) refl

@@ -18,23 +18,21 @@ pub fn decimals_of(rest: u64, unit: u64, most: usize) -> Places
 {
     let mut left = rest;
     let mut digits: u64 = 0;
-    let mut count: usize = 0;
-    while left > 0 {
-        if count == most {
+    for count in 0..most {
+        if left == 0 {
             return Places {
                 digits,
                 count,
-                more: true,
+                more: false,
             };
         }
         let tenfold = left * 10;
         digits = digits * 10 + tenfold / unit;
         left = tenfold % unit;
-        count += 1;
     }
     Places {
         digits,
-        count,
-        more: false,
+        count: most,
+        more: left > 0,
     }
 }

@@ -5,17 +5,12 @@ ghost use Rattle.rules.specs.Demands.{is_data};
 ghost use Rattle.explain.specs.RowLines.{line_of_row};
 
 use rules::Form;
-use text::{Cursor, Step, form_of};
+use text::{Cursor, Line, form_of};
 
 fn is_data(l: &[u8]) -> bool
     ensures { result ≡ is_data (form_of l.now) }
 {
-    match form_of(l) {
-        Form::Data => true,
-        Form::Idle => false,
-        Form::Keyed(_) => false,
-        Form::Neither => false,
-    }
+    matches!(form_of(l), Form::Data)
 }
 
 // The number of the line on which a row stands; 0 if the file has no such row.
@@ -24,16 +19,13 @@ pub fn line_of(file: &[u8], row: usize) -> usize
 {
     let mut c = Cursor::new();
     let mut rows_before = row;
-    loop {
-        let Step::Line {
-            start,
-            end,
-            line,
-            next,
-        } = c.next_line(file)
-        else {
-            return 0;
-        };
+    while let Some(Line {
+        start,
+        end,
+        line,
+        next,
+    }) = c.next_line(file)
+    {
         if is_data(&file[start..end]) {
             if rows_before == 0 {
                 return line;
@@ -42,4 +34,5 @@ pub fn line_of(file: &[u8], row: usize) -> usize
         }
         c = next;
     }
+    0
 }

@@ -9,7 +9,6 @@ ghost use Rattle.explain.specs.Spans.{carries, widened, span_of, shown_span, See
 use colour::row_code;
 use halves::{Four, four_of};
 use rules::{Colour, Depths, Description, Share, Shares};
-use whole::{greater_code, lesser_code};
 
 // The least and the greatest of some codes.
 #[derive(Clone, Copy)]
@@ -34,8 +33,8 @@ fn wider(span: Span, table: &[i64], m: u16, c: Colour, share: Share) -> Span
         return span;
     }
     let code = row_code(table, m, c, share.row);
-    let least = lesser_code(code, span.least);
-    let greatest = greater_code(code, span.greatest);
+    let least = code.min(span.least);
+    let greatest = code.max(span.greatest);
     Span { least, greatest }
 }
 

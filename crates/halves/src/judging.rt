@@ -11,7 +11,7 @@ use crate::fours::{Four, four_of};
 use colour::den_of;
 use judge::count_rows;
 use rules::{Colour, Description, Judged, Share, Shares};
-use whole::{Whole, lesser};
+use whole::Whole;
 
 // ---- what is found of them
 
@@ -56,7 +56,7 @@ fn part_of(den: u64, share: Share) -> u64
     ensures { result ≡ min (suc den) (up share.weight) }
 {
     let weight = Whole(share.weight);
-    lesser(den + 1, weight.above())
+    (den + 1).min(weight.above())
 }
 
 // Weights that are not negative add up to D.

@@ -24,16 +24,7 @@ mod judging;
 fn codes_within(m: u16, pixel: Codes) -> bool
     ensures { result ≡ within m pixel }
 {
-    let red = pixel.red;
-    let green = pixel.green;
-    let blue = pixel.blue;
-    if m < red {
-        return false;
-    }
-    if m < green {
-        return false;
-    }
-    blue <= m
+    pixel.red <= m && pixel.green <= m && pixel.blue <= m
 }
 
 // The first half past 24 and 20, by a plan and its raw M: 23, or the rows and weights.

@@ -29,10 +29,7 @@ pub struct Found {
 pub fn apart(a: u16, b: u16) -> u16
     ensures { result ≡ apart a b }
 {
-    if a < b {
-        return b - a;
-    }
-    a - b
+    a.abs_diff(b)
 }
 
 // How far a raw code's corrected code is from the wanted one.
@@ -60,9 +57,8 @@ fn try_next(line: Line, table: &[i64], wanted: u16, found: Found) -> Found
         };
     }
     Found {
-        nearest: found.nearest,
-        off: found.off,
         tries: next,
+        ..found
     }
 }
 
@@ -78,6 +74,7 @@ fn search(line: Line, table: &[i64], wanted: u16, m: u16) -> Found
         off: off_by(line, table, wanted, 0),
         tries: 1,
     };
+    // Stays: how many codes were tried is a part of the answer, so it is counted there; `for code in 1..=m` would count it once more beside `found.tries`.
     while found.tries <= last {
         if found.off == 0 {
             return found;

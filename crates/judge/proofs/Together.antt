@@ -1,7 +1,7 @@
 -- The bits of numbers taken together, by `or`, are at least the bits of each. So where they read as a number that is not negative, none of the numbers is further from 0 than it.
 use Prim.Native.Nat.{ℕ, ◌+◌, ◌≤◌, ◌<◌}
-use mathlib.Core.Path.{◌≡◌, sym}
-use mathlib.Core.Bool.{true, false, false≢true}
+use mathlib.Core.Path.{◌≡◌}
+use mathlib.Core.Bool.{true, false≢true}
 use mathlib.Core.List.{List}
 use native.Mathlib.Decide.{dec_lt}
 use native.Mathlib.Nat.{le_refl}
@@ -11,7 +11,7 @@ use borrow.Author.Tests.{ltb-true, le-ltb}
 use lib.Bits.{bit_or, or_add_and, and_le_l, and_le_r}
 use lib.IntN.{ℤ, pos, negsuc, nat_abs}
 use lib.ListN.{length, get_or}
-use lib.Signed.{lt_z}
+use lib.Signed.{lt_z, le_z}
 use mir.Syntax.{w64}
 use mir.Val.{SFits, to_z, of_z}
 use mir.ValLaws.{to_z_pos}
@@ -33,12 +33,12 @@ abs-bits (pos n) f h = le_refl n
 abs-bits (negsuc n) f h = absurd (omega (arith, f.sfits, h))
 
 -- bits that pass the tests `0 <= any` and `any < limit` are a number below the limit
-below : (any limit : ℕ) → lt_z (to_z w64 any) (pos 0) ≡ false → lt_z (to_z w64 any) (pos limit) ≡ true → (any < 9_223_372_036_854_775_808) × (any < limit)
+below : (any limit : ℕ) → le_z (pos 0) (to_z w64 any) ≡ true → lt_z (to_z w64 any) (pos limit) ≡ true → (any < 9_223_372_036_854_775_808) × (any < limit)
 below any limit e l = by (dec_lt any 9_223_372_036_854_775_808)
   where
     by : Dec (any < 9_223_372_036_854_775_808) → (any < 9_223_372_036_854_775_808) × (any < limit)
     by (yes h) = (h, ltb-true any limit (rw (to_z_pos w64 any h) at l))
-    by (no h) = absurd (false≢true (sym (rw (le-ltb any 9_223_372_036_854_775_808 (omega arith)) at e)))
+    by (no h) = absurd (false≢true (rw (le-ltb any 9_223_372_036_854_775_808 (omega arith)) at e))
 
 -- ---- the numbers passed
 
@@ -59,7 +59,7 @@ together-more xs i any f t h =
 
 -- all are passed, and the limit is one that samples keep
 pub together-fit : (xs : List ℤ) (i any limit : ℕ) → length xs ≤ i → limit ≤ sample_limit → Together xs i any
-    → lt_z (to_z w64 any) (pos 0) ≡ false → lt_z (to_z w64 any) (pos limit) ≡ true → samples_fit xs ≡ true
+    → le_z (pos 0) (to_z w64 any) ≡ true → lt_z (to_z w64 any) (pos limit) ≡ true → samples_fit xs ≡ true
 together-fit xs i any limit all most t e l =
     let (h, less) = below any limit e l in
     each-fit xs (λ k r. omega (arith, t h k (omega arith), less, most))

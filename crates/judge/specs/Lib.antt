@@ -1,2 +1,1 @@
 -- What only the code needs: nothing here has to be believed.
-pub mod Rules

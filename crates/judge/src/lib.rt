@@ -1,11 +1,10 @@
 // Could reading have given this description and this table? Document 01's check 24, with one function for each rule.
 #![tactic(auto)]
 
-ghost use Rattle.std.specs.Prelude.{◌≡◌, ◌%◌, true, ◌&&◌, eqb, leb, nat_abs};
-ghost use Rattle.std.specs.Int.Signed.{le_z};
-ghost use Rattle.rules.specs.Units.{bound_one, bound_limit, greatest_n, in_range, rows_of};
-ghost use Rattle.rules.specs.Descriptions.{every_colour, bounds_fit, ordered, narrow, same_domain, one_domain, whole_bounds, agree, samples_fit, could_be_read};
-ghost use Rattle.judge.specs.Rules.{test, Asked};
+ghost use Rattle.std.specs.Prelude.{◌≡◌, ◌*◌, ◌%◌, Bool, true, ◌&&◌, eqb, leb, nat_abs, length, take};
+ghost use Rattle.rules.specs.Units.{sample_limit, bound_one, bound_limit, greatest_n, in_range, rows_of};
+ghost use Rattle.rules.specs.Descriptions.{rows, every_colour, bounds_fit, ordered, narrow, one_domain, whole_bounds, agree, roomy, samples_fit, could_be_read};
+ghost use Rattle.rules.specs.declared.Domain.{Domain};
 
 use rules::{Description, Domain, Kind, TenMillionths, Thousandths};
 use whole::Whole;
@@ -25,10 +24,7 @@ fn greatest_n(kind: Kind) -> usize
 pub fn in_range(kind: Kind, n: usize) -> bool
     ensures { result ≡ in_range kind n }
 {
-    if n < 2 {
-        return false;
-    }
-    n <= greatest_n(kind)
+    2 <= n && n <= greatest_n(kind)
 }
 
 // A 1D table has N rows, a 3D table N·N·N.
@@ -44,154 +40,76 @@ pub fn count_rows(kind: Kind, n: usize) -> usize
 
 // ---- a domain by itself
 
-// The rules on one domain.
-#[derive(Clone, Copy)]
-pub enum Rule {
-    Within,
-    Ordered,
-    Narrow,
-    Whole,
-}
-
 fn bound_fits(bound: Thousandths) -> bool
     ensures { result ≡ leb (nat_abs bound.0) bound_limit }
 {
-    let z = bound.0;
-    if z < Thousandths::LEAST {
-        return false;
-    }
-    z <= Thousandths::GREATEST
+    Thousandths::LEAST <= bound.0 && bound.0 <= Thousandths::GREATEST
 }
 
 // Both bounds lie from -10 to 10.
+#[tactic(auto, unfolding(rules::specs::Descriptions::bounds_fit))]
 fn bounds_fit(dom: Domain) -> bool
     ensures { result ≡ bounds_fit dom }
 {
-    let lower = dom.lower;
-    let upper = dom.upper;
-    if bound_fits(lower) {
-        return bound_fits(upper);
-    }
-    false
+    bound_fits(dom.lower) && bound_fits(dom.upper)
 }
 
 // The lower bound is below the upper: else 10.
-fn ordered(dom: Domain) -> bool
+pub fn ordered(dom: Domain) -> bool
     ensures { result ≡ ordered dom }
 {
-    let lower = dom.lower;
-    let upper = dom.upper;
-    let lo = lower.0;
-    let hi = upper.0;
-    lo < hi
+    dom.lower.0 < dom.upper.0
 }
 
-// At most 10 wide: else 11. The difference of two bounds that fit is an i64.
-fn narrow(dom: Domain) -> bool
-    requires { bounds_fit dom ≡ true }
+// At most 10 wide: else 11. A difference that is beyond an i64 is as wide as the greatest, or as narrow as the least.
+#[tactic(auto, unfolding(rules::specs::Descriptions::narrow))]
+pub fn narrow(dom: Domain) -> bool
     ensures { result ≡ narrow dom }
 {
-    let lower = dom.lower;
-    let upper = dom.upper;
-    let lo = lower.0;
-    let hi = upper.0;
-    hi - lo <= Thousandths::WIDEST
+    dom.upper.0.saturating_sub(dom.lower.0) <= Thousandths::WIDEST
 }
 
 fn whole_bound(bound: Thousandths) -> bool
     ensures { result ≡ eqb (nat_abs bound.0 % bound_one) 0 }
 {
-    let z = Whole(bound.0);
-    z.size() % Thousandths::ONE == 0
+    Whole(bound.0).size() % Thousandths::ONE == 0
 }
 
 // Both bounds are whole numbers.
+#[tactic(auto, unfolding(rules::specs::Descriptions::whole_bounds))]
 fn whole_bounds(dom: Domain) -> bool
     ensures { result ≡ whole_bounds dom }
 {
-    let lower = dom.lower;
-    let upper = dom.upper;
-    if whole_bound(lower) {
-        return whole_bound(upper);
-    }
-    false
-}
-
-fn domain_keeps(rule: Rule, dom: Domain) -> bool
-    requires { Asked rule (bounds_fit dom) }
-    ensures { result ≡ test rule dom }
-{
-    match rule {
-        Rule::Within => bounds_fit(dom),
-        Rule::Ordered => ordered(dom),
-        Rule::Narrow => narrow(dom),
-        Rule::Whole => whole_bounds(dom),
-    }
+    whole_bound(dom.lower) && whole_bound(dom.upper)
 }
 
 // ---- the three domains
 
-// Each colour's domain keeps the rule.
-pub fn domains_keep(rule: Rule, d: Description) -> bool
-    requires { Asked rule (every_colour bounds_fit d) }
-    ensures { result ≡ every_colour (test rule) d }
+// Each colour's domain keeps a rule: the answer is that of any test that says what the rule says.
+pub fn domains_keep<F: Fn(Domain) -> bool>(rule: F, d: Description) -> bool
+    requires red { F.pre rule d.red }
+    requires green { F.pre rule d.green }
+    requires blue { F.pre rule d.blue }
+    ensures { (test : Domain → Bool) → ((dom : Domain) (kept : Bool) → F.post rule dom kept → kept ≡ test dom) → result ≡ every_colour test d }
 {
-    let red = d.red;
-    let green = d.green;
-    let blue = d.blue;
-    if !domain_keeps(rule, red) {
-        return false;
-    }
-    if !domain_keeps(rule, green) {
-        return false;
-    }
-    domain_keeps(rule, blue)
-}
-
-fn same_bound(a: Thousandths, b: Thousandths) -> bool
-    ensures { result ≡ (le_z a.0 b.0 && le_z b.0 a.0) }
-{
-    let x = a.0;
-    let y = b.0;
-    x == y
-}
-
-fn same_domain(a: Domain, b: Domain) -> bool
-    ensures { result ≡ same_domain a b }
-{
-    let lower = a.lower;
-    let upper = a.upper;
-    if same_bound(lower, b.lower) {
-        return same_bound(upper, b.upper);
-    }
-    false
+    rule(d.red) && rule(d.green) && rule(d.blue)
 }
 
 // The three colours have one domain.
 pub fn one_domain(d: Description) -> bool
     ensures { result ≡ one_domain d }
 {
-    let red = d.red;
-    let green = d.green;
-    let blue = d.blue;
-    if same_domain(green, red) {
-        return same_domain(blue, red);
-    }
-    false
+    d.green == d.red && d.blue == d.red
 }
 
 // In 3D the three colours have one domain, or all six bounds are whole numbers: else 12.
+#[tactic(auto, unfolding(rules::specs::Descriptions::agree))]
 pub fn agree(kind: Kind, d: Description) -> bool
     ensures { result ≡ agree kind d }
 {
     match kind {
         Kind::OneD => true,
-        Kind::ThreeD => {
-            if one_domain(d) {
-                return true;
-            }
-            domains_keep(Rule::Whole, d)
-        }
+        Kind::ThreeD => one_domain(d) || domains_keep(whole_bounds, d),
     }
 }
 
@@ -202,74 +120,55 @@ fn all_small(samples: &[i64]) -> bool
     ensures { result ≡ true → samples_fit samples.now ≡ true }
 {
     let mut any: i64 = 0;
-    let mut i = 0;
-    while i < samples.len() {
-        any = any | samples[i];
-        i += 1;
+    for s in samples {
+        any |= *s;
     }
-    if any < 0 {
-        return false;
-    }
-    any < 8_589_934_592
+    0 <= any && any < 8_589_934_592
 }
 
-// All samples lie from -1000 to 1000 if the least and the greatest of them do.
+fn sample_fits(s: i64) -> bool
+    ensures { result ≡ leb (nat_abs s) sample_limit }
+{
+    TenMillionths::LEAST <= s && s <= TenMillionths::GREATEST
+}
+
+// Each sample by itself.
 fn each_fits(samples: &[i64]) -> bool
     ensures { result ≡ samples_fit samples.now }
 {
-    let mut least = Whole(0);
-    let mut greatest = Whole(0);
-    let mut i = 0;
-    while i < samples.len() {
-        let s = Whole(samples[i]);
-        least = s.lesser(least);
-        greatest = s.greater(greatest);
-        i += 1;
-    }
-    let low = least.0;
-    if low < TenMillionths::LEAST {
-        return false;
-    }
-    let high = greatest.0;
-    high <= TenMillionths::GREATEST
+    samples.iter().all(|s| sample_fits(*s))
 }
 
 // All samples lie from -1000 to 1000: nearly all tables pass by the first way.
 fn samples_fit(samples: &[i64]) -> bool
     ensures { result ≡ samples_fit samples.now }
 {
-    if all_small(samples) {
-        return true;
-    }
-    each_fits(samples)
+    all_small(samples) || each_fits(samples)
 }
 
 // ---- 24
 
+// The table has its 3·rows numbers, and each of them fits.
+#[tactic(auto, unfolding(rules::specs::Descriptions::roomy))]
+fn table_fits(d: Description, table: &[i64]) -> bool
+    requires { in_range d.kind d.n ≡ true }
+    ensures { result ≡ (roomy (length table.now) d && samples_fit (take (3 * rows d) table.now)) }
+{
+    let numbers = 3 * count_rows(d.kind, d.n);
+    numbers <= table.len() && samples_fit(&table[..numbers])
+}
+
+// Each domain by itself.
+fn domains_fit(d: Description) -> bool
+    ensures { result ≡ (every_colour bounds_fit d && (every_colour ordered d && every_colour narrow d)) }
+{
+    domains_keep(bounds_fit, d) && domains_keep(ordered, d) && domains_keep(narrow, d)
+}
+
 // Could reading have given them? The title's fields play no part.
+#[tactic(auto, unfolding(rules::specs::Descriptions::could_be_read))]
 pub fn could_be_read(d: Description, table: &[i64]) -> bool
     ensures { result ≡ could_be_read d table.now }
 {
-    let kind = d.kind;
-    let n = d.n;
-    if !in_range(kind, n) {
-        return false;
-    }
-    if !domains_keep(Rule::Within, d) {
-        return false;
-    }
-    if !domains_keep(Rule::Ordered, d) {
-        return false;
-    }
-    if !domains_keep(Rule::Narrow, d) {
-        return false;
-    }
-    if !agree(kind, d) {
-        return false;
-    }
-    let numbers = 3 * count_rows(kind, n);
-    if table.len() < numbers {
-        return false;
-    }
-    samples_fit(&table[..numbers])
+    in_range(d.kind, d.n) && domains_fit(d) && agree(d.kind, d) && table_fits(d, table)
 }

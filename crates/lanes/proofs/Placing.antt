@@ -29,6 +29,7 @@ use Rattle.lanes.specs.Paths.{fraction_in, stride_in, Keyed, Climbs, path_total,
 use Rattle.lanes.specs.declared.cube.Cube.{Cube}
 use Rattle.lanes.specs.declared.lane.Lane.{Lane}
 use Rattle.lanes.specs.declared.path.Path.{Path}
+use Rattle.lanes.specs.declared.path.Spot.{Spot}
 use Rattle.lanes.proofs.Cubing.{den-narrow, parts-codable}
 use Rattle.lanes.proofs.Parting.{stride_most}
 use Rattle.lanes.proofs.Values.{index_on, fraction_on, three_d, cube-reads, cube-value}
@@ -73,7 +74,7 @@ module _ {cube : Cube} {table : List ℤ} (q : Cubed cube table) where
 
 -- ---- a pixel
 
-module _ {cube : Cube} {table : List ℤ} {start red green blue : ℕ} (p : Placed cube table start red green blue) where
+module _ {cube : Cube} {table : List ℤ} {spot : Spot} (p : Placed cube table spot) where
   abbrev q : Cubed cube table
   q = p.cubed
 
@@ -81,7 +82,7 @@ module _ {cube : Cube} {table : List ℤ} {start red green blue : ℕ} (p : Plac
   den = cube.axis.den
 
   abbrev keys : Colour → ℕ
-  keys = three red green blue
+  keys = three spot.red spot.green spot.blue
 
   abbrev i : Colour → ℕ
   i = index_on cube p.pixel
@@ -110,7 +111,7 @@ module _ {cube : Cube} {table : List ℤ} {start red green blue : ℕ} (p : Plac
       let s = stride (n q) k in
       ap (λ x. i k * x) (lane-stride q k) ∙ NatL.mul_comm (i k) (3 * s) ∙ NatL.mul_assoc 3 s (i k)
 
-  start_is : start ≡ 3 * row_at (n q) i
+  start_is : spot.start ≡ 3 * row_at (n q) i
   start_is = omega (arith, p.at.start_is, offset-is Red, offset-is Green, offset-is Blue)
 
   -- ---- which makes them keys, and their path one of the table
@@ -128,11 +129,11 @@ module _ {cube : Cube} {table : List ℤ} {start red green blue : ℕ} (p : Plac
   across_is = omega (arith, q.across_is, lane-stride q Red, lane-stride q Green, lane-stride q Blue)
 
   -- the end of the path is a row of the table
-  room : start + cube.across < 9_223_372_036_854_775_808
+  room : spot.start + cube.across < 9_223_372_036_854_775_808
   unfolding path_by climb
   room = omega (arith, start_is, across_is, (path-rows (n q) den i f rgb cell).1.1.1.0, rows-below q)
 
-  pub keyed : Keyed den cube.across start keys
+  pub keyed : Keyed den cube.across spot.start keys
   keyed =
       record {
         narrow = narrow;
@@ -141,7 +142,7 @@ module _ {cube : Cube} {table : List ℤ} {start red green blue : ℕ} (p : Plac
         room = room;
       }
 
-  module _ {path : Path} (w : Climbs start den keys path) where
+  module _ {path : Path} (w : Climbs spot.start den keys path) where
     pub climbs-fit : PathFits table path
     climbs-fit = walked-fits table (n q) i w start_is stride_is narrow part cell (rows-stand q)
 

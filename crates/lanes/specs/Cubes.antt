@@ -1,5 +1,5 @@
 -- A cube: what its numbers are to a plan, and what its lanes say of a pixel.
-use Rattle.std.specs.Prelude.{ℕ, ◌+◌, ◌*◌, ◌/◌, ◌≤◌, ◌<◌, ◌≡◌, true, List, leb, ℤ, nat_abs}
+use Rattle.std.specs.Prelude.{ℕ, ◌+◌, ◌*◌, ◌/◌, ◌≤◌, ◌<◌, ◌≡◌, true, Option, Some, None, IfSome, List, leb, ℤ, nat_abs}
 use Rattle.whole.specs.Reciprocals.{reciprocal_of, excess, two_to87, wide_of}
 use Rattle.rules.specs.Units.{raw_m, corrected_m, code_in}
 use Rattle.rules.specs.declared.Codes.{Codes}
@@ -14,14 +14,11 @@ use Rattle.colour.specs.declared.plan.Plan.{Plan}
 use Rattle.lanes.specs.Lanes.{key_by, offset_by, RunsAlong}
 use Rattle.lanes.specs.Parts.{Parted}
 use Rattle.lanes.specs.declared.cube.Cube.{Cube}
-use Rattle.lanes.specs.declared.cube.CubeFound.{CubeFound}
-use Rattle.lanes.specs.declared.cube.CubeFound.TheVariants as C
 use Rattle.lanes.specs.declared.cube.Lanes.{Lanes}
-use Rattle.lanes.specs.declared.cube.LanesFound.{LanesFound}
-use Rattle.lanes.specs.declared.cube.LanesFound.TheVariants as S
+use Rattle.lanes.specs.declared.cube.Way.{Way}
+use Rattle.lanes.specs.declared.cube.Way.TheVariants.{Near, Far}
 use Rattle.lanes.specs.declared.lane.Lane.{Lane}
-use Rattle.lanes.specs.declared.lane.LaneFound.{LaneFound}
-use Rattle.lanes.specs.declared.lane.LaneFound.TheVariants as L
+use Rattle.lanes.specs.declared.path.Spot.{Spot}
 
 -- ---- the lanes of a plan
 
@@ -32,18 +29,16 @@ pub record LaneOf (g m cells : ℕ) (axis : Axis) (lane : Lane) : Type 0 where
   pub runs : RunsAlong m cells parts.den (parts.each * cells) (nat_abs parts.low.0 * cells) lane
   pub stride_is : lane.stride ≡ 3 * axis.stride
 
-abbrev pub LaneIf : ℕ → ℕ → ℕ → Axis → LaneFound → Type 0
-LaneIf g m cells axis (L.Runs lane) = LaneOf g m cells axis lane
-LaneIf g m cells axis L.Beyond = Unit {0}
+abbrev pub LaneIf : ℕ → ℕ → ℕ → Axis → Option Lane → Type 0
+LaneIf g m cells axis found = IfSome found (λ lane. LaneOf g m cells axis lane)
 
 abbrev pub lane_in : Lanes → Colour → Lane
 lane_in lanes Red = lanes.red
 lane_in lanes Green = lanes.green
 lane_in lanes Blue = lanes.blue
 
-abbrev pub LanesIf : ℕ → ℕ → Plan → LanesFound → Type 0
-LanesIf g m plan (S.All lanes) = (c : Colour) → LaneOf g m plan.cells (axis_in plan c) (lane_in lanes c)
-LanesIf g m plan S.Beyond = Unit {0}
+abbrev pub LanesIf : ℕ → ℕ → Plan → Option Lanes → Type 0
+LanesIf g m plan found = IfSome found (λ lanes. (c : Colour) → LaneOf g m plan.cells (axis_in plan c) (lane_in lanes c))
 
 -- ---- a cube of a plan
 
@@ -86,10 +81,10 @@ pub record Single (cube : Cube) : Type 0 where
   pub one : cube.times ≡ 1
   pub exact : leb ((cube.axis.full + cube.half) * excess cube.axis.unit) 18_446_744_073_709_551_615 ≡ true
 
-abbrev pub NearOrFar : Cube → CubeFound → Type 0
-NearOrFar cube (C.Near c) = (c ≡ cube) × (Wide cube × Single cube)
-NearOrFar cube (C.Far c) = (c ≡ cube) × Wide cube
-NearOrFar cube C.Beyond = Unit {0}
+abbrev pub NearOrFar : Cube → Option Way → Type 0
+NearOrFar cube (Some (Near c)) = (c ≡ cube) × (Wide cube × Single cube)
+NearOrFar cube (Some (Far c)) = (c ≡ cube) × Wide cube
+NearOrFar cube None = Unit {0}
 
 -- so that its sums are codes by one product
 pub record Nearby (cube : Cube) : Type 0 where
@@ -104,23 +99,23 @@ pub record CubedFor (d : Description) (depths : Depths) (cube : Cube) (table : L
   pub d_is : cubed.planned.d ≡ d
   pub depths_are : cubed.planned.depths ≡ depths
 
-abbrev pub CubedIf : Description → Depths → List ℤ → CubeFound → Type 0
-CubedIf d depths table (C.Near cube) = CubedFor d depths cube table × Nearby cube
-CubedIf d depths table (C.Far cube) = CubedFor d depths cube table
-CubedIf d depths table C.Beyond = Unit {0}
+abbrev pub CubedIf : Description → Depths → List ℤ → Option Way → Type 0
+CubedIf d depths table (Some (Near cube)) = CubedFor d depths cube table × Nearby cube
+CubedIf d depths table (Some (Far cube)) = CubedFor d depths cube table
+CubedIf d depths table None = Unit {0}
 
 -- ---- a pixel
 
 -- the start and the keys of a pixel by the lanes
-pub record PixelAt (cube : Cube) (pixel : Codes) (start red green blue : ℕ) : Type 0 where
-  pub start_is : start ≡ offset_by cube.lanes.red pixel.red + offset_by cube.lanes.green pixel.green + offset_by cube.lanes.blue pixel.blue
-  pub red_is : red ≡ key_by cube.axis.den cube.lanes.red pixel.red
-  pub green_is : green ≡ key_by cube.axis.den cube.lanes.green pixel.green
-  pub blue_is : blue ≡ key_by cube.axis.den cube.lanes.blue pixel.blue
+pub record PixelAt (cube : Cube) (pixel : Codes) (spot : Spot) : Type 0 where
+  pub start_is : spot.start ≡ offset_by cube.lanes.red pixel.red + offset_by cube.lanes.green pixel.green + offset_by cube.lanes.blue pixel.blue
+  pub red_is : spot.red ≡ key_by cube.axis.den cube.lanes.red pixel.red
+  pub green_is : spot.green ≡ key_by cube.axis.den cube.lanes.green pixel.green
+  pub blue_is : spot.blue ≡ key_by cube.axis.den cube.lanes.blue pixel.blue
 
 -- those of a pixel within the raw depth, by a cube of the table
-pub record Placed (cube : Cube) (table : List ℤ) (start red green blue : ℕ) : Type 0 where
+pub record Placed (cube : Cube) (table : List ℤ) (spot : Spot) : Type 0 where
   pub cubed : Cubed cube table
   pub pixel : Codes
   pub inside : (c : Colour) → code_in pixel c ≤ raw_m cubed.planned.depths
-  pub at : PixelAt cube pixel start red green blue
+  pub at : PixelAt cube pixel spot

@@ -1,8 +1,6 @@
 -- A lane: where the codes of one colour stand, by one product.
-use Rattle.std.specs.Prelude.{ℕ, ◌+◌, ◌*◌, ◌/◌, ◌%◌, ◌≤◌, ◌<◌, ◌≡◌}
+use Rattle.std.specs.Prelude.{ℕ, ◌+◌, ◌*◌, ◌/◌, ◌%◌, ◌≤◌, ◌<◌, ◌≡◌, Option, IfSome}
 use Rattle.lanes.specs.declared.lane.Lane.{Lane}
-use Rattle.lanes.specs.declared.lane.LaneFound.{LaneFound}
-use Rattle.lanes.specs.declared.lane.LaneFound.TheVariants.{Runs, Beyond}
 
 -- ---- what is made of a code
 
@@ -44,6 +42,5 @@ pub record RunsAlong (m cells den a b : ℕ) (lane : Lane) : Type 0 where
   pub slow : lane.times < 4_294_967_296
   pub near : lane.from ≤ 4_294_967_296 * cells
 
-abbrev pub RunsIf : ℕ → ℕ → ℕ → ℕ → ℕ → ℕ → LaneFound → Type 0
-RunsIf m cells den a b stride (Runs lane) = RunsAlong m cells den a b lane × (lane.stride ≡ stride)
-RunsIf m cells den a b stride Beyond = Unit {0}
+abbrev pub RunsIf : ℕ → ℕ → ℕ → ℕ → ℕ → ℕ → Option Lane → Type 0
+RunsIf m cells den a b stride found = IfSome found (λ lane. RunsAlong m cells den a b lane × (lane.stride ≡ stride))

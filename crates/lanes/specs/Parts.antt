@@ -1,10 +1,8 @@
 -- An axis in greater parts.
-use Rattle.std.specs.Prelude.{ℕ, ◌*◌, ◌%◌, ◌≤◌, ◌<◌, ◌≡◌, pos, neg_ℤ, nat_abs}
+use Rattle.std.specs.Prelude.{ℕ, ◌*◌, ◌%◌, ◌≤◌, ◌<◌, ◌≡◌, Option, IfSome, pos, neg_ℤ, nat_abs}
 use Rattle.whole.specs.Reciprocals.{divisor_of}
 use Rattle.rules.specs.Looking.Interpolation.{denominator}
 use Rattle.colour.specs.declared.plan.Axis.{Axis}
-use Rattle.lanes.specs.declared.parts.AxisFound.{AxisFound}
-use Rattle.lanes.specs.declared.parts.AxisFound.TheVariants.{In, Beyond}
 
 pub record GoesInto (g : ℕ) (axis : Axis) : Type 0 where
   pub most : g ≤ axis.den
@@ -24,6 +22,5 @@ pub record Parted (g : ℕ) (axis parts : Axis) : Type 0 where
   pub stride_is : parts.stride ≡ axis.stride
   pub least : 8_388_608 < parts.unit
 
-abbrev pub PartedIf : ℕ → Axis → AxisFound → Type 0
-PartedIf g axis (In parts) = Parted g axis parts
-PartedIf g axis Beyond = Unit {0}
+abbrev pub PartedIf : ℕ → Axis → Option Axis → Type 0
+PartedIf g axis found = IfSome found (λ parts. Parted g axis parts)

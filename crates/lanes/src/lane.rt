@@ -13,19 +13,13 @@ pub struct Lane {
     pub stride: u32,
 }
 
-#[derive(Clone, Copy)]
-pub enum LaneFound {
-    Runs(Lane),
-    Beyond,
-}
-
 // 2^32, the spot of the first row's end, and the greatest number that is taken times it here.
 pub const WHOLE: u64 = 4_294_967_296;
 
 const MOST: u64 = 2_147_483_648;
 
-// The lane of positions a·c + b over D, for codes c up to m in so many cells, if rounding cannot come to a part of D.
-pub fn lane_of(m: u64, cells: u64, den: u64, a: u64, b: u64, stride: u32) -> LaneFound
+// The lane of positions a·c + b over D, for codes c up to m in so many cells, if rounding cannot come to a part of D; else none.
+pub fn lane_of(m: u64, cells: u64, den: u64, a: u64, b: u64, stride: u32) -> Option<Lane>
     requires m_nonzero { 0 < m }
     requires m_bound { m ≤ 65535 }
     requires cells_bound { cells ≤ 65535 }
@@ -33,31 +27,31 @@ pub fn lane_of(m: u64, cells: u64, den: u64, a: u64, b: u64, stride: u32) -> Lan
     ensures { RunsIf m cells den a b stride result }
 {
     if a == 0 {
-        return LaneFound::Beyond;
+        return None;
     }
     if a > MOST {
-        return LaneFound::Beyond;
+        return None;
     }
     if b > MOST {
-        return LaneFound::Beyond;
+        return None;
     }
     if den > MOST {
-        return LaneFound::Beyond;
+        return None;
     }
     if a * m + b > cells * den {
-        return LaneFound::Beyond;
+        return None;
     }
     let times = (WHOLE * a - 1) / den;
     if times >= WHOLE {
-        return LaneFound::Beyond;
+        return None;
     }
     let from = WHOLE * b / den;
     let short = (WHOLE * a - 1) % den + 1;
     let rest = WHOLE * b % den;
     if m * short + rest >= WHOLE {
-        return LaneFound::Beyond;
+        return None;
     }
-    LaneFound::Runs(Lane {
+    Some(Lane {
         times: times as u32,
         from,
         stride,

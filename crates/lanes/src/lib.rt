@@ -9,7 +9,8 @@ mod parts;
 mod path;
 mod spots;
 
-pub use cube::{Cube, CubeFound, Lanes, cube_of, far_codes, lane_along, near_codes};
-pub use lane::{Lane, LaneFound, WHOLE};
-pub use parts::{AxisFound, common_in, parted};
+pub use cube::{Cube, Lanes, Way, codes_by, cube_of, lane_along};
+pub use lane::{Lane, WHOLE};
+pub use parts::{common_in, parted};
+pub use path::Spot;
 pub use spots::{find_spots, lay_lanes};

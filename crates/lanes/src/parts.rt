@@ -8,12 +8,6 @@ use colour::{Axis, Plan};
 use rules::TenMillionths;
 use whole::{Divisor, Whole, common_divisor};
 
-#[derive(Clone, Copy)]
-pub enum AxisFound {
-    In(Axis),
-    Beyond,
-}
-
 fn common_with(g: u64, axis: Axis) -> u64 {
     let low = axis.low;
     let inner = common_divisor(axis.each, low.size());
@@ -64,7 +58,7 @@ fn goes_into(g: u64, axis: Axis) -> bool
 const LEAST_UNIT: u64 = 8_388_609;
 
 // The axis in parts of g each, if g goes into it and no code is below its lower bound.
-pub fn parted(axis: Axis, g: u64) -> AxisFound
+pub fn parted(axis: Axis, g: u64) -> Option<Axis>
     requires axis_fits { AxisFits axis }
     requires g_nonzero { 0 < g }
     requires unit_bound { axis.unit < 9_223_372_036_854_775_808 }
@@ -72,17 +66,17 @@ pub fn parted(axis: Axis, g: u64) -> AxisFound
 {
     let low = axis.low;
     if low.above() > 0 {
-        return AxisFound::Beyond;
+        return None;
     }
     if !goes_into(g, axis) {
-        return AxisFound::Beyond;
+        return None;
     }
     let den = axis.den / g;
     let unit = axis.unit / g;
     if unit < LEAST_UNIT {
-        return AxisFound::Beyond;
+        return None;
     }
-    AxisFound::In(Axis {
+    Some(Axis {
         each: axis.each / g,
         low: low.over(g),
         den,

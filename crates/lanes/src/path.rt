@@ -8,13 +8,22 @@ ghost use Rattle.lanes.specs.Paths.{Keyed, CornerIs, Climbs, sample_from, path_t
 use crate::lane::WHOLE;
 use colour::{colour_place, with_term};
 use rules::{Colour, TenMillionths};
-use whole::{Whole, greater, lesser};
+use whole::Whole;
 
 // A row by the place of its first number, with its weight.
 #[derive(Clone, Copy)]
 pub struct Corner {
     pub place: usize,
     pub weight: Whole,
+}
+
+// Where a pixel begins, and its three keys.
+#[derive(Clone, Copy)]
+pub struct Spot {
+    pub start: u64,
+    pub red: u64,
+    pub green: u64,
+    pub blue: u64,
 }
 
 #[derive(Clone, Copy)]
@@ -37,16 +46,17 @@ fn corner_of(place: u64, weight: u64) -> Corner
 
 // From a start, one stride along each axis, the greatest fraction first; in which order equal ones stand is left to their strides, as it gives the same
 // sum. The three strides together lead across.
-pub fn path_of(den: u64, across: u64, start: u64, red: u64, green: u64, blue: u64) -> Path
-    requires { Keyed den across start (three red green blue) }
-    ensures { Climbs start den (three red green blue) result }
+pub fn path_of(den: u64, across: u64, spot: Spot) -> Path
+    requires { Keyed den across spot.start (three spot.red spot.green spot.blue) }
+    ensures { Climbs spot.start den (three spot.red spot.green spot.blue) result }
 {
-    let upper = greater(red, green);
-    let lower = lesser(red, green);
-    let one = greater(upper, blue);
-    let middle = lesser(upper, blue);
-    let two = greater(lower, middle);
-    let last = lesser(lower, middle);
+    let start = spot.start;
+    let upper = spot.red.max(spot.green);
+    let lower = spot.red.min(spot.green);
+    let one = upper.max(spot.blue);
+    let middle = upper.min(spot.blue);
+    let two = lower.max(middle);
+    let last = lower.min(middle);
     let f1 = one / WHOLE;
     let f2 = two / WHOLE;
     let f3 = last / WHOLE;

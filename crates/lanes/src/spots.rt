@@ -28,13 +28,11 @@ pub fn lay_lanes(lanes: Lanes, times: &mut [u64], from: &mut [u64], strides: &mu
     requires strides_len { length strides.old ≡ length times.old }
     ensures { Laid lanes (length times.old) times.new from.new strides.new }
 {
-    let mut j = 0;
-    while j < times.len() {
+    for j in 0..times.len() {
         let lane = lane_at(lanes, j);
         times[j] = lane.times as u64;
         from[j] = lane.from;
         strides[j] = lane.stride as u64;
-        j += 1;
     }
 }
 
@@ -78,6 +76,7 @@ pub fn find_spots(
     requires { Roomy (length codes.now) times.now from.now strides.now (length keys.old) (length starts.old) }
     ensures { Spotted den codes.now times.now from.now strides.now keys.new starts.new }
 {
+    // Stays: with `for j in 0..codes.len()` here and `for` over the pixels of a block one at 10 bits takes 147.8 instructions, and so 131.2.
     let mut j = 0;
     while j < codes.len() {
         let spot = spot_at(codes[j], times[j], from[j]);

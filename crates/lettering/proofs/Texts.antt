@@ -6,7 +6,7 @@ use native.Mathlib.Omega.{arith}
 use lib.ListN.{length, take, get_or, set, length-append}
 use lib.Seq.{take-length, length-take-le}
 use Rattle.rules.specs.Memory.{spliced}
-use Rattle.rules.proofs.Memory.{splice-none, splice-length, splice-both, splice-more, store-splice}
+use Rattle.rules.proofs.Memory.{splice-none, splice-length, splice-both, splice-more}
 use Rattle.lettering.specs.Putting.{Room, Puts}
 
 -- ---- byte by byte
@@ -15,9 +15,6 @@ use Rattle.lettering.specs.Putting.{Room, Puts}
 pub record PutInPart (out₀ : List ℕ) (at : ℕ) (text : List ℕ) (i : ℕ) (out : List ℕ) : Type 0 where
   pub some : i ≤ length text
   pub memory : out ≡ spliced out₀ at (take i text)
-
-pub none-put : (out : List ℕ) (at : ℕ) (text : List ℕ) → PutInPart out at text 0 out
-none-put out at text = record { some = omega arith; memory = sym (splice-none out at) }
 
 module _ {out₀ : List ℕ} {at : ℕ} {text : List ℕ} {i : ℕ} {out : List ℕ} (p : PutInPart out₀ at text i out) (room : Room out₀ at text) where
   pub part_length : length out ≡ length out₀
@@ -30,10 +27,6 @@ module _ {out₀ : List ℕ} {at : ℕ} {text : List ℕ} {i : ℕ} {out : List 
   all-put h =
       let all : i ≡ length text = omega (arith, p.some) in
       record { fits = room.fits; after = refl; memory = p.memory ∙ ap (spliced out₀ at) (ap (λ n. take n text) all ∙ take-length text) }
-
--- one byte
-pub byte_put : (out : List ℕ) (at b : ℕ) → Room out at (b ∷ []) → Puts out at (b ∷ []) (at + 1) (set out at b)
-byte_put out at b room = record { fits = room.fits; after = refl; memory = store-splice out at b (omega (arith, room.fits)) }
 
 -- no byte
 pub nothing_put : (out : List ℕ) (at : ℕ) → at ≤ length out → Puts out at [] at out
@@ -62,37 +55,10 @@ module _ {out : List ℕ} {at : ℕ} {a : List ℕ} {mid : ℕ} {out' : List ℕ
     memory = q.memory ∙ ap₂ (λ o n. spliced o n b) p.memory p.after ∙ splice-both out at a b p.fits;
   }
 
--- ---- three texts: the one put last stands first in a law, so that a search goes back from it
+-- of three, after the first there is room for the second
+pub next-part : {out : List ℕ} {at : ℕ} {a : List ℕ} {mid : ℕ} {out' : List ℕ} (b more : List ℕ) → Puts out at a mid out' → Room out at (a ++ (b ++ more)) → Room out' mid b
+next-part b more p room = first-room b more (next-room p (b ++ more) room)
 
-module _ {out : List ℕ} {at : ℕ} {a : List ℕ} {mid : ℕ} {out' : List ℕ} (b more : List ℕ) where
-  -- after the first there is room for the second
-  pub next-part : Puts out at a mid out' → Room out at (a ++ (b ++ more)) → Room out' mid b
-  next-part p room = first-room b more (next-room p (b ++ more) room)
-
-  -- and after the second for the third
-  pub last-part : {last : ℕ} {out'' : List ℕ} → Puts out' mid b last out'' → Puts out at a mid out' → Room out at (a ++ (b ++ more)) → Room out'' last more
-  last-part q p room = next-room q more (next-room p (b ++ more) room)
-
--- ---- fields: a text with the byte that ends it, and what follows
-
-module _ {out : List ℕ} {at : ℕ} {a : List ℕ} {mid : ℕ} {out' : List ℕ} (f : List ℕ) (end : ℕ) (more : List ℕ) where
-  -- after a text there is room for the field
-  pub next_field : Puts out at a mid out' → Room out at (a ++ (f ++ (end ∷ more))) → Room out' mid (f ++ (end ∷ []))
-  next_field p room = next-part (f ++ (end ∷ [])) more p (rw (append_assoc f (end ∷ []) more) room)
-
-  -- and after the field for what follows
-  pub last-field : {last : ℕ} {out'' : List ℕ} → Puts out' mid (f ++ (end ∷ [])) last out'' → Puts out at a mid out' → Room out at (a ++ (f ++ (end ∷ more))) → Room out'' last more
-  last-field q p room = last-part (f ++ (end ∷ [])) more q p (rw (append_assoc f (end ∷ []) more) room)
-
--- a field that stands first: there is room for it, and after it for what follows
+-- a text with the byte that ends it, which stands first: there is room for it
 pub first_field : {out : List ℕ} {at : ℕ} (f : List ℕ) (end : ℕ) (more : List ℕ) → Room out at (f ++ (end ∷ more)) → Room out at (f ++ (end ∷ []))
 first_field f end more room = first-room (f ++ (end ∷ [])) more (rw (append_assoc f (end ∷ []) more) room)
-
-pub after-field : {out : List ℕ} {at : ℕ} (f : List ℕ) (end : ℕ) (more : List ℕ) {mid : ℕ} {out' : List ℕ}
-    → Puts out at (f ++ (end ∷ [])) mid out' → Room out at (f ++ (end ∷ more)) → Room out' mid more
-after-field f end more p room = next-room p more (rw (append_assoc f (end ∷ []) more) room)
-
--- the field and what follows are one text
-pub field-then : {out : List ℕ} {at : ℕ} (f : List ℕ) (end : ℕ) (more : List ℕ) {mid : ℕ} {out' : List ℕ} {r : ℕ} {out'' : List ℕ}
-    → Puts out at (f ++ (end ∷ [])) mid out' → Puts out' mid more r out'' → Puts out at (f ++ (end ∷ more)) r out''
-field-then f end more p q = rw (append_assoc f (end ∷ []) more) at (puts-both p q)

@@ -2,12 +2,12 @@
 ghost use Rattle.std.specs.Prelude.{◌≡◌, ◌^◌, ◌<◌, length};
 ghost use Rattle.rules.specs.Units.{sample_places};
 ghost use Rattle.rules.specs.Decimals.{places_of, after_point, decimals_of};
-ghost use Rattle.lettering.specs.Putting.{Room, Puts};
+ghost use Rattle.lettering.specs.Pens.{HasRoom, Adds};
 ghost use Rattle.lettering.specs.Digits.{last_digits};
 
-use crate::digits::{count_digits, put_decimal, put_last};
-use crate::put_byte;
-use crate::signs::{count_sign, put_sign};
+use crate::Pen;
+use crate::digits::count_digits;
+use crate::signs::count_sign;
 use rules::TenMillionths;
 use whole::Whole;
 
@@ -44,20 +44,6 @@ fn count_fraction(units: u64) -> usize
     fraction.places + 1
 }
 
-// The point and the digits after it, where there are any.
-fn put_fraction(out: &mut [u8], at: usize, units: u64) -> usize
-    requires units_bound { units < 10 ^ sample_places }
-    requires room { Room out.old at (after_point sample_places units) }
-    ensures { Puts out.old at (after_point sample_places units) result out.new }
-{
-    if units == 0 {
-        return at;
-    }
-    let after_point = put_byte(out, at, b'.');
-    let fraction = fraction_of(units);
-    put_last(out, after_point, fraction.places, fraction.digits)
-}
-
 // How many bytes the text has.
 pub fn count_decimals(n: Whole) -> usize
     ensures { result ≡ length (decimals_of sample_places n.0) }
@@ -67,13 +53,29 @@ pub fn count_decimals(n: Whole) -> usize
     before_point + count_fraction(size % TenMillionths::ONE)
 }
 
-// Never an exponent, and no zero at the end of what stands after the point.
-pub fn put_decimals(out: &mut [u8], at: usize, n: Whole) -> usize
-    requires { Room out.old at (decimals_of sample_places n.0) }
-    ensures { Puts out.old at (decimals_of sample_places n.0) result out.new }
-{
-    let size = n.size();
-    let after_sign = put_sign(out, at, n);
-    let after_whole = put_decimal(out, after_sign, size / TenMillionths::ONE);
-    put_fraction(out, after_whole, size % TenMillionths::ONE)
+impl Pen<'_> {
+    // The point and the digits after it, where there are any.
+    fn put_fraction(&mut self, units: u64)
+        requires units_bound { units < 10 ^ sample_places }
+        requires room { HasRoom self.old (after_point sample_places units) }
+        ensures { Adds self.old (after_point sample_places units) self.new }
+    {
+        if units == 0 {
+            return;
+        }
+        self.put_byte(b'.');
+        let fraction = fraction_of(units);
+        self.put_last(fraction.places, fraction.digits);
+    }
+
+    // Never an exponent, and no zero at the end of what stands after the point.
+    pub fn put_decimals(&mut self, n: Whole)
+        requires { HasRoom self.old (decimals_of sample_places n.0) }
+        ensures { Adds self.old (decimals_of sample_places n.0) self.new }
+    {
+        let size = n.size();
+        self.put_sign(n);
+        self.put_decimal(size / TenMillionths::ONE);
+        self.put_fraction(size % TenMillionths::ONE);
+    }
 }

@@ -2,11 +2,13 @@
 ghost use Rattle.std.specs.Prelude.{◌≡◌, length};
 ghost use Rattle.rules.specs.Decimals.{decimal};
 ghost use Rattle.lettering.specs.Putting.{Room, Puts};
+ghost use Rattle.lettering.specs.Pens.{HasRoom, Adds};
 ghost use Rattle.lettering.specs.Digits.{last_digits};
 
-use crate::put_byte;
+use crate::Pen;
 
 // How many digits a number has.
+// Stays: no index is counted but divisions, and `n.checked_ilog10().map_or(1, |log| log as usize + 1)` is no plainer.
 pub fn count_digits(n: u64) -> usize
     ensures { result ≡ length (decimal n) }
 {
@@ -20,28 +22,36 @@ pub fn count_digits(n: u64) -> usize
 }
 
 // So many digits, the last of them first: each needs only a tenth of what is left.
-pub fn put_last(out: &mut [u8], at: usize, count: usize, n: u64) -> usize
+// Stays: by places, since after `iter_mut().rev()` nothing is known of what was written.
+fn put_last(out: &mut [u8], at: usize, count: usize, n: u64) -> usize
     requires { Room out.old at (last_digits count n) }
     ensures { Puts out.old at (last_digits count n) result out.new }
 {
     let mut left = n;
-    let mut i = count;
-    while i > 0 {
-        i -= 1;
+    for i in (0..count).rev() {
         out[at + i] = b'0' + (left % 10) as u8;
         left /= 10;
     }
     at + count
 }
 
-// A number, without leading zeros.
-pub fn put_decimal(out: &mut [u8], at: usize, n: u64) -> usize
-    requires { Room out.old at (decimal n) }
-    ensures { Puts out.old at (decimal n) result out.new }
-{
-    if n < 10 {
-        return put_byte(out, at, b'0' + n as u8);
+impl Pen<'_> {
+    // The last digits of a number, so many of them.
+    pub(crate) fn put_last(&mut self, count: usize, n: u64)
+        requires { HasRoom self.old (last_digits count n) }
+        ensures { Adds self.old (last_digits count n) self.new }
+    {
+        self.at = put_last(self.bytes, self.at, count, n);
     }
-    let count = count_digits(n);
-    put_last(out, at, count, n)
+
+    // A number, without leading zeros.
+    pub(crate) fn put_decimal(&mut self, n: u64)
+        requires { HasRoom self.old (decimal n) }
+        ensures { Adds self.old (decimal n) self.new }
+    {
+        if n < 10 {
+            return self.put_byte(b'0' + n as u8);
+        }
+        self.put_last(count_digits(n), n);
+    }
 }

@@ -1,10 +1,9 @@
 // A number that may be below 0.
 ghost use Rattle.std.specs.Prelude.{◌≡◌, length};
 ghost use Rattle.rules.specs.Decimals.{sign, signed_decimal};
-ghost use Rattle.lettering.specs.Putting.{Room, Puts};
+ghost use Rattle.lettering.specs.Pens.{HasRoom, Adds};
 
-use crate::digits::put_decimal;
-use crate::put_byte;
+use crate::Pen;
 use whole::Whole;
 
 pub fn count_sign(n: Whole) -> usize
@@ -17,23 +16,24 @@ pub fn count_sign(n: Whole) -> usize
     0
 }
 
-// The sign of a number below 0, and nothing of another.
-pub fn put_sign(out: &mut [u8], at: usize, n: Whole) -> usize
-    requires { Room out.old at (sign n.0) }
-    ensures { Puts out.old at (sign n.0) result out.new }
-{
-    let z = n.0;
-    if z < 0 {
-        return put_byte(out, at, b'-');
+impl Pen<'_> {
+    // The sign of a number below 0, and nothing of another.
+    pub(crate) fn put_sign(&mut self, n: Whole)
+        requires { HasRoom self.old (sign n.0) }
+        ensures { Adds self.old (sign n.0) self.new }
+    {
+        let z = n.0;
+        if z < 0 {
+            self.put_byte(b'-');
+        }
     }
-    at
-}
 
-// A whole number, the least of 64 bits too.
-pub fn put_signed(out: &mut [u8], at: usize, n: Whole) -> usize
-    requires { Room out.old at (signed_decimal n.0) }
-    ensures { Puts out.old at (signed_decimal n.0) result out.new }
-{
-    let after_sign = put_sign(out, at, n);
-    put_decimal(out, after_sign, n.size())
+    // A whole number, the least of 64 bits too.
+    pub fn put_signed(&mut self, n: Whole)
+        requires { HasRoom self.old (signed_decimal n.0) }
+        ensures { Adds self.old (signed_decimal n.0) self.new }
+    {
+        self.put_sign(n);
+        self.put_decimal(n.size());
+    }
 }

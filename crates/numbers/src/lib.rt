@@ -1,17 +1,16 @@
 // Document 01, "Lines": a word as a number. The grammar finds where its parts stand, and their digits, cut at the unit's point, give its exact value.
 #![tactic(auto)]
 
-ghost use Rattle.std.specs.Prelude.{◌≡◌, ◌++◌, ◌+◌, ◌-◌, ◌*◌, ◌^◌, ◌≤◌, eqb, length, drop};
+ghost use Rattle.std.specs.Prelude.{◌≡◌, ◌++◌, ◌+◌, ◌-◌, ◌*◌, ◌^◌, ◌≤◌, eqb, length, drop, IfSome};
 ghost use Rattle.std.proofs.Math.Option.{some};
 ghost use Rattle.rules.specs.Reading.Lines.{line_limit, e_byte, starts};
 ghost use Rattle.rules.specs.Reading.Numerals.{digits, spell};
 ghost use Rattle.rules.specs.Reading.Numbers.{exponent_of, number_of, numeral_of, unsigned, value_of};
 ghost use Rattle.numbers.specs.Cuts.{Served, answer, cut_of, exponent_cap, kept, most_limit, most_places};
-ghost use Rattle.numbers.specs.Parts.{Inside, PowerInside, exponent_at, numeral, numeral_at};
+ghost use Rattle.numbers.specs.Parts.{Placed, exponent_at, numeral, numeral_at};
 
 use rules::Number;
 use scan::{ByteKind, run_end};
-use whole::{lesser, lesser_count};
 
 // ---- digits
 
@@ -20,17 +19,14 @@ pub fn is_digits(w: &[u8]) -> bool
     ensures { result ≡ digits w.now }
 {
     let n = scan::run_length(w, ByteKind::Digit);
-    if n == 0 {
-        return false;
-    }
-    n == w.len()
+    n != 0 && n == w.len()
 }
 
 // What a byte counts as a digit.
 fn digit_value(b: u8) -> u64
     ensures { result ≡ b - 48 }
 {
-    if b < b'0' { 0 } else { (b - b'0') as u64 }
+    b.saturating_sub(b'0') as u64
 }
 
 // One digit more, kept at limit + 1 once it is past the limit.
@@ -39,8 +35,7 @@ fn one_more(m: u64, b: u8, limit: u64) -> u64
     ensures { result ≡ kept limit (m * 10 + (b - 48)) }
 {
     let n = m * 10 + digit_value(b);
-    let past = limit + 1;
-    lesser(past, n)
+    n.min(limit + 1)
 }
 
 // The number that digits spell after m, kept at limit + 1 once it is past the limit.
@@ -49,10 +44,8 @@ pub fn spelt(s: &[u8], m: u64, limit: u64) -> u64
     ensures { result ≡ kept limit (spell m s.now) }
 {
     let mut n = m;
-    let mut i = 0;
-    while i < s.len() {
-        n = one_more(n, s[i], limit);
-        i += 1;
+    for b in s {
+        n = one_more(n, *b, limit);
     }
     n
 }
@@ -64,12 +57,6 @@ pub fn spelt(s: &[u8], m: u64, limit: u64) -> u64
 struct PowerParts {
     down: bool,
     start: usize,
-}
-
-#[derive(Clone, Copy)]
-enum PowerFound {
-    Power(PowerParts),
-    NoPower,
 }
 
 // Where the parts of a number stand in its word: whole digits up to the point's place, digits after it up to an end, and those of the exponent
@@ -85,30 +72,18 @@ struct Parts {
     power: usize,
 }
 
-#[derive(Clone, Copy)]
-enum NumeralFound {
-    Stands(Parts),
-    NoNumber,
-}
-
 // Whether a word starts with a byte.
 fn starts_with(w: &[u8], b: u8) -> bool
     ensures { result ≡ starts (λ c. eqb c b) w.now }
 {
-    if w.len() == 0 {
-        return false;
-    }
-    w[0] == b
+    w.first().copied() == Some(b)
 }
 
 // e or E.
 fn is_e(b: u8) -> bool
     ensures { result ≡ e_byte b }
 {
-    if b == b'e' {
-        return true;
-    }
-    b == b'E'
+    matches!(b, b'e' | b'E')
 }
 
 // How long an optional sign is.
@@ -116,45 +91,39 @@ fn sign_length(w: &[u8]) -> usize
     ensures skips { drop result w.now ≡ unsigned w.now }
     ensures within { result ≤ length w.now }
 {
-    if starts_with(w, b'+') {
-        return 1;
-    }
-    if starts_with(w, b'-') {
-        return 1;
-    }
-    0
+    (starts_with(w, b'+') || starts_with(w, b'-')) as usize
 }
 
 // Nothing; or e or E, an optional sign, digits.
-fn power_in(e: &[u8]) -> PowerFound
+fn power_in(e: &[u8]) -> Option<PowerParts>
     ensures says { exponent_at e.now result ≡ exponent_of e.now }
-    ensures within { PowerInside e.now result }
+    ensures within { IfSome result (λ p. p.start ≤ length e.now) }
 {
     if e.len() == 0 {
-        return PowerFound::Power(PowerParts {
+        return Some(PowerParts {
             down: false,
             start: 0,
         });
     }
     if !is_e(e[0]) {
-        return PowerFound::NoPower;
+        return None;
     }
     let signed = &e[1..];
     let down = starts_with(signed, b'-');
     let sign = sign_length(signed);
     if !is_digits(&signed[sign..]) {
-        return PowerFound::NoPower;
+        return None;
     }
-    PowerFound::Power(PowerParts {
+    Some(PowerParts {
         down,
         start: 1 + sign,
     })
 }
 
 // An optional sign; digits, or digits with a point before, among or after them; and an exponent or none.
-fn numeral_in(w: &[u8]) -> NumeralFound
+fn numeral_in(w: &[u8]) -> Option<Parts>
     ensures says { numeral_at w.now result ≡ numeral_of w.now }
-    ensures within { Inside w.now result }
+    ensures within { IfSome result (λ p. Placed w.now p) }
 {
     let negative = starts_with(w, b'-');
     let whole = sign_length(w);
@@ -165,22 +134,17 @@ fn numeral_in(w: &[u8]) -> NumeralFound
     // a digit stands before the point or after it
     let there = whole < point || fraction < end;
     if !there {
-        return NumeralFound::NoNumber;
+        return None;
     }
-    let PowerFound::Power(p) = power_in(&w[end..]) else {
-        return NumeralFound::NoNumber;
-    };
-    let down = p.down;
-    let start = p.start;
-    let power = end + start;
-    NumeralFound::Stands(Parts {
+    let PowerParts { down, start } = power_in(&w[end..])?;
+    Some(Parts {
         negative,
         whole,
         point,
         fraction,
         end,
         down,
-        power,
+        power: end + start,
     })
 }
 
@@ -195,14 +159,7 @@ fn cut_at(whole: usize, places: usize, down: bool, x: usize) -> usize
     ensures { result ≡ cut_of whole places down x }
 {
     let n = whole + places;
-    if down {
-        if n < x {
-            return 0;
-        }
-        n - x
-    } else {
-        n + x
-    }
+    if down { n.saturating_sub(x) } else { n + x }
 }
 
 // The number that the digits of two parts spell, kept at limit + 1 once it is past the limit.
@@ -219,10 +176,8 @@ fn padded(m: u64, zeros: usize, limit: u64) -> u64
     ensures { result ≡ kept limit (m * 10 ^ zeros) }
 {
     let mut n = m;
-    let mut i = 0;
-    while i < zeros {
+    for _ in 0..zeros {
         n = one_more(n, b'0', limit);
-        i += 1;
     }
     n
 }
@@ -264,8 +219,8 @@ fn value(
 {
     let x = spelt(power, 0, EXPONENT_CAP);
     let cut = cut_at(whole.len(), places, down, x as usize);
-    let a = lesser_count(cut, whole.len());
-    let b = lesser_count(cut - a, fraction.len());
+    let a = cut.min(whole.len());
+    let b = (cut - a).min(fraction.len());
     let front = spelt_both(&whole[..a], &fraction[..b], limit);
     let quotient = padded(front, cut - a - b, limit);
     let rest = spelt_both(&whole[a..], &fraction[b..], limit);
@@ -277,18 +232,13 @@ pub fn number_of(w: &[u8], places: usize, limit: u64) -> Number
     requires { (length w.now ≤ line_limit) × (places ≤ most_places) × (limit ≤ most_limit) }
     ensures { result ≡ number_of places limit w.now }
 {
-    let NumeralFound::Stands(p) = numeral_in(w) else {
+    let Some(p) = numeral_in(w) else {
         return Number::Malformed;
     };
-    let whole = p.whole;
-    let point = p.point;
-    let fraction = p.fraction;
-    let end = p.end;
-    let power = p.power;
     value(
-        &w[whole..point],
-        &w[fraction..end],
-        &w[power..],
+        &w[p.whole..p.point],
+        &w[p.fraction..p.end],
+        &w[p.power..],
         p.negative,
         p.down,
         places,

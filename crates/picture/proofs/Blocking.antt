@@ -30,7 +30,7 @@ use Rattle.lanes.specs.declared.lane.Lane.{Lane}
 use Rattle.lanes.proofs.Placing.{stride-below, keyed}
 use Rattle.picture.specs.Filling.{pixel_from, Fillable}
 use Rattle.picture.specs.Blocks.{correct_by, Within, Filled, start_from, spot_from, Blocked, FilledTo}
-use Rattle.picture.specs.declared.cubes.Spot.{Spot}
+use Rattle.lanes.specs.declared.path.Spot.{Spot}
 use Rattle.picture.proofs.Filled.{inside-so, room-here, one-filled}
 
 -- ---- the lanes at three places in a row
@@ -64,7 +64,7 @@ module _ {cube : Cube} {table : List ℤ} {keys starts dst : List ℕ} {at end :
   start-at : (k : ℕ) {n : ℕ} {lane : Lane} → at + k ≡ n → n < end → lane_at cube.lanes k ≡ lane → get_or starts k 0 ≡ offset_by lane (get_or b.src n 0)
   start-at k e l lane-is = b.starts_are k (omega (arith, e, l)) ∙ ap₂ (λ x n. offset_by x (get_or b.src n 0)) lane-is e
 
-  abbrev placed : Placed cube table (start_from starts j) (get_or keys j 0) (get_or keys (j + 1) 0) (get_or keys (j + 2) 0)
+  abbrev placed : Placed cube table (spot_from keys starts j)
   placed =
       let red = red-at cube.lanes j z in
       let green = green-at cube.lanes j z in
@@ -89,16 +89,16 @@ module _ {cube : Cube} {table : List ℤ} {keys starts dst : List ℕ} {at end :
       sum_of p q r = omega arith
 
   module _ {spot : Spot} (e : spot ≡ spot_from keys starts j) where
-    pub spot-placed : Placed cube table spot.start spot.red spot.green spot.blue
-    spot-placed = subst (λ (x : Spot). Placed cube table x.start x.red x.green x.blue) (sym e) placed
+    pub spot-placed : Placed cube table spot
+    spot-placed = subst (λ (x : Spot). Placed cube table x) (sym e) placed
 
     -- what is made of it is made of the pixel
     pub spot-coded : {codes : Codes}
-        → ((p : Placed cube table spot.start spot.red spot.green spot.blue) → codes ≡ correct p.cubed.planned.d table p.cubed.planned.depths p.pixel)
+        → ((p : Placed cube table spot) → codes ≡ correct p.cubed.planned.d table p.cubed.planned.depths p.pixel)
         → codes ≡ correct_by b.cubed (pixel_from b.src (at + j))
     spot-coded {codes} h =
         subst
-        (λ (x : Spot). (p : Placed cube table x.start x.red x.green x.blue) → codes ≡ correct p.cubed.planned.d table p.cubed.planned.depths p.pixel)
+        (λ (x : Spot). (p : Placed cube table x) → codes ≡ correct p.cubed.planned.d table p.cubed.planned.depths p.pixel)
         e h placed
 
   -- and its start leaves room
@@ -117,8 +117,9 @@ module _ {cube : Cube} {table : List ℤ} {keys starts dst : List ℕ} {at end :
     room-there = room-here b.fillable filled (omega (arith, whole_there, b.end_most))
 
     pub one-passed : {codes : Codes} {dst'' : List ℕ} → codes ≡ correct_by b.cubed (pixel_from b.src (at + j)) → dst'' ≡ spliced dst' (at + j) (codes_of codes)
-        → FilledTo b (at + j + 3) dst''
-    one-passed e wrote = one-filled b.fillable filled (omega (arith, whole_there, b.end_most)) refl e wrote
+        → FilledTo b (at + (j + 3)) dst''
+    one-passed {dst'' = dst''} e wrote =
+        subst (λ n. FilledTo b n dst'') (omega arith) (one-filled b.fillable filled (omega (arith, whole_there, b.end_most)) refl e wrote)
 
 -- ---- a block whose keys and places have just been found
 
@@ -203,9 +204,10 @@ module _ (src : List ℕ) {at end : ℕ} (h : at < length src) (e : end ≡ min 
 
     -- corrected by any way, it is corrected by the cube
     pub block-filled : length keys ≡ 192 → length starts ≡ 192 → Spotted cube.axis.den codes_in times from strides keys starts → {dst' : List ℕ}
-        → ((b : Blocked cube table keys starts dst at end) → FilledTo b end dst') → Filled (correct_by q) src first end dst'
+        → ((b : Blocked cube table keys starts dst at end) → FilledTo b end dst') → Filled (correct_by q) src first (min (at + 192) (length src)) dst'
     unfolding blocked
-    block-filled keys_long starts_long found h = h (blocked keys_long starts_long found)
+    block-filled keys_long starts_long found {dst'} h =
+        subst (λ n. Filled (correct_by q) src first n dst') e (h (blocked keys_long starts_long found))
 
 -- ---- a whole picture
 

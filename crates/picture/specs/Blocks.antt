@@ -10,7 +10,7 @@ use Rattle.lanes.specs.Cubes.{Cubed}
 use Rattle.lanes.specs.Spots.{lane_at}
 use Rattle.lanes.specs.declared.cube.Cube.{Cube}
 use Rattle.picture.specs.Filling.{Fillable, Inside}
-use Rattle.picture.specs.declared.cubes.Spot.{Spot}
+use Rattle.lanes.specs.declared.path.Spot.{Spot}
 
 -- look's codes of a pixel, by the description and the depths that a cube was made of
 abbrev pub correct_by : {cube : Cube} {table : List ℤ} → Cubed cube table → Codes → Codes

@@ -14,11 +14,10 @@ ghost use Rattle.picture.specs.Filling.{Fillable};
 use colour::{Plan, correct, plan_of};
 use cubes::{BLOCK, correct_cube};
 use judge::could_be_read;
-use lanes::{CubeFound, cube_of};
+use lanes::{Way, cube_of};
 use lines::correct_lines;
 use pixels::{pixel_from, write_pixel};
 use rules::{Bits, Depths, DepthsFound, Description, Kind, Picture, Refusal};
-use whole::greater_code;
 
 mod cubes;
 mod kept;
@@ -31,11 +30,9 @@ mod pixels;
 fn greatest(codes: &[u16]) -> u16
     ensures { (m : ℕ) → leb result m ≡ every (λ c. leb c m) codes.now }
 {
-    let mut most = 0;
-    let mut i = 0;
-    while i < codes.len() {
-        most = greater_code(most, codes[i]);
-        i += 1;
+    let mut most = 0u16;
+    for code in codes {
+        most = most.max(*code);
     }
     most
 }
@@ -48,21 +45,19 @@ fn correct_each(plan: Plan, table: &[i64], src: &[u16], dst: &mut [u16])
     requires fillable { Fillable src.now (length dst.old) }
     ensures { (p : Planned plan table.now) → dst.new ≡ each_pixel (correct p.d table.now p.depths) src.now ++ drop (length src.now) dst.old }
 {
-    let mut i = 0;
-    while i < src.len() {
+    for i in (0..src.len()).step_by(3) {
         let pixel = pixel_from(src, i);
         write_pixel(dst, i, correct(plan, table, pixel));
-        i += 3;
     }
 }
 
 // The cube of a plan, if it is worth making: not for less than a block.
-fn cube_for(plan: Plan, depths: Depths, codes: usize) -> CubeFound
+fn cube_for(plan: Plan, depths: Depths, codes: usize) -> Option<Way>
     requires { (table : List ℤ) × ((p : Cuboid plan table) × (p.planned.depths ≡ depths)) }
     ensures { (table : List ℤ) (p : Cuboid plan table) → p.planned.depths ≡ depths → CubedIf p.planned.d depths table result }
 {
     if codes < BLOCK {
-        return CubeFound::Beyond;
+        return None;
     }
     cube_of(plan, depths)
 }
@@ -78,10 +73,13 @@ pub fn correct_all(plan: Plan, depths: Depths, table: &[i64], src: &[u16], dst: 
         correct_lines(plan, depths, table, src, dst);
         return;
     };
-    match cube_for(plan, depths, src.len()) {
-        CubeFound::Near(cube) => correct_cube(cube, true, table, src, dst),
-        CubeFound::Far(cube) => correct_cube(cube, false, table, src, dst),
-        CubeFound::Beyond => correct_each(plan, table, src, dst),
+    let Some(way) = cube_for(plan, depths, src.len()) else {
+        correct_each(plan, table, src, dst);
+        return;
+    };
+    match way {
+        Way::Near(cube) => correct_cube::<true>(cube, table, src, dst),
+        Way::Far(cube) => correct_cube::<false>(cube, table, src, dst),
     }
 }
 

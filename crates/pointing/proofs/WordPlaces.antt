@@ -116,7 +116,7 @@ spot-none p l q h none_left = by (eqb (word_start l q) (length l)) refl
         let a : word_start l q ≡ length l = eqb-true _ _ e in
         record { place = omega (arith, a); empty = omega (arith, a, end-inside l q h) }
     by false e =
-        let f : WordFound l q (word_start l q) (word_end l q) = words-next l q _ _ h (rw e refl) in
+        let f : WordFound l q (word_start l q) (word_end l q) = words-next l q _ h (rw e refl) in
         absurd (some_words _ _ (sym f.words ∙ none_left))
 
 -- a word: it is the spot, and past its end again a place between words
@@ -163,7 +163,7 @@ step l q w ws between left = record {
     there e = some_words w ws (sym left ∙ words-none l q (rw (eq-eqb (word_start l q) (length l) e) refl))
 
     f : WordFound l q start end
-    f = words-next l q start end between.inside (rw (ne_eqb (word_start l q) (length l) there) refl)
+    f = words-next l q (record { start = start; end = end }) between.inside (rw (ne_eqb (word_start l q) (length l) there) refl)
 
     both : take (end - start) (drop start l) ∷ words_of (drop end l) ≡ w ∷ ws
     both = sym f.words ∙ left

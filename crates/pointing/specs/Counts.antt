@@ -8,8 +8,6 @@ use Rattle.rules.specs.Demands.{data_lines}
 use Rattle.rules.specs.declared.Content.{Content}
 use Rattle.rules.specs.declared.Content.TheVariants.{Says, Wrong}
 use Rattle.rules.specs.declared.Size.{Size}
-use Rattle.pointing.specs.declared.rows.SizeFound.{SizeFound}
-use Rattle.pointing.specs.declared.rows.SizeFound.TheVariants.{Given, NotGiven}
 
 -- the data lines of a file
 abbrev pub rows_in : List ℕ → ℕ
@@ -31,8 +29,3 @@ or_later (some s) later = some s
 unfoldable pub first_size : List (List ℕ) → Option Size
 first_size [] = none
 first_size (l ∷ ls) = or_later (size_on l) (first_size ls)
-
--- as it is answered
-abbrev pub size_of : SizeFound → Option Size
-size_of (Given s) = some s
-size_of NotGiven = none

@@ -33,34 +33,17 @@ const LINE_LIMIT: usize = 250;
 fn aim_of(number: u32) -> Aim
     ensures { result ≡ aim_of number }
 {
-    if number == 2 {
-        return Aim::Byte;
+    match number {
+        2 => Aim::Byte,
+        0..=5 => Aim::FirstWord,
+        6 => Aim::Parameters,
+        7 => Aim::SecondWord,
+        8 => Aim::BoundValue,
+        15 => Aim::SampleForm,
+        16 | 17 => Aim::SampleValue,
+        18 => Aim::End,
+        _ => Aim::RowOrEnd,
     }
-    if number <= 5 {
-        return Aim::FirstWord;
-    }
-    if number == 6 {
-        return Aim::Parameters;
-    }
-    if number == 7 {
-        return Aim::SecondWord;
-    }
-    if number == 8 {
-        return Aim::BoundValue;
-    }
-    if number == 15 {
-        return Aim::SampleForm;
-    }
-    if number == 16 {
-        return Aim::SampleValue;
-    }
-    if number == 17 {
-        return Aim::SampleValue;
-    }
-    if number == 18 {
-        return Aim::End;
-    }
-    Aim::RowOrEnd
 }
 
 // Where the first word ends.

@@ -13,7 +13,7 @@ ghost use Rattle.pointing.specs.Pointing.{line_spot, pointed};
 use aims::spot_in;
 pub use lines::is_data;
 use lines::line_past;
-pub use rows::{SizeFound, rows_in, size_in};
+pub use rows::{rows_in, size_in};
 pub use spots::Spot;
 
 // A line of the file, counted from 1.
@@ -21,10 +21,7 @@ pub fn line_spot(file: &[u8], line: usize) -> Spot
     ensures is { result ≡ line_spot file.now line }
     ensures within { result.place + result.length ≤ length file.now }
 {
-    if line == 0 {
-        return line_past(file, 0);
-    }
-    line_past(file, line - 1)
+    line_past(file, line.saturating_sub(1))
 }
 
 // What the refusal with a number and a line points at.

@@ -7,18 +7,13 @@ ghost use Rattle.pointing.specs.Pointing.{line_from};
 
 use crate::spots::Spot;
 use rules::Form;
-use text::{Cursor, Step, form_of};
+use text::{Cursor, Line, form_of};
 
 // Whether a line is a row's.
 pub fn is_data(l: &[u8]) -> bool
     ensures { result ≡ is_data (form_of l.now) }
 {
-    match form_of(l) {
-        Form::Data => true,
-        Form::Idle => false,
-        Form::Keyed(_) => false,
-        Form::Neither => false,
-    }
+    matches!(form_of(l), Form::Data)
 }
 
 // The line past so many others; where there is none, no bytes at the file's start.
@@ -28,19 +23,15 @@ pub fn line_past(file: &[u8], others: usize) -> Spot
 {
     let mut c = Cursor::new();
     let mut left = others;
-    loop {
-        let Step::Line {
+    while let Some(
+        Line {
             start,
             end,
-            line: _,
             next,
-        } = c.next_line(file)
-        else {
-            return Spot {
-                place: 0,
-                length: 0,
-            };
-        };
+            ..
+        },
+    ) = c.next_line(file)
+    {
         if left == 0 {
             return Spot {
                 place: start,
@@ -49,5 +40,9 @@ pub fn line_past(file: &[u8], others: usize) -> Spot
         }
         left -= 1;
         c = next;
+    }
+    Spot {
+        place: 0,
+        length: 0,
     }
 }

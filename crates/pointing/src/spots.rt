@@ -40,8 +40,8 @@ pub fn byte_spot(l: &[u8]) -> Spot
     ensures { result ≡ byte_spot l.now }
 {
     let place = run_length(l, ByteKind::Permitted);
-    if place == l.len() {
-        return Spot { place, length: 0 };
+    Spot {
+        place,
+        length: (l.len() - place).min(1),
     }
-    Spot { place, length: 1 }
 }

@@ -23,23 +23,13 @@ pub enum Wanted {
 fn is_formed(n: Number) -> bool
     ensures { result ≡ formed n }
 {
-    match n {
-        Number::Value(_) => true,
-        Number::Malformed => false,
-        Number::Beyond => true,
-        Number::Finer => true,
-    }
+    !matches!(n, Number::Malformed)
 }
 
 fn is_value(n: Number) -> bool
     ensures { result ≡ is_value n }
 {
-    match n {
-        Number::Value(_) => true,
-        Number::Malformed => false,
-        Number::Beyond => false,
-        Number::Finer => false,
-    }
+    matches!(n, Number::Value(_))
 }
 
 fn bound_of(w: &[u8]) -> Number
@@ -78,8 +68,7 @@ pub fn first_wrong(l: &[u8], from: usize, wanted: Wanted, count: usize) -> Spot
     ensures { result ≡ first_wrong wanted count l.now from }
 {
     let mut place = from;
-    let mut left = count;
-    while left > 0 {
+    for _ in 0..count {
         let word = word_from(l, place);
         let start = word.place;
         let end = start + word.length;
@@ -87,7 +76,6 @@ pub fn first_wrong(l: &[u8], from: usize, wanted: Wanted, count: usize) -> Spot
             return word;
         }
         place = end;
-        left -= 1;
     }
     word_from(l, place)
 }

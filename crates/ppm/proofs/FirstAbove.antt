@@ -7,16 +7,16 @@ use native.Mathlib.Omega.{arith}
 use borrow.Author.Tests.{leb-false, ltb-true, ltb-false}
 use lib.Dec.{leb, ltb}
 use lib.ListN.{length, get_or}
+use Rattle.std.specs.Prelude.{Option, Some, None}
 use Rattle.rules.specs.Reading.Lines.{every, run}
 use Rattle.rules.proofs.Tests.{both-and}
 use Rattle.ppm.specs.Excess.{colour_at, excess_at, within, first_above}
 use Rattle.ppm.specs.declared.excess.Excess.{Excess}
-use Rattle.ppm.specs.declared.excess.Excess.TheVariants.{Nothing, Above}
 
 -- what an answer says of m and the codes
-abbrev pub Tells : ℕ → List ℕ → Excess → Type 0
-Tells m codes Nothing = every (λ c. leb c m) codes ≡ true
-Tells m codes (Above colour code) = m < code
+abbrev pub Tells : ℕ → List ℕ → Option Excess → Type 0
+Tells m codes None = every (λ c. leb c m) codes ≡ true
+Tells m codes (Some excess) = m < excess.code
 
 module _ (m : ℕ) where
   -- a code at the end of the run is above m
@@ -41,7 +41,7 @@ module _ (m : ℕ) where
       by true e h later = both-and _ _ e (later (omega arith))
       by false e h later = absurd (omega arith)
 
-  ends : (codes : List ℕ) (t : Bool) → ltb (within m codes) (length codes) ≡ t → Tells m codes (cond t (Above (colour_at (within m codes)) (get_or codes (within m codes) 0)) Nothing)
+  ends : (codes : List ℕ) (t : Bool) → ltb (within m codes) (length codes) ≡ t → Tells m codes (cond t (Some (record { colour = colour_at (within m codes); code = get_or codes (within m codes) 0 })) None)
   ends codes true e = stops codes (ltb-true _ _ e)
   ends codes false e = passes codes (ltb-false _ _ e)
 

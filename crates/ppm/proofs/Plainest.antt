@@ -9,6 +9,7 @@ use lib.Dec.{ltb}
 use lib.ListN.{length, take, drop, get_or, length-append}
 use lib.Seq.{take_at, drop_at, get_or-append-add}
 use Rattle.rules.specs.Decimals.{decimal}
+use Rattle.std.specs.Prelude.{Ok}
 use Rattle.rules.specs.Reading.Lines.{digit, every, run, starts}
 use Rattle.rules.specs.Reading.Numerals.{digits, spell}
 use Rattle.rules.proofs.Tests.{and_both, no_true}
@@ -17,8 +18,6 @@ use Rattle.signature.proofs.Decimals.{decimal-spells, decimal-digits}
 use Rattle.scan.specs.RunEnds.{run_end}
 use Rattle.ppm.specs.Header.{whitespace, goes_on, gap_length, gap_end, counted, field_between, field_at, most_size, most_maxval, with_maxval, after_height, with_height, after_width, with_width, starts_p6, header_of}
 use Rattle.ppm.specs.Written.{header_text}
-use Rattle.ppm.specs.declared.header.Field.TheVariants.{Says}
-use Rattle.ppm.specs.declared.header.Header.TheVariants.{Stands}
 use Rattle.ppm.specs.declared.header.Part.{Part}
 use Rattle.ppm.specs.declared.header.Part.TheVariants.{Width, Height, Maxval}
 
@@ -79,7 +78,7 @@ module _ (part : Part) (limit n b : ℕ) (front rest : List ℕ) (small : n ≤ 
       let count : end - length front ≡ length (decimal n) = omega arith in
       ap₂ (λ k l. spell 0 (take k l)) count from ∙ ap (spell 0) (take_at (decimal n) (b ∷ rest) (length (decimal n)) refl) ∙ decimal-spells n
 
-  between : field_between part limit text (length front) end ≡ Says (counted n (end + 1))
+  between : field_between part limit text (length front) end ≡ Ok (counted n (end + 1))
   unfolding field_between
   between = rw (
     ne_eqb end (length text) (omega (arith, long)),
@@ -91,7 +90,7 @@ module _ (part : Part) (limit n b : ℕ) (front rest : List ℕ) (small : n ≤ 
   )
 
   -- it is read as it was written, and ends right behind its byte
-  pub number_read : field_at part limit text (length front) ≡ Says (counted n (end + 1))
+  pub number_read : field_at part limit text (length front) ≡ Ok (counted n (end + 1))
   unfolding field_at
   number_read = ap₂ (field_between part limit text) no-gap-here (ap (run_end digit text) no-gap-here ∙ digits-end) ∙ between
 
@@ -126,13 +125,13 @@ module _ (width height maxval : ℕ) (rest : List ℕ) (w : width ≤ most_size)
   long₂ : length front₂ ≡ length front₁ + length (decimal height) + 1
   long₂ = omega (arith, length-append front₁ (decimal height ++ (10 ∷ [])), length-append (decimal height) (10 ∷ []))
 
-  width_read : field_at Width most_size all 3 ≡ Says (counted width (3 + length (decimal width) + 1))
+  width_read : field_at Width most_size all 3 ≡ Ok (counted width (3 + length (decimal width) + 1))
   width_read = number_read Width most_size width 32 (80 ∷ 54 ∷ 10 ∷ []) rest₁ w refl refl
 
-  height-read : field_at Height most_size all (3 + length (decimal width) + 1) ≡ Says (counted height (length front₁ + length (decimal height) + 1))
+  height-read : field_at Height most_size all (3 + length (decimal width) + 1) ≡ Ok (counted height (length front₁ + length (decimal height) + 1))
   height-read = ap₂ (field_at Height most_size) parted₁ (sym long₁) ∙ number_read Height most_size height 10 front₁ rest₂ h refl refl
 
-  maxval-read : field_at Maxval most_maxval all (length front₁ + length (decimal height) + 1) ≡ Says (counted maxval (length front₂ + length (decimal maxval) + 1))
+  maxval-read : field_at Maxval most_maxval all (length front₁ + length (decimal height) + 1) ≡ Ok (counted maxval (length front₂ + length (decimal maxval) + 1))
   maxval-read = ap₂ (field_at Maxval most_maxval) parted₂ (sym long₂) ∙ number_read Maxval most_maxval maxval 10 front₂ rest m refl refl
 
   -- the text with what follows it
@@ -154,6 +153,6 @@ module _ (width height maxval : ℕ) (rest : List ℕ) (w : width ≤ most_size)
   enough = le-ltb (length all) 4 (omega (arith, length-append (decimal width) (32 ∷ rest₁)))
 
   pub header_read : header_of (header_text width height maxval ++ rest)
-      ≡ Stands (record { width = width; height = height; maxval = maxval; pixels = length (header_text width height maxval) })
+      ≡ Ok (record { width = width; height = height; maxval = maxval; pixels = length (header_text width height maxval) })
   unfolding header_of starts_p6 with_width after_width with_height after_height with_maxval
   header_read = ap header_of written ∙ rw (enough, width_read, height-read, maxval-read, ends-with-it) refl

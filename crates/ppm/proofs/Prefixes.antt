@@ -10,6 +10,7 @@ use borrow.Author.Tests.{ne_eqb, le-ltb, ltb-false}
 use lib.Dec.{eqb, leb, ltb}
 use lib.ListN.{length, take, drop, get_or, length-take}
 use lib.Seq.{length-take-le, take_all, take-take, take-nil, get_or-take}
+use Rattle.std.specs.Prelude.{Result, Ok, Err}
 use Rattle.rules.specs.Reading.Lines.{digit, run}
 use Rattle.rules.specs.Reading.Numerals.{spell}
 use Rattle.scan.specs.RunEnds.{run_end}
@@ -18,11 +19,7 @@ use Rattle.ppm.specs.Header.{whitespace, goes_on, comment_after, gap_length, gap
 use Rattle.ppm.specs.declared.header.Count.{Count}
 use Rattle.ppm.specs.declared.header.Fault.{Fault}
 use Rattle.ppm.specs.declared.header.Fault.TheVariants.{NotP6, EndsEarly}
-use Rattle.ppm.specs.declared.header.Field.{Field}
-use Rattle.ppm.specs.declared.header.Field.TheVariants.{Says, Lacks}
 use Rattle.ppm.specs.declared.header.Frame.{Frame}
-use Rattle.ppm.specs.declared.header.Header.{Header}
-use Rattle.ppm.specs.declared.header.Header.TheVariants.{Stands, Wrong}
 use Rattle.ppm.specs.declared.header.Part.{Part}
 use Rattle.ppm.specs.declared.header.Part.TheVariants.{Width, Height, Maxval}
 use Rattle.ppm.proofs.Sizes.{either}
@@ -71,9 +68,9 @@ module _ (s : List ℕ) (p m : ℕ) where
 -- ---- a number among the first bytes
 
 -- a number that is found ends one byte after its digits
-abbrev Ends : ℕ → Field → Type 0
-Ends end (Says number) = number.next ≡ end + 1
-Ends end (Lacks fault) = Unit {0}
+abbrev Ends : ℕ → Result Count Fault → Type 0
+Ends end (Ok number) = number.next ≡ end + 1
+Ends end (Err fault) = Unit {0}
 
 module _ (part : Part) (limit : ℕ) (s : List ℕ) where
   between_ends : (start end : ℕ) → Ends end (field_between part limit s start end)
@@ -99,68 +96,68 @@ module _ (part : Part) (limit : ℕ) (s : List ℕ) where
       ap₂ (field_between part limit (take m s)) (gap-end-first s p m (omega arith)) (ap (run_end digit (take m s)) (gap-end-first s p m (omega arith)) ∙ run-end-first s start m digit h)
       ∙ between_first start (run_end digit s start) m (omega arith) h there
 
-  field-ends : (p : ℕ) (number : Count) → field_at part limit s p ≡ Says number → number.next ≡ run_end digit s (gap_end false s p) + 1
+  field-ends : (p : ℕ) (number : Count) → field_at part limit s p ≡ Ok number → number.next ≡ run_end digit s (gap_end false s p) + 1
   unfolding field_at
   field-ends p number e = subst (Ends (run_end digit s (gap_end false s p))) e (between_ends (gap_end false s p) (run_end digit s (gap_end false s p)))
 
   -- a number that is found is found in the first bytes, up to where it ends or further
-  pub field-first : (p m : ℕ) (number : Count) → field_at part limit s p ≡ Says number → number.next ≤ m → (p < number.next) × (field_at part limit (take m s) p ≡ Says number)
+  pub field-first : (p m : ℕ) (number : Count) → field_at part limit s p ≡ Ok number → number.next ≤ m → (p < number.next) × (field_at part limit (take m s) p ≡ Ok number)
   field-first p m number e h = (omega (arith, field-ends p number e), by (dec_le (length s) m))
     where
-      by : Dec (length s ≤ m) → field_at part limit (take m s) p ≡ Says number
+      by : Dec (length s ≤ m) → field_at part limit (take m s) p ≡ Ok number
       by (yes all) = rw (take_all m s all) e
       by (no some) = number-first p m (omega (arith, field-ends p number e)) (omega arith) ∙ e
 
 -- ---- the header
 
-never : (fault : Fault) (f : Frame) → Wrong fault ≡ Stands f → ⊥
+never : (fault : Fault) (f : Frame) → Err fault ≡ Ok f → ⊥
 never fault f e = let z : ◌≡◌ {A = ℕ} 0 1 = cc in omega arith
 
 -- what stands in the bytes stands in the first m of them, where m reaches to the pixels, which are not before place p
-abbrev StandsFrom : (List ℕ → Header) → List ℕ → ℕ → Frame → Type 0
-StandsFrom says s p f = (p ≤ f.pixels) × ((m : ℕ) → f.pixels ≤ m → says (take m s) ≡ Stands f)
+abbrev StandsFrom : (List ℕ → Result Frame Fault) → List ℕ → ℕ → Frame → Type 0
+StandsFrom says s p f = (p ≤ f.pixels) × ((m : ℕ) → f.pixels ≤ m → says (take m s) ≡ Ok f)
 
 module _ (s : List ℕ) (f : Frame) where
   -- a number that is found, and what it is followed by
-  number-stands : (part : Part) (limit p : ℕ) (next : List ℕ → Field → Header) → ((fault : Fault) → next s (Lacks fault) ≡ Wrong fault)
-      → ((number : Count) → next s (Says number) ≡ Stands f → StandsFrom (λ l. next l (Says number)) s number.next f)
-      → next s (field_at part limit s p) ≡ Stands f → StandsFrom (λ l. next l (field_at part limit l p)) s (p + 1) f
+  number-stands : (part : Part) (limit p : ℕ) (next : List ℕ → Result Count Fault → Result Frame Fault) → ((fault : Fault) → next s (Err fault) ≡ Err fault)
+      → ((number : Count) → next s (Ok number) ≡ Ok f → StandsFrom (λ l. next l (Ok number)) s number.next f)
+      → next s (field_at part limit s p) ≡ Ok f → StandsFrom (λ l. next l (field_at part limit l p)) s (p + 1) f
   number-stands part limit p next lacks later e = by (field_at part limit s p) refl e
     where
-      by : (found : Field) → field_at part limit s p ≡ found → next s found ≡ Stands f → StandsFrom (λ l. next l (field_at part limit l p)) s (p + 1) f
-      by (Lacks fault) g e = absurd (never fault f (sym (lacks fault) ∙ e))
-      by (Says number) g e =
+      by : (found : Result Count Fault) → field_at part limit s p ≡ found → next s found ≡ Ok f → StandsFrom (λ l. next l (field_at part limit l p)) s (p + 1) f
+      by (Err fault) g e = absurd (never fault f (sym (lacks fault) ∙ e))
+      by (Ok number) g e =
           let rest = later number e in (
             omega (arith, rest.0, (field-first part limit s p number.next number g (omega arith)).0),
             λ m h. ap (next (take m s)) (field-first part limit s p m number g (omega (arith, rest.0))).1 ∙ rest.1 m h,
           )
 
-  height-first : (width : ℕ) (height : Count) → after_height s width height ≡ Stands f → StandsFrom (λ l. after_height l width height) s (height.next + 1) f
+  height-first : (width : ℕ) (height : Count) → after_height s width height ≡ Ok f → StandsFrom (λ l. after_height l width height) s (height.next + 1) f
   unfolding after_height with_maxval
   height-first width height = number-stands Maxval most_maxval height.next (λ l. with_maxval width height.value) (λ fault. refl) pixels-next
     where
-      pixels-next : (maxval : Count) → with_maxval width height.value (Says maxval) ≡ Stands f → StandsFrom (λ l. with_maxval width height.value (Says maxval)) s maxval.next f
+      pixels-next : (maxval : Count) → with_maxval width height.value (Ok maxval) ≡ Ok f → StandsFrom (λ l. with_maxval width height.value (Ok maxval)) s maxval.next f
       pixels-next maxval e =
           let frame : ◌≡◌ {A = Frame} (record { width = width; height = height.value; maxval = maxval.value; pixels = maxval.next }) f = cc in
           let pixels : maxval.next ≡ f.pixels = ap (λ x. x.pixels) frame in
           (omega arith, λ m h. e)
 
-  width-first : (width : Count) → after_width s width ≡ Stands f → StandsFrom (λ l. after_width l width) s (width.next + 1) f
+  width-first : (width : Count) → after_width s width ≡ Ok f → StandsFrom (λ l. after_width l width) s (width.next + 1) f
   unfolding after_width with_height
   width-first width = number-stands Height most_size width.next (λ l. with_height l width.value) (λ fault. refl) (λ height e. let h = height-first width.value height e in (omega (arith, h.0), h.1))
 
-  fields-first : with_width s (field_at Width most_size s 3) ≡ Stands f → StandsFrom (λ l. with_width l (field_at Width most_size l 3)) s 4 f
+  fields-first : with_width s (field_at Width most_size s 3) ≡ Ok f → StandsFrom (λ l. with_width l (field_at Width most_size l 3)) s 4 f
   unfolding with_width
   fields-first = number-stands Width most_size 3 with_width (λ fault. refl) (λ width e. let w = width-first width e in (omega (arith, w.0), w.1))
 
   -- a header that stands, stands in the bytes before its pixels
-  pub header-first : header_of s ≡ Stands f → header_of (take f.pixels s) ≡ Stands f
+  pub header-first : header_of s ≡ Ok f → header_of (take f.pixels s) ≡ Ok f
   unfolding header_of starts_p6
   header-first e = by (ltb (length s) 4) refl (starts_p6 s) refl e
     where
       by : (short : Bool) → ltb (length s) 4 ≡ short → (p6 : Bool) → starts_p6 s ≡ p6
-          → cond short (Wrong EndsEarly) (cond p6 (with_width s (field_at Width most_size s 3)) (Wrong (NotP6 (kind_of s)))) ≡ Stands f
-          → header_of (take f.pixels s) ≡ Stands f
+          → cond short (Err EndsEarly) (cond p6 (with_width s (field_at Width most_size s 3)) (Err (NotP6 (kind_of s)))) ≡ Ok f
+          → header_of (take f.pixels s) ≡ Ok f
       by true l p6 g e = absurd (never _ f e)
       by false l false g e = absurd (never _ f e)
       by false l true g e =

@@ -2,19 +2,18 @@
 use Prim.Native.Nat.{ℕ}
 use mathlib.Core.Path.{◌≡◌, refl, ap, subst}
 use lib.Dec.{ltb}
+use Rattle.std.specs.Prelude.{Option, Some, None}
 use Rattle.rules.specs.Units.{depth_with}
 use Rattle.rules.specs.declared.DepthFound.{DepthFound}
 use Rattle.rules.specs.declared.DepthFound.TheVariants.{Known as KnownDepth, Unknown as UnknownDepth}
 use Rattle.rules.proofs.KnownDepths.{depth-with}
 use Rattle.ppm.specs.Scales.{scale_by, scale_of, ScaleFits}
 use Rattle.ppm.specs.declared.depth.Scale.{Scale}
-use Rattle.ppm.specs.declared.depth.ScaleFound.{ScaleFound}
-use Rattle.ppm.specs.declared.depth.ScaleFound.TheVariants.{Known, Unknown}
 
 -- what is found of a maxval
-abbrev Found : ℕ → ScaleFound → Type 0
-Found maxval (Known s) = ScaleFits maxval s
-Found maxval Unknown = Unit {0}
+abbrev Found : ℕ → Option Scale → Type 0
+Found maxval (Some s) = ScaleFits maxval s
+Found maxval None = Unit {0}
 
 module _ (maxval : ℕ) where
   by-depth : (x : DepthFound) → depth_with maxval ≡ x → Found maxval (scale_by x)
@@ -22,5 +21,5 @@ module _ (maxval : ℕ) where
   by-depth UnknownDepth e = tt
 
   -- a scale that is found fits
-  pub scale-fits : (s : Scale) → scale_of maxval ≡ Known s → ScaleFits maxval s
+  pub scale-fits : (s : Scale) → scale_of maxval ≡ Some s → ScaleFits maxval s
   scale-fits s e = subst (Found maxval) e (by-depth (depth_with maxval) refl)

@@ -5,29 +5,21 @@ ghost use Rattle.ppm.specs.Scales.{scale_of};
 use rules::{Depth, DepthFound};
 
 // The depth whose greatest code a maxval is, and whether a code is two bytes.
-#[derive(Clone, Copy)]
+#[derive(Clone, Copy, Debug, PartialEq, Eq)]
 pub struct Scale {
     pub depth: Depth,
     pub wide: bool,
 }
 
-#[derive(Clone, Copy)]
-pub enum ScaleFound {
-    Known(Scale),
-    Unknown,
-}
-
 // The greatest code that one byte holds.
 const BYTE_GREATEST: u16 = 255;
 
-pub fn scale_of(maxval: u64) -> ScaleFound
+pub fn scale_of(maxval: u64) -> Option<Scale>
     ensures { result ≡ scale_of maxval }
 {
     let DepthFound::Known(depth) = Depth::with_greatest(maxval) else {
-        return ScaleFound::Unknown;
+        return None;
     };
-    ScaleFound::Known(Scale {
-        depth,
-        wide: depth.greatest() > BYTE_GREATEST,
-    })
+    let wide = depth.greatest() > BYTE_GREATEST;
+    Some(Scale { depth, wide })
 }

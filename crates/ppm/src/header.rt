@@ -1,8 +1,7 @@
 // The header: P6 and a whitespace byte, then width, height and maxval. Each number stands after whitespace and comments, if any, and is ended by
 // one whitespace byte; the one after maxval is the last byte before the pixels.
 ghost use Rattle.std.specs.Prelude.{◌≡◌, false, ◌≤◌, length};
-ghost use Rattle.numbers.specs.Cuts.{most_limit};
-ghost use Rattle.ppm.specs.Header.{whitespace, goes_on, comment_after, gap_end, starts_p6, field_between, field_at, EndsWithin, header_of, after_width, after_height};
+ghost use Rattle.ppm.specs.Header.{whitespace, goes_on, comment_after, gap_end, starts_p6, most_of, field_between, field_at, EndsWithin, header_of};
 
 use crate::kinds::{Kind, kind_of};
 use numbers::spelt;
@@ -10,7 +9,7 @@ use rules::Depth;
 use scan::{ByteKind, run_end};
 
 // The numbers of a header, in their order.
-#[derive(Clone, Copy)]
+#[derive(Clone, Copy, Debug, PartialEq, Eq)]
 pub enum Part {
     Width,
     Height,
@@ -18,7 +17,7 @@ pub enum Part {
 }
 
 // What is wrong with a header; the bytes that end early may be only the first of the header's.
-#[derive(Clone, Copy)]
+#[derive(Clone, Copy, Debug, PartialEq, Eq)]
 pub enum Fault {
     NotP6(Kind),
     EndsEarly,
@@ -27,18 +26,12 @@ pub enum Fault {
 }
 
 // What a header says, and the place where the pixels begin.
-#[derive(Clone, Copy)]
+#[derive(Clone, Copy, Debug, PartialEq, Eq)]
 pub struct Frame {
     pub width: u64,
     pub height: u64,
     pub maxval: u64,
     pub pixels: usize,
-}
-
-#[derive(Clone, Copy)]
-pub enum Header {
-    Stands(Frame),
-    Wrong(Fault),
 }
 
 // A number of the header, and the place after the whitespace byte that ends it.
@@ -48,13 +41,19 @@ struct Count {
     next: usize,
 }
 
-#[derive(Clone, Copy)]
-enum Field {
-    Says(Count),
-    Lacks(Fault),
-}
-
 const MOST_SIZE: u64 = 2_147_483_647;
+
+impl Part {
+    // The greatest number that may stand there.
+    pub fn most(self) -> u64
+        ensures { result ≡ most_of self }
+    {
+        match self {
+            Part::Width | Part::Height => MOST_SIZE,
+            Part::Maxval => Depth::BITS_16 as u64,
+        }
+    }
+}
 
 // ---- whitespace and comments
 
@@ -62,39 +61,25 @@ const MOST_SIZE: u64 = 2_147_483_647;
 fn is_whitespace(b: u8) -> bool
     ensures { result ≡ whitespace b }
 {
-    if b == b' ' {
-        return true;
-    }
-    if b < b'\t' {
-        return false;
-    }
-    b <= b'\r'
+    b == b' ' || b >= b'\t' && b <= b'\r'
 }
 
 // Whether a byte belongs to the whitespace and comments before a number.
 fn goes_on(comment: bool, b: u8) -> bool
     ensures { result ≡ goes_on comment b }
 {
-    if comment {
-        return true;
-    }
-    if b == b'#' {
-        return true;
-    }
-    is_whitespace(b)
+    comment || b == b'#' || is_whitespace(b)
 }
 
 // Whether a comment goes on after a byte: it starts at # and ends with its line.
 fn comment_after(comment: bool, b: u8) -> bool
     ensures { result ≡ comment_after comment b }
 {
-    if !comment {
-        return b == b'#';
+    if comment {
+        b != b'\n' && b != b'\r'
+    } else {
+        b == b'#'
     }
-    if b == b'\n' {
-        return false;
-    }
-    b != b'\r'
 }
 
 // Where the whitespace and comments from a place on end.
@@ -104,114 +89,77 @@ fn gap_end(s: &[u8], from: usize) -> usize
     ensures within { result ≤ length s.now }
 {
     let mut comment = false;
-    let mut i = from;
-    while i < s.len() {
-        let b = s[i];
-        if !goes_on(comment, b) {
+    for i in from..s.len() {
+        if !goes_on(comment, s[i]) {
             return i;
         }
-        comment = comment_after(comment, b);
-        i += 1;
+        comment = comment_after(comment, s[i]);
     }
-    i
+    s.len()
 }
 
 // ---- a number
 
 // The number whose digits stand from a start to an end: a whitespace byte ends it, and it is within the limit.
-fn field_between(s: &[u8], start: usize, end: usize, limit: u64, part: Part) -> Field
-    requires { (start ≤ end) × (end ≤ length s.now) × (limit ≤ most_limit) }
-    ensures says { result ≡ field_between part limit s.now start end }
+fn field_between(s: &[u8], start: usize, end: usize, part: Part) -> Result<Count, Fault>
+    requires { (start ≤ end) × (end ≤ length s.now) }
+    ensures says { result ≡ field_between part (most_of part) s.now start end }
     ensures within { EndsWithin s.now result }
 {
     if end == s.len() {
-        return Field::Lacks(Fault::EndsEarly);
+        return Err(Fault::EndsEarly);
     }
-    if end == start {
-        return Field::Lacks(Fault::Malformed(part));
+    if end == start || !is_whitespace(s[end]) {
+        return Err(Fault::Malformed(part));
     }
-    if !is_whitespace(s[end]) {
-        return Field::Lacks(Fault::Malformed(part));
-    }
+    let limit = part.most();
     let value = spelt(&s[start..end], 0, limit);
-    if limit < value {
-        return Field::Lacks(Fault::Beyond(part));
+    if value > limit {
+        return Err(Fault::Beyond(part));
     }
     let next = end + 1;
-    Field::Says(Count { value, next })
+    Ok(Count { value, next })
 }
 
 // The number from a place on.
-fn field_at(s: &[u8], from: usize, limit: u64, part: Part) -> Field
-    requires { (from ≤ length s.now) × (limit ≤ most_limit) }
-    ensures says { result ≡ field_at part limit s.now from }
+fn field_at(s: &[u8], from: usize, part: Part) -> Result<Count, Fault>
+    requires { from ≤ length s.now }
+    ensures says { result ≡ field_at part (most_of part) s.now from }
     ensures within { EndsWithin s.now result }
 {
     let start = gap_end(s, from);
     let end = run_end(s, start, ByteKind::Digit);
-    field_between(s, start, end, limit, part)
+    field_between(s, start, end, part)
 }
 
 // ---- the header
 
 // Whether the bytes start with P6 and whitespace.
+#[tactic(auto, unfolding(crate::specs::Header::starts_p6))]
 fn starts_p6(s: &[u8]) -> bool
     requires { 3 ≤ length s.now }
     ensures { result ≡ starts_p6 s.now }
 {
-    if s[0] != b'P' {
-        return false;
-    }
-    if s[1] != b'6' {
-        return false;
-    }
-    is_whitespace(s[2])
-}
-
-// What the header says once its width and height are known.
-fn after_height(s: &[u8], width: u64, height: Count) -> Header
-    requires { height.next ≤ length s.now }
-    ensures { result ≡ after_height s.now width height }
-{
-    let at = height.next;
-    let field = field_at(s, at, Depth::BITS_16 as u64, Part::Maxval);
-    match field {
-        Field::Lacks(fault) => Header::Wrong(fault),
-        Field::Says(maxval) => Header::Stands(Frame {
-            width,
-            height: height.value,
-            maxval: maxval.value,
-            pixels: maxval.next,
-        }),
-    }
-}
-
-// What the header says once its width is known.
-fn after_width(s: &[u8], width: Count) -> Header
-    requires { width.next ≤ length s.now }
-    ensures { result ≡ after_width s.now width }
-{
-    let at = width.next;
-    let field = field_at(s, at, MOST_SIZE, Part::Height);
-    match field {
-        Field::Lacks(fault) => Header::Wrong(fault),
-        Field::Says(height) => after_height(s, width.value, height),
-    }
+    s[0] == b'P' && s[1] == b'6' && is_whitespace(s[2])
 }
 
 // What the header at the start of the bytes says; the first four tell what they begin.
-pub fn header_of(s: &[u8]) -> Header
+pub fn header_of(s: &[u8]) -> Result<Frame, Fault>
     ensures { result ≡ header_of s.now }
 {
     if s.len() < 4 {
-        return Header::Wrong(Fault::EndsEarly);
+        return Err(Fault::EndsEarly);
     }
     if !starts_p6(s) {
-        return Header::Wrong(Fault::NotP6(kind_of(s)));
+        return Err(Fault::NotP6(kind_of(s)));
     }
-    let field = field_at(s, 3, MOST_SIZE, Part::Width);
-    match field {
-        Field::Lacks(fault) => Header::Wrong(fault),
-        Field::Says(width) => after_width(s, width),
-    }
+    let width = field_at(s, 3, Part::Width)?;
+    let height = field_at(s, width.next, Part::Height)?;
+    let maxval = field_at(s, height.next, Part::Maxval)?;
+    Ok(Frame {
+        width: width.value,
+        height: height.value,
+        maxval: maxval.value,
+        pixels: maxval.next,
+    })
 }

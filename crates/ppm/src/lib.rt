@@ -7,11 +7,12 @@ mod excess;
 mod header;
 mod kinds;
 mod raster;
+mod words;
 mod written;
 
-pub use depth::{Scale, ScaleFound, scale_of};
+pub use depth::{Scale, scale_of};
 pub use excess::{Excess, excess_at};
-pub use header::{Fault, Frame, Header, Part, header_of};
+pub use header::{Fault, Frame, Part, header_of};
 pub use kinds::Kind;
 pub use raster::{bytes_from, codes_from, count_within};
 pub use written::put_header;

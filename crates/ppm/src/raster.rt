@@ -3,8 +3,6 @@ ghost use Rattle.std.specs.Prelude.{◌≡◌, ◌+◌, ◌*◌, ◌/◌, ◌%�
 ghost use Rattle.rules.specs.Reading.Lines.{run};
 ghost use Rattle.ppm.specs.Raster.{Copied, byte_count, bytes_of, code_count, codes_of};
 
-use whole::lesser_count;
-
 // ---- bytes to codes
 
 // How many codes so many bytes are.
@@ -18,7 +16,7 @@ fn code_count(bytes: usize, wide: bool) -> usize
 fn joined(greater: u8, lesser: u8) -> u16
     ensures { result ≡ greater * 256 + lesser }
 {
-    greater as u16 * 256 + lesser as u16
+    u16::from_be_bytes([greater, lesser])
 }
 
 // One of the codes.
@@ -27,7 +25,7 @@ fn code_at(bytes: &[u8], wide: bool, i: usize) -> u16
     ensures { result ≡ get_or (codes_of wide bytes.now) i 0 }
 {
     if !wide {
-        return joined(0, bytes[i]);
+        return u16::from(bytes[i]);
     }
     let first = i * 2;
     joined(bytes[first], bytes[first + 1])
@@ -37,11 +35,9 @@ fn code_at(bytes: &[u8], wide: bool, i: usize) -> u16
 pub fn codes_from(bytes: &[u8], wide: bool, codes: &mut [u16]) -> usize
     ensures { Copied (codes_of wide bytes.now) codes.old result codes.new }
 {
-    let n = lesser_count(code_count(bytes.len(), wide), codes.len());
-    let mut i = 0;
-    while i < n {
+    let n = code_count(bytes.len(), wide).min(codes.len());
+    for i in 0..n {
         codes[i] = code_at(bytes, wide, i);
-        i += 1;
     }
     n
 }
@@ -56,42 +52,26 @@ fn byte_count(codes: usize, wide: bool) -> usize
     if wide { codes * 2 } else { codes }
 }
 
-fn greater_byte(code: u16) -> u8
-    ensures { result ≡ code / 256 }
-{
-    (code / 256) as u8
-}
-
-fn lesser_byte(code: u16) -> u8
-    ensures { result ≡ code % 256 }
-{
-    (code % 256) as u8
-}
-
 // One of the bytes.
 fn byte_at(codes: &[u16], wide: bool, i: usize) -> u8
     requires { i < byte_count wide (length codes.now) }
     ensures { result ≡ get_or (bytes_of wide codes.now) i 0 }
 {
     if !wide {
-        return lesser_byte(codes[i]);
+        let [_, lesser] = codes[i].to_be_bytes();
+        return lesser;
     }
-    let code = codes[i / 2];
-    if i % 2 == 0 {
-        return greater_byte(code);
-    }
-    lesser_byte(code)
+    let [greater, lesser] = codes[i / 2].to_be_bytes();
+    if i % 2 == 0 { greater } else { lesser }
 }
 
 // Puts the bytes that codes are at the start of `bytes`, as many as there are and fit, and answers how many.
 pub fn bytes_from(codes: &[u16], wide: bool, bytes: &mut [u8]) -> usize
     ensures { Copied (bytes_of wide codes.now) bytes.old result bytes.new }
 {
-    let n = lesser_count(byte_count(codes.len(), wide), bytes.len());
-    let mut i = 0;
-    while i < n {
+    let n = byte_count(codes.len(), wide).min(bytes.len());
+    for i in 0..n {
         bytes[i] = byte_at(codes, wide, i);
-        i += 1;
     }
     n
 }
@@ -103,12 +83,10 @@ pub fn count_within(codes: &[u16], m: u16) -> usize
     ensures counts { result ≡ length (run (λ c. leb c m) codes.now) }
     ensures within { result ≤ length codes.now }
 {
-    let mut i = 0;
-    while i < codes.len() {
-        if m < codes[i] {
+    for (i, code) in codes.iter().enumerate() {
+        if *code > m {
             return i;
         }
-        i += 1;
     }
-    i
+    codes.len()
 }

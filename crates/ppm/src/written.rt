@@ -2,15 +2,17 @@
 ghost use Rattle.lettering.specs.Putting.{Room, Puts};
 ghost use Rattle.ppm.specs.Written.{header_text};
 
-use lettering::{put, put_count};
+use lettering::Pen;
 
 // Puts it at the start of `out` and answers its length.
 pub fn put_header(out: &mut [u8], width: u64, height: u64, maxval: u64) -> usize
     requires { Room out.old 0 (header_text width height maxval) }
     ensures { Puts out.old 0 (header_text width height maxval) result out.new }
 {
-    let after_p6 = put(out, 0, b"P6\n");
-    let after_width = put_count(out, after_p6, width, b' ');
-    let after_height = put_count(out, after_width, height, b'\n');
-    put_count(out, after_height, maxval, b'\n')
+    let mut pen = Pen { bytes: out, at: 0 };
+    pen.put(b"P6\n");
+    pen.put_count(width, b' ');
+    pen.put_count(height, b'\n');
+    pen.put_count(maxval, b'\n');
+    pen.at
 }

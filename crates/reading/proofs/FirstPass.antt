@@ -1,12 +1,12 @@
 -- The loop of the first pass in the rules' terms: reading the file is reading the lines from the cursor on, in the state so far.
 -- How that begins, goes on past a line, stops on one, and ends; and how it goes on past a run of plain rows.
 use Prim.Native.Nat.{ℕ, suc, ◌+◌, ◌-◌, ◌≤◌}
-use mathlib.Core.Path.{◌≡◌, refl, sym, ap, ◌∙◌}
+use mathlib.Core.Path.{◌≡◌, sym, ap, ◌∙◌}
 use mathlib.Core.List.{List, [], ◌∷◌}
 use native.Mathlib.Nat.{add-zero}
 use native.Mathlib.Omega.{arith}
 use lib.ListN.{length, drop, take}
-use Rattle.rules.specs.Reading.Judge.{start, add, end_fault, judge, State as Given}
+use Rattle.rules.specs.Reading.Judge.{start, add, end_fault, go, judge, refuse, State}
 use Rattle.rules.specs.Reading.{finish, onward, read_lines, read}
 use Rattle.rules.specs.declared.Item.TheVariants.{OfRow}
 use Rattle.rules.specs.declared.Refusal.{Refusal}
@@ -17,17 +17,12 @@ use Rattle.rules.proofs.Reading.OneLine.{found}
 use Rattle.rules.proofs.Reading.Walk.{let-pass}
 use Rattle.text.specs.LinesFrom.{lines_from}
 use Rattle.text.specs.declared.cursor.Cursor.{Cursor}
-use Rattle.text.specs.declared.lines.Checked.TheVariants as C
-use Rattle.text.specs.declared.lines.Checked.TheVariants.{Passed}
 use Rattle.text.proofs.Standing.{Standing, passed, Beginning, LineFound, EndFound, step-first}
 use Rattle.plain.specs.Shapes as plain
 use Rattle.plain.specs.Shapes.{RowAt, RowsAt}
 use Rattle.plain.specs.declared.rows.Run.{Run}
-use Rattle.reading.specs.View.{view, counting, left, Fit}
-use Rattle.reading.specs.Verdicts.{verdict_of, judged_of}
+use Rattle.reading.specs.View.{counting, left, Fit}
 use Rattle.reading.specs.Runs.{past}
-use Rattle.reading.specs.declared.lines.Judged.{Judged}
-use Rattle.reading.specs.declared.state.State.{State}
 use Rattle.reading.proofs.Fits.{fit-rows}
 use Rattle.reading.proofs.PlainRows.{row-found, RowsLeft, rows_left, rows-welcome, row-placed}
 
@@ -35,9 +30,9 @@ use Rattle.reading.proofs.PlainRows.{row-found, RowsLeft, rows_left, rows-welcom
 pub record Onward (file : List ℕ) (places : ℕ) (st : State) (c : Cursor) : Type 0 where
   pub standing : Standing file c
   pub fit : Fit st
-  pub same : read file places ≡ read_lines places c.at (passed file c) (view st) (lines_from file c.at)
+  pub same : read file places ≡ read_lines places c.at (passed file c) st (lines_from file c.at)
 
-pub begins : (file : List ℕ) (places : ℕ) (st : State) (c : Cursor) → view st ≡ start → Fit st → c.at ≡ 0 → c.line ≡ 1 → Onward file places st c
+pub begins : (file : List ℕ) (places : ℕ) (st : State) (c : Cursor) → st ≡ start → Fit st → c.at ≡ 0 → c.line ≡ 1 → Onward file places st c
 unfolding read
 begins file places st c v f p n =
     let b : Beginning file c = step-first file c p n in
@@ -49,34 +44,33 @@ module _ {file : List ℕ} {places : ℕ} {st : State} {c : Cursor} (here : Onwa
     text = take (to - from) (drop from file)
 
     -- the rest after this line, which begins at place p
-    abbrev rest : ℕ → Given → Read
+    abbrev rest : ℕ → State → Read
     rest p st' = read_lines places (p + length text + 1) (suc (passed file c)) st' (lines_from file next.at)
 
-    turns : read file places ≡ onward (rest from) (suc (passed file c)) (judge places (view st) from text)
+    turns : read file places ≡ onward (rest from) (suc (passed file c)) (judge places st from text)
     unfolding read_lines
     turns =
         here.same
-        ∙ ap (read_lines places c.at (passed file c) (view st)) f.lines
-        ∙ sym (ap (λ (p : ℕ). onward (rest p) (suc (passed file c)) (judge places (view st) p text)) f.here)
+        ∙ ap (read_lines places c.at (passed file c) st) f.lines
+        ∙ sym (ap (λ (p : ℕ). onward (rest p) (suc (passed file c)) (judge places st p text)) f.here)
 
-    pub goes-on : (j : Judged) → j.checked ≡ Passed → judged_of j ≡ judge places (view st) from text → Fit j.after → Onward file places j.after next
-    goes-on j e says k = record {
+    pub goes-on : (after : State) → judge places st from text ≡ go after → Fit after → Onward file places after next
+    goes-on after says k = record {
       standing = f.next-standing;
       fit = k;
       same = turns
-          ∙ ap (onward (rest from) (suc (passed file c))) (sym says ∙ ap (λ x. verdict_of x j.after) e)
-          ∙ sym (λ i. read_lines places (f.place i) (f.next-passed i) (view j.after) (lines_from file next.at));
+          ∙ ap (onward (rest from) (suc (passed file c))) says
+          ∙ sym (λ i. read_lines places (f.place i) (f.next-passed i) after (lines_from file next.at));
     }
 
-    pub stops : (j : Judged) (r : Refusal) → j.checked ≡ C.Refused r → judged_of j ≡ judge places (view st) from text → Refused r line ≡ read file places
-    stops j r e says =
-        ap (Refused r) f.number ∙ sym (turns ∙ ap (onward (rest from) (suc (passed file c))) (sym says ∙ ap (λ x. verdict_of x j.after) e))
+    pub stops : (r : Refusal) → judge places st from text ≡ refuse r → Refused r line ≡ read file places
+    stops r says = ap (Refused r) f.number ∙ sym (turns ∙ ap (onward (rest from) (suc (passed file c))) says)
 
-  pub ends : EndFound file c → finish c.line (view st) (end_fault places (view st)) ≡ read file places
+  pub ends : EndFound file c → finish c.line st (end_fault places st) ≡ read file places
   unfolding read_lines
   ends e =
-      ap (λ (n : ℕ). finish n (view st) (end_fault places (view st))) e.all-passed
-      ∙ sym (here.same ∙ ap (read_lines places c.at (passed file c) (view st)) e.lines)
+      ap (λ (n : ℕ). finish n st (end_fault places st)) e.all-passed
+      ∙ sym (here.same ∙ ap (read_lines places c.at (passed file c) st) e.lines)
 
 -- ---- past a run of plain rows: the state has so many rows more, the cursor is so many lines on
 
@@ -87,8 +81,8 @@ module _ {file : List ℕ} {places : ℕ} where
   row_on {st} {c} {end} {r} here row room =
       let (there, fewer) = room (omega arith) in
       let placed = row-placed here.fit places there (omega arith) in
-      goes-on here (row-found here.standing row) (record { checked = Passed; after = counting st 1 }) refl
-      (sym (let-pass places (view st) c.at _ (OfRow r) (found c.at _ (OfRow r) (row.line c.at)) placed))
+      goes-on here (row-found here.standing row) (counting st 1)
+      (let-pass places st c.at _ (OfRow r) (found c.at _ (OfRow r) (row.line c.at)) placed)
       (fit-rows here.fit 1 (rows-welcome here.fit 1 room))
 
   rows_on : (rs : List Row) (to : ℕ) {st : State} {c : Cursor} → Onward file places st c → RowsAt file c.at rs to → RowsLeft st (length rs)
@@ -103,10 +97,8 @@ module _ {file : List ℕ} {places : ℕ} where
       rw (rows, line) at all-on
 
   pub run_on : {st : State} {c : Cursor} {most : ℕ} {run : Run} → Onward file places st c → plain.Passed file c.at most run → most ≤ left st
-      → (st' : State) → view st' ≡ view (counting st run.rows) → Fit st' → Onward file places st' (past c run)
-  run_on {st} {c} {most} {run} here p few st' v f =
+      → Onward file places (counting st run.rows) (past c run)
+  run_on {st} {c} {most} {run} here p few =
       let rs = p.rows in
       let on = rows_on rs run.at here p.there (rows_left st (length rs) (omega (arith, p.counted, p.few))) in
-      let counted = rw (← p.counted) at on in
-      let seen = ap (λ (g : Given). read_lines places run.at (passed file (past c run)) g (lines_from file run.at)) (sym v) in
-      record { standing = counted.standing; fit = f; same = counted.same ∙ seen }
+      rw (← p.counted) at on

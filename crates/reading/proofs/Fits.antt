@@ -1,77 +1,52 @@
--- What the reader's state keeps, kept by each thing that it takes in.
+-- What the reader's state keeps, of the rules' state that it is seen as.
 use Prim.Native.Nat.{ℕ}
-use mathlib.Core.Path.{◌≡◌, refl, sym}
-use mathlib.Core.Bool.{Bool, true, false, true≢false}
+use mathlib.Core.Path.{◌≡◌, refl, ◌∙◌}
+use mathlib.Core.Bool.{true}
+use native.Mathlib.Omega.{arith}
+use Rattle.std.specs.Prelude.{Option, None, Some, is_some, unwrap_or}
+use Rattle.std.specs.Option.{ForSome}
 use Rattle.rules.specs.Units.{in_range}
-use Rattle.rules.specs.Descriptions.{lowest, highest, no_title, description, every_colour, bounds_fit}
-use Rattle.rules.specs.Reading.Judge.{given_or, no_size, describe, given}
+use Rattle.rules.specs.Descriptions.{lowest, highest, every_colour, bounds_fit}
+use Rattle.rules.specs.Reading.Judge.{given_or, no_size, describe, given, State as Given}
 use Rattle.rules.specs.declared.Bounds.{Bounds}
 use Rattle.rules.specs.declared.Size.{Size}
-use Rattle.rules.specs.declared.Title.{Title}
 use Rattle.rules.proofs.Tests.{both-and}
 use Rattle.rules.proofs.Sound.{within-bounds}
-use Rattle.reading.specs.View.{view, marked, BoundsWithin, Fit, RowsWelcome, counting}
+use Rattle.text.specs.Answers.{told}
+use Rattle.reading.specs.Within.{BoundsWithin}
+use Rattle.reading.specs.View.{view, Fit, RowsWelcome, counting}
 use Rattle.reading.specs.declared.state.State.{State}
 
-module _ {st : State} (f : Fit st) where
-  pub fit-title : (t : Title) → Fit (record { titled = true; title = t; lowered = st.lowered; lower = st.lower; raised = st.raised; upper = st.upper; sized = st.sized; size = st.size; rows = st.rows })
-  fit-title t = record {
-    no-title = λ e. absurd (true≢false e);
-    no_lower = f.no_lower;
-    no-upper = f.no-upper;
-    no-size = f.no-size;
-    lower_within = f.lower_within;
-    upper_within = f.upper_within;
-    size_within = f.size_within;
-    after_size = f.after_size;
-    few = f.few;
-  }
+within : (o : Option Bounds) (default : Bounds) → BoundsWithin default → ForSome o (λ b. BoundsWithin b) → BoundsWithin (given_or default (told o))
+within None default d h = d
+within (Some b) default d h = h b refl
 
-  pub fit-lower : (b : Bounds) → BoundsWithin b → Fit (record { titled = st.titled; title = st.title; lowered = true; lower = b; raised = st.raised; upper = st.upper; sized = st.sized; size = st.size; rows = st.rows })
-  fit-lower b w = record {
-    no-title = f.no-title;
-    no_lower = λ e. absurd (true≢false e);
-    no-upper = f.no-upper;
-    no-size = f.no-size;
-    lower_within = w;
-    upper_within = f.upper_within;
-    size_within = f.size_within;
-    after_size = f.after_size;
-    few = f.few;
-  }
+sized : (o : Option Size) → ForSome o (λ s. in_range s.kind s.n ≡ true) → given (told o) ≡ true → in_range (given_or no_size (told o)).kind (given_or no_size (told o)).n ≡ true
+sized None h e = cc
+sized (Some s) h e = h s refl
 
-  pub fit-upper : (b : Bounds) → BoundsWithin b → Fit (record { titled = st.titled; title = st.title; lowered = st.lowered; lower = st.lower; raised = true; upper = b; sized = st.sized; size = st.size; rows = st.rows })
-  fit-upper b w = record {
-    no-title = f.no-title;
-    no_lower = f.no_lower;
-    no-upper = λ e. absurd (true≢false e);
-    no-size = f.no-size;
-    lower_within = f.lower_within;
-    upper_within = w;
-    size_within = f.size_within;
-    after_size = f.after_size;
-    few = f.few;
-  }
+-- what is there is given
+pub given-told : {A : Type 0} (o : Option A) → given (told o) ≡ is_some o
+given-told None = refl
+given-told (Some a) = refl
 
-  pub fit-size : (s : Size) → in_range s.kind s.n ≡ true → Fit (record { titled = st.titled; title = st.title; lowered = st.lowered; lower = st.lower; raised = st.raised; upper = st.upper; sized = true; size = s; rows = st.rows })
-  fit-size s r = record {
-    no-title = f.no-title;
-    no_lower = f.no_lower;
-    no-upper = f.no-upper;
-    no-size = λ e. absurd (true≢false e);
-    lower_within = f.lower_within;
-    upper_within = f.upper_within;
-    size_within = λ e. r;
-    after_size = λ e. refl;
-    few = f.few;
-  }
+-- or else the default is
+pub given-default : {A : Type 0} (o : Option A) (default : A) → unwrap_or o default ≡ given_or default (told o)
+given-default None default = refl
+given-default (Some a) default = refl
 
+pub fit : (st : State) → Fit (view st)
+fit st = record {
+  lower_within = within st.lower lowest (omega arith, omega arith, omega arith) st.lower_within;
+  upper_within = within st.upper highest (omega arith, omega arith, omega arith) st.upper_within;
+  size_within = sized st.size st.size_within;
+  after_size = λ h. given-told st.size ∙ st.after_size h;
+  few = st.few;
+}
+
+module _ {st : Given} (f : Fit st) where
   pub fit-rows : (more : ℕ) → RowsWelcome st more → Fit (counting st more)
   fit-rows more w = record {
-    no-title = f.no-title;
-    no_lower = f.no_lower;
-    no-upper = f.no-upper;
-    no-size = f.no-size;
     lower_within = f.lower_within;
     upper_within = f.upper_within;
     size_within = f.size_within;
@@ -79,28 +54,10 @@ module _ {st : State} (f : Fit st) where
     few = w.room;
   }
 
-  -- the fields are what the rules read from the view
-  pub describe-is : describe (view st) ≡ description st.title st.lower st.upper st.size
-  unfolding describe
-  describe-is =
-      let t = chosen st.titled st.title no_title f.no-title in
-      let lo = chosen st.lowered st.lower lowest f.no_lower in
-      let hi = chosen st.raised st.upper highest f.no-upper in
-      let s = chosen st.sized st.size no_size f.no-size in
-      λ i. description (t i) (lo i) (hi i) (s i)
-    where
-      chosen : {A : Type 0} (there : Bool) (a default : A) → (there ≡ false → a ≡ default) → given_or default (marked there a) ≡ a
-      chosen true a default h = refl
-      chosen false a default h = sym (h refl)
-
   -- its bounds are within ±10
-  pub describe-fits : every_colour bounds_fit (description st.title st.lower st.upper st.size) ≡ true
+  pub describe-fits : every_colour bounds_fit (describe st) ≡ true
+  unfolding describe
   describe-fits =
       let lo = f.lower_within in
       let hi = f.upper_within in
-      both-and _ _ (within-bounds _ lo.red hi.red) (both-and _ _ (within-bounds _ lo.green hi.green) (within-bounds _ lo.blue hi.blue))
-
--- a mark is what the view gives
-pub given-marked : {A : Type 0} (there : Bool) (a : A) → given (marked there a) ≡ there
-given-marked true a = refl
-given-marked false a = refl
+      both-and _ _ (within-bounds _ lo.0 hi.0) (both-and _ _ (within-bounds _ lo.1 hi.1) (within-bounds _ lo.2 hi.2))

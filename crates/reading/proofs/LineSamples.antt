@@ -2,11 +2,14 @@
 use Prim.Native.Nat.{ℕ}
 use mathlib.Core.Path.{◌≡◌, refl, sym, ap, ◌∙◌}
 use mathlib.Core.List.{List, [], ◌∷◌, append-nil, flatten, map}
+use Rattle.std.specs.Prelude.{Result, Ok, Err}
 use Rattle.rules.specs.Reading.Lines.{words_of}
 use Rattle.rules.specs.Reading.Items.{numbers_of, row_in}
 use Rattle.rules.specs.Reading.Grammar.{Line, gather, put}
 use Rattle.rules.specs.Reading.Contents.{content_by, content_of, form_of, samples_on}
 use Rattle.rules.specs.Reading.{samples_in, samples_of}
+use Rattle.rules.specs.declared.Content.{Content}
+use Rattle.rules.specs.declared.Content.TheVariants.{Says}
 use Rattle.rules.specs.declared.Form.{Form}
 use Rattle.rules.specs.declared.Form.TheVariants.{Data}
 use Rattle.rules.specs.declared.Item.{Item}
@@ -16,9 +19,7 @@ use Rattle.rules.specs.declared.Row.{Row}
 use Rattle.rules.proofs.Reading.Acceptance.{lines-samples}
 use Rattle.rules.proofs.Reading.OneLine.{found}
 use Rattle.rules.proofs.Reading.Order.{form_for}
-use Rattle.content.specs.Found.{say_row}
-use Rattle.content.specs.declared.RowFound.{RowFound}
-use Rattle.content.specs.declared.RowFound.TheVariants.{ARow, NoRow}
+use Rattle.content.specs.Found.{said}
 use Rattle.reading.specs.Tables.{LineKeeps}
 
 -- the samples of a line that gives an item are those of its row, if it is one
@@ -44,15 +45,19 @@ pub no-samples : {l : List ℕ} → LineKeeps l → (form_of l ≡ Data → ⊥)
 no-samples {l} k h =
     item-samples k.place l k.item k.line ∙ no_row k.item (λ e. h ((found k.place l k.item k.line).form ∙ e))
 
-module _ (l : List ℕ) (answer : RowFound) (data-line : form_of l ≡ Data) (says : say_row answer ≡ samples_on (words_of l)) where
-  data-samples : samples_in (content_of 0 l) ≡ samples_in (say_row answer)
+-- what a row found says
+abbrev row-said : Result Row Refusal → Content
+row-said answer = said answer (λ r. Says (OfRow r))
+
+module _ (l : List ℕ) (answer : Result Row Refusal) (data-line : form_of l ≡ Data) (says : said answer (λ r. Says (OfRow r)) ≡ samples_on (words_of l)) where
+  data-samples : samples_in (content_of 0 l) ≡ samples_in (row-said answer)
   unfolding content_by
   data-samples = ap (λ (f : Form). samples_in (content_by f 0 l)) data-line ∙ ap samples_in (sym says)
 
-  pub row-samples : (r : Row) → answer ≡ ARow r → samples_in (content_of 0 l) ≡ numbers_of r
+  pub row-samples : (r : Row) → answer ≡ Ok r → samples_in (content_of 0 l) ≡ numbers_of r
   unfolding samples_in
-  row-samples r e = data-samples ∙ ap (λ (a : RowFound). samples_in (say_row a)) e
+  row-samples r e = data-samples ∙ ap (λ (a : Result Row Refusal). samples_in (row-said a)) e
 
-  pub wrong-samples : (r : Refusal) → answer ≡ NoRow r → samples_in (content_of 0 l) ≡ []
+  pub wrong-samples : (r : Refusal) → answer ≡ Err r → samples_in (content_of 0 l) ≡ []
   unfolding samples_in
-  wrong-samples r e = data-samples ∙ ap (λ (a : RowFound). samples_in (say_row a)) e
+  wrong-samples r e = data-samples ∙ ap (λ (a : Result Row Refusal). samples_in (row-said a)) e

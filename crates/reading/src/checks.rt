@@ -6,131 +6,117 @@ ghost use Rattle.rules.specs.Reading.Judge.{describe, first, domain_fault, head_
 ghost use Rattle.rules.specs.Reading.{finish};
 ghost use Rattle.rules.specs.declared.Form.TheVariants.{Keyed, Data};
 ghost use Rattle.text.specs.Answers.{fault_of};
-ghost use Rattle.reading.specs.View.{view, Fit};
+ghost use Rattle.reading.specs.View.{view};
 
 use crate::state::State;
-use judge::{Rule, agree, count_rows, domains_keep};
+use judge::{agree, count_rows, domains_keep, narrow, ordered};
 use rules::{Description, Form, Keyword, Read, Refusal};
-use text::Checked;
 
 // 10 to 13, of a description and a table of so many places.
-fn domain_fault(d: Description, places: usize) -> Checked
+#[tactic(auto, unfolding(rules::specs::Reading::Judge::domain_fault, rules::specs::Reading::Judge::need, rules::specs::Descriptions::roomy))]
+fn domain_fault(d: Description, places: usize) -> Result<(), Refusal>
     requires n_value { in_range d.kind d.n ≡ true }
     requires d_value { every_colour bounds_fit d ≡ true }
     ensures { fault_of result ≡ domain_fault places d }
 {
-    let kind = d.kind;
-    if !domains_keep(Rule::Ordered, d) {
-        return Checked::Refused(Refusal::LowerNotBelowUpper);
+    if !domains_keep(ordered, d) {
+        return Err(Refusal::LowerNotBelowUpper);
     }
-    if !domains_keep(Rule::Narrow, d) {
-        return Checked::Refused(Refusal::DomainTooWide);
+    if !domains_keep(narrow, d) {
+        return Err(Refusal::DomainTooWide);
     }
-    if !agree(kind, d) {
-        return Checked::Refused(Refusal::DomainsDiffer);
+    if !agree(d.kind, d) {
+        return Err(Refusal::DomainsDiffer);
     }
-    if places < 3 * count_rows(kind, d.n) {
-        return Checked::Refused(Refusal::TooLittleRoom);
+    if places < 3 * count_rows(d.kind, d.n) {
+        return Err(Refusal::TooLittleRoom);
     }
-    Checked::Passed
+    Ok(())
 }
 
 // 9, 19, 10 to 13, where there was no data line yet.
 #[tactic(auto, unfolding(rules::specs::Reading::Judge::head_fault, rules::specs::Reading::Judge::given_fault, rules::specs::Reading::Judge::need))]
-fn head_fault(st: State, places: usize) -> Checked
-    requires { Fit st }
+fn head_fault(st: State, places: usize) -> Result<(), Refusal>
     ensures { fault_of result ≡ head_fault places (view st) }
 {
     if st.rows != 0 {
-        return Checked::Passed;
+        return Ok(());
     }
-    if !st.sized {
-        return Checked::Refused(Refusal::NoSize);
+    if st.size.is_none() {
+        return Err(Refusal::NoSize);
     }
-    if st.lowered != st.raised {
-        return Checked::Refused(Refusal::HalfADomain);
+    if st.lower.is_some() != st.upper.is_some() {
+        return Err(Refusal::HalfADomain);
     }
     domain_fault(st.describe(), places)
 }
 
 // A keyword: 4, 5.
 #[tactic(auto, unfolding(rules::specs::Reading::Judge::order_fault, rules::specs::Reading::Judge::need))]
-fn keyword_fault(st: State, k: Keyword) -> Checked
+fn keyword_fault(st: State, k: Keyword) -> Result<(), Refusal>
     ensures { (places : ℕ) → fault_of result ≡ order_fault places (view st) (Keyed k) }
 {
     let late = st.rows != 0;
     let again = st.repeats(k);
     if late {
-        return Checked::Refused(Refusal::KeywordAfterData);
+        return Err(Refusal::KeywordAfterData);
     }
     if again {
-        return Checked::Refused(Refusal::KeywordRepeated);
+        return Err(Refusal::KeywordRepeated);
     }
-    Checked::Passed
+    Ok(())
 }
 
 // 9, 19, 10 to 13, where there was no data line yet; then one answer where rows are left to come, and another where none are.
-fn by_rows(st: State, places: usize, left: Checked, full: Checked) -> Checked
-    requires { Fit st }
+fn by_rows(
+    st: State,
+    places: usize,
+    left: Result<(), Refusal>,
+    full: Result<(), Refusal>,
+) -> Result<(), Refusal>
     ensures { fault_of result ≡ first (head_fault places (view st)) (cond (ltb st.rows (rows (describe (view st)))) (fault_of left) (fault_of full)) }
 {
-    if let Checked::Refused(reason) = head_fault(st, places) {
-        return Checked::Refused(reason);
+    head_fault(st, places)?;
+    let size = st.size.unwrap();
+    if st.rows < count_rows(size.kind, size.n) {
+        left
+    } else {
+        full
     }
-    let size = st.size;
-    let kind = size.kind;
-    if st.rows < count_rows(kind, size.n) {
-        return left;
-    }
-    full
 }
 
 // A data line: 9, 19, 10 to 13, then 14.
-fn data_fault(st: State, places: usize) -> Checked
-    requires { Fit st }
+fn data_fault(st: State, places: usize) -> Result<(), Refusal>
     ensures { fault_of result ≡ order_fault places (view st) Data }
 {
-    by_rows(
-        st,
-        places,
-        Checked::Passed,
-        Checked::Refused(Refusal::TooManyRows),
-    )
+    by_rows(st, places, Ok(()), Err(Refusal::TooManyRows))
 }
 
 // Whether a line of a form may stand here.
-pub fn order_fault(st: State, form: Form, places: usize) -> Checked
-    requires { Fit st }
+pub fn order_fault(st: State, form: Form, places: usize) -> Result<(), Refusal>
     ensures { fault_of result ≡ order_fault places (view st) form }
 {
     match form {
-        Form::Idle => Checked::Passed,
+        Form::Idle => Ok(()),
         Form::Keyed(k) => keyword_fault(st, k),
         Form::Data => data_fault(st, places),
-        Form::Neither => Checked::Passed,
+        Form::Neither => Ok(()),
     }
 }
 
 // The end: 9, 19, 10 to 13 where there was no data line, then 18.
-fn end_fault(st: State, places: usize) -> Checked
-    requires { Fit st }
+fn end_fault(st: State, places: usize) -> Result<(), Refusal>
     ensures { fault_of result ≡ end_fault places (view st) }
 {
-    by_rows(
-        st,
-        places,
-        Checked::Refused(Refusal::TooFewRows),
-        Checked::Passed,
-    )
+    by_rows(st, places, Err(Refusal::TooFewRows), Ok(()))
 }
 
 // The answer where the file ends on a line.
 pub fn conclude(st: State, line: usize, places: usize) -> Read
-    requires { Fit st }
     ensures { result ≡ finish line (view st) (end_fault places (view st)) }
 {
-    if let Checked::Refused(reason) = end_fault(st, places) {
-        return Read::Refused { reason, line };
+    match end_fault(st, places) {
+        Ok(()) => Read::Accepted(st.describe()),
+        Err(reason) => Read::Refused { reason, line },
     }
-    Read::Accepted(st.describe())
 }

@@ -8,7 +8,7 @@ use crate::runs::{Pause, cursor_past, pause_after, unless_paused};
 use crate::state::State;
 use plain::pass_rows;
 use rules::Read;
-use text::{Checked, Cursor, Step};
+use text::{Cursor, Line};
 
 // What reading a file into a table of so many places answers.
 pub fn judge_file(file: &[u8], places: usize) -> Read
@@ -16,28 +16,27 @@ pub fn judge_file(file: &[u8], places: usize) -> Read
 {
     let mut st = State::new();
     let mut c = Cursor::new();
-    let mut pause = Pause { left: 0, last: 0 };
+    let mut pause = Pause::default();
     loop {
         let run = pass_rows(file, c.at, unless_paused(pause, st.left()));
         pause = pause_after(pause, run.rows);
         st = st.with_rows(run.rows);
         c = cursor_past(c, run);
-        let Step::Line {
-            start,
-            end,
-            line,
-            next,
-        } = c.next_line(file)
+        let Some(
+            Line {
+                start,
+                end,
+                line,
+                next,
+            },
+        ) = c.next_line(file)
         else {
             return conclude(st, c.line, places);
         };
-        let judged = judge_line(st, &file[start..end], start, places);
-        let checked = judged.checked;
-        let Checked::Refused(reason) = checked else {
-            st = judged.after;
-            c = next;
-            continue;
-        };
-        return Read::Refused { reason, line };
+        match judge_line(st, &file[start..end], start, places) {
+            Ok(after) => st = after,
+            Err(reason) => return Read::Refused { reason, line },
+        }
+        c = next;
     }
 }

@@ -7,7 +7,7 @@ use text::Cursor;
 
 // How many lines go by before plain rows are looked for again, and how long the last such pause was. A line that starts no plain row is most often
 // followed by others like it: each time none is found the pause is longer, so that a file of other rows is read as fast as if none were looked for.
-#[derive(Clone, Copy)]
+#[derive(Clone, Copy, Default)]
 pub struct Pause {
     pub left: usize,
     pub last: usize,
@@ -20,29 +20,25 @@ const LONGEST: usize = 63;
 pub fn unless_paused(pause: Pause, most: usize) -> usize
     ensures { result ≤ most }
 {
-    if pause.left != 0 {
-        return 0;
-    }
-    most
+    if pause.left == 0 { most } else { 0 }
 }
 
 // The pause after so many rows were found.
 pub fn pause_after(pause: Pause, rows: usize) -> Pause {
-    let left = pause.left;
-    let last = pause.last;
-    if left != 0 {
+    if pause.left != 0 {
         return Pause {
-            left: left - 1,
-            last,
+            left: pause.left - 1,
+            last: pause.last,
         };
     }
     if rows != 0 {
-        return Pause { left: 0, last: 0 };
+        return Pause::default();
     }
-    if last >= LONGEST {
-        return Pause { left: last, last };
-    }
-    let longer = 2 * last + 1;
+    let longer = if pause.last < LONGEST {
+        2 * pause.last + 1
+    } else {
+        pause.last
+    };
     Pause {
         left: longer,
         last: longer,

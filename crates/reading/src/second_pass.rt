@@ -7,10 +7,10 @@ ghost use Rattle.rules.specs.Reading.{samples_in, samples_of};
 ghost use Rattle.reading.specs.Tables.{LineKeeps, Accepts};
 
 use crate::runs::{Pause, cursor_past, pause_after, unless_paused};
-use content::{RowFound, row_on};
+use content::row_on;
 use plain::fill_rows;
 use rules::Form;
-use text::{Cursor, Step, form_of};
+use text::{Cursor, Line, form_of};
 
 // The samples of a line from a place on; the place past them.
 fn put_line(l: &[u8], table: &mut [i64], at: usize) -> usize
@@ -22,7 +22,7 @@ fn put_line(l: &[u8], table: &mut [i64], at: usize) -> usize
     let Form::Data = form_of(l) else {
         return at;
     };
-    let RowFound::ARow(row) = row_on(l) else {
+    let Ok(row) = row_on(l) else {
         return at;
     };
     let red = row.red.0;
@@ -41,7 +41,7 @@ pub fn fill(file: &[u8], table: &mut [i64])
 {
     let mut c = Cursor::new();
     let mut at = 0;
-    let mut pause = Pause { left: 0, last: 0 };
+    let mut pause = Pause::default();
     loop {
         let most = (table.len() - at) / 3;
         let run = fill_rows(file, c.at, unless_paused(pause, most), &mut *table, at);
@@ -49,12 +49,14 @@ pub fn fill(file: &[u8], table: &mut [i64])
         pause = pause_after(pause, rows);
         at = at + 3 * rows;
         c = cursor_past(c, run);
-        let Step::Line {
-            start,
-            end,
-            line: _,
-            next,
-        } = c.next_line(file)
+        let Some(
+            Line {
+                start,
+                end,
+                next,
+                ..
+            },
+        ) = c.next_line(file)
         else {
             return;
         };

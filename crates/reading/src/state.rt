@@ -1,27 +1,40 @@
 // What the lines so far have given: a state by value, with one method for each keyword.
-ghost use Rattle.std.specs.Prelude.{◌≡◌, true};
-ghost use Rattle.rules.specs.Units.{in_range};
+ghost use Rattle.std.specs.Prelude.{◌≡◌, ◌≤◌, ◌<◌, true, is_some};
+ghost use Rattle.std.specs.Option.{ForSome};
+ghost use Rattle.rules.specs.Units.{in_range, row_limit};
 ghost use Rattle.rules.specs.Descriptions.{alike};
-ghost use Rattle.rules.specs.Reading.Judge.{start, add, describe, repeats};
-ghost use Rattle.rules.specs.declared.Item.TheVariants.{OfTitle, OfLower, OfUpper, OfSize};
-ghost use Rattle.reading.specs.View.{view, BoundsWithin, Fit, RowsWelcome, Welcome, counting, left};
+ghost use Rattle.reading.specs.Within.{BoundsWithin};
 
 use judge::count_rows;
 use rules::{Bounds, Description, Domain, Item, Keyword, Kind, Size, Thousandths, Title};
 
-// What was given, the defaults of what was not, and how many data lines there were.
+// What was given, and how many data lines there were: bounds within ±10, a size in range, and rows only where there is a size.
 #[derive(Clone, Copy)]
 pub struct State {
-    pub titled: bool,
-    pub title: Title,
-    pub lowered: bool,
-    pub lower: Bounds,
-    pub raised: bool,
-    pub upper: Bounds,
-    pub sized: bool,
-    pub size: Size,
+    pub title: Option<Title>,
+    pub lower: Option<Bounds>,
+    pub upper: Option<Bounds>,
+    pub size: Option<Size>,
     pub rows: usize,
+    pub ghost lower_within: { ForSome lower (λ b. BoundsWithin b) },
+    pub ghost upper_within: { ForSome upper (λ b. BoundsWithin b) },
+    pub ghost size_within: { ForSome size (λ s. in_range s.kind s.n ≡ true) },
+    pub ghost after_size: { 0 < rows → is_some size ≡ true },
+    pub ghost few: { rows ≤ row_limit },
 }
+
+// No title.
+const NO_TITLE: Title = Title {
+    there: false,
+    place: 0,
+    length: 0,
+};
+
+// No size counts as 1D with no rows.
+const NO_SIZE: Size = Size {
+    kind: Kind::OneD,
+    n: 0,
+};
 
 // Three bounds alike.
 fn all_alike(n: u16) -> Bounds
@@ -42,102 +55,76 @@ fn between(lower: Thousandths, upper: Thousandths) -> Domain
 }
 
 impl State {
+    ghost use Rattle.rules.specs.Reading.Judge.{start, add, describe, repeats};
+    ghost use Rattle.rules.specs.declared.Item.TheVariants.{OfTitle, OfLower, OfUpper, OfSize};
+    ghost use Rattle.reading.specs.View.{view, RowsWelcome, Welcome, counting, left};
+
     // Nothing given: no title, the domain 0 to 1, no size, no rows.
     pub fn new() -> State
-        ensures starts { view result ≡ start }
-        ensures fit { Fit result }
+        ensures { view result ≡ start }
     {
         State {
-            titled: false,
-            title: Title {
-                there: false,
-                place: 0,
-                length: 0,
-            },
-            lowered: false,
-            lower: all_alike(0),
-            raised: false,
-            upper: all_alike(1000),
-            sized: false,
-            size: Size {
-                kind: Kind::OneD,
-                n: 0,
-            },
+            title: None,
+            lower: None,
+            upper: None,
+            size: None,
             rows: 0,
         }
     }
 
     fn with_title(self, title: Title) -> State
-        requires { Fit self }
-        ensures added { view result ≡ add (view self) (OfTitle title) }
-        ensures fit { Fit result }
+        ensures { view result ≡ add (view self) (OfTitle title) }
     {
         let mut next = self;
-        next.titled = true;
-        next.title = title;
+        next.title = Some(title);
         next
     }
 
     fn with_lower(self, lower: Bounds) -> State
-        requires fit_2 { Fit self }
-        requires bounds_within { BoundsWithin lower }
-        ensures added { view result ≡ add (view self) (OfLower lower) }
-        ensures fit { Fit result }
+        requires { BoundsWithin lower }
+        ensures { view result ≡ add (view self) (OfLower lower) }
     {
         let mut next = self;
-        next.lowered = true;
-        next.lower = lower;
+        next.lower = Some(lower);
         next
     }
 
     fn with_upper(self, upper: Bounds) -> State
-        requires fit_2 { Fit self }
-        requires bounds_within { BoundsWithin upper }
-        ensures added { view result ≡ add (view self) (OfUpper upper) }
-        ensures fit { Fit result }
+        requires { BoundsWithin upper }
+        ensures { view result ≡ add (view self) (OfUpper upper) }
     {
         let mut next = self;
-        next.raised = true;
-        next.upper = upper;
+        next.upper = Some(upper);
         next
     }
 
     fn with_size(self, size: Size) -> State
-        requires fit_2 { Fit self }
-        requires n_value { in_range size.kind size.n ≡ true }
-        ensures added { view result ≡ add (view self) (OfSize size) }
-        ensures fit { Fit result }
+        requires { in_range size.kind size.n ≡ true }
+        ensures { view result ≡ add (view self) (OfSize size) }
     {
         let mut next = self;
-        next.sized = true;
-        next.size = size;
+        next.size = Some(size);
         next
     }
 
     // How many rows may still come, once a first one was there; before that none are counted.
     pub fn left(self) -> usize
-        requires { Fit self }
-        ensures { result ≡ left self }
+        ensures { result ≡ left (view self) }
     {
-        let rows = self.rows;
-        if rows == 0 {
+        let Some(size) = self.size else {
+            return 0;
+        };
+        if self.rows == 0 {
             return 0;
         }
-        let size = self.size;
-        let kind = size.kind;
-        let all = count_rows(kind, size.n);
-        if all < rows {
-            return 0;
-        }
-        all - rows
+        let all = count_rows(size.kind, size.n);
+        all.saturating_sub(self.rows)
     }
 
     // So many data lines more.
     pub fn with_rows(self, more: usize) -> State
-        requires fit_2 { Fit self }
-        requires rows_welcome { RowsWelcome self more }
-        ensures added { view result ≡ view (counting self more) }
-        ensures fit { Fit result }
+        requires { RowsWelcome (view self) more }
+        ensures { view result ≡ counting (view self) more }
     {
         let mut next = self;
         next.rows = self.rows + more;
@@ -146,10 +133,8 @@ impl State {
 
     // With what a line gives.
     pub fn with_item(self, item: Item) -> State
-        requires fit_2 { Fit self }
-        requires welcome { Welcome self item }
-        ensures added { view result ≡ add (view self) item }
-        ensures fit { Fit result }
+        requires { Welcome (view self) item }
+        ensures { view result ≡ add (view self) item }
     {
         match item {
             Item::Nothing => self,
@@ -161,18 +146,16 @@ impl State {
         }
     }
 
-    // What the state describes.
+    // What the state describes, with the defaults of what was not given.
     pub fn describe(self) -> Description
-        requires { Fit self }
         ensures { result ≡ describe (view self) }
     {
-        let title = self.title;
-        let size = self.size;
-        let kind = size.kind;
-        let lower = self.lower;
-        let upper = self.upper;
+        let title = self.title.unwrap_or(NO_TITLE);
+        let lower = self.lower.unwrap_or(all_alike(0));
+        let upper = self.upper.unwrap_or(all_alike(1000));
+        let size = self.size.unwrap_or(NO_SIZE);
         Description {
-            kind,
+            kind: size.kind,
             n: size.n,
             red: between(lower.red, upper.red),
             green: between(lower.green, upper.green),
@@ -186,10 +169,10 @@ impl State {
         ensures { result ≡ repeats k (view self) }
     {
         match k {
-            Keyword::ATitle => self.titled,
-            Keyword::ALower => self.lowered,
-            Keyword::AnUpper => self.raised,
-            Keyword::ASize(_) => self.sized,
+            Keyword::ATitle => self.title.is_some(),
+            Keyword::ALower => self.lower.is_some(),
+            Keyword::AnUpper => self.upper.is_some(),
+            Keyword::ASize(_) => self.size.is_some(),
         }
     }
 }

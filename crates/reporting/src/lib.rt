@@ -8,10 +8,11 @@ ghost use Rattle.rules.specs.Decimals.{decimal, signed_decimal};
 ghost use Rattle.rules.specs.Reporting.{line_of, cube_line, domain_lines, title_line, refused_line, answer_text, report, Reports};
 ghost use Rattle.rules.specs.declared.Read.TheVariants.{Accepted};
 ghost use Rattle.lettering.specs.Putting.{Room, Puts};
+ghost use Rattle.lettering.specs.Pens.{HasRoom, Adds};
 ghost use Rattle.reporting.specs.Telling.{TitleInside, Tellable};
 
 use judge::count_rows;
-use lettering::{put, put_between, put_byte, put_count, put_signed};
+use lettering::Pen;
 use reading::read;
 use rules::{Description, Domain, Kind, Read, Refusal, Thousandths, Title};
 use whole::Whole;
@@ -20,69 +21,61 @@ use whole::Whole;
 const MOST_BYTES: usize = 65_536;
 
 // A bound with the byte that ends it: a tab, or a newline after the last.
-fn put_bound(out: &mut [u8], at: usize, bound: Thousandths, end: u8) -> usize
-    requires { Room out.old at (signed_decimal bound.0 ++ (end ∷ [])) }
-    ensures { Puts out.old at (signed_decimal bound.0 ++ (end ∷ [])) result out.new }
+fn put_bound(pen: &mut Pen, bound: Thousandths, end: u8)
+    requires { HasRoom pen.old (signed_decimal bound.0 ++ (end ∷ [])) }
+    ensures { Adds pen.old (signed_decimal bound.0 ++ (end ∷ [])) pen.new }
 {
-    let after_digits = put_signed(out, at, Whole(bound.0));
-    put_byte(out, after_digits, end)
+    pen.put_signed(Whole(bound.0));
+    pen.put_byte(end);
 }
 
 // ---- lines, of which the first fields are given as they stand
 
 // Two counts.
-fn put_counts(out: &mut [u8], at: usize, start: &[u8], first: u64, second: u64) -> usize
-    requires { Room out.old at (start.now ++ line_of (decimal first ∷ decimal second ∷ [])) }
-    ensures { Puts out.old at (start.now ++ line_of (decimal first ∷ decimal second ∷ [])) result out.new }
+fn put_counts(pen: &mut Pen, start: &[u8], first: u64, second: u64)
+    requires { HasRoom pen.old (start.now ++ line_of (decimal first ∷ decimal second ∷ [])) }
+    ensures { Adds pen.old (start.now ++ line_of (decimal first ∷ decimal second ∷ [])) pen.new }
 {
-    let after_start = put(out, at, start);
-    let after_first = put_count(out, after_start, first, b'\t');
-    put_count(out, after_first, second, b'\n')
+    pen.put(start);
+    pen.put_count(first, b'\t');
+    pen.put_count(second, b'\n');
 }
 
 // Lower, upper.
-fn put_domain(out: &mut [u8], at: usize, start: &[u8], domain: Domain) -> usize
-    requires { Room out.old at (start.now ++ line_of (signed_decimal domain.lower.0 ∷ signed_decimal domain.upper.0 ∷ [])) }
-    ensures { Puts out.old at (start.now ++ line_of (signed_decimal domain.lower.0 ∷ signed_decimal domain.upper.0 ∷ [])) result out.new }
+fn put_domain(pen: &mut Pen, start: &[u8], domain: Domain)
+    requires { HasRoom pen.old (start.now ++ line_of (signed_decimal domain.lower.0 ∷ signed_decimal domain.upper.0 ∷ [])) }
+    ensures { Adds pen.old (start.now ++ line_of (signed_decimal domain.lower.0 ∷ signed_decimal domain.upper.0 ∷ [])) pen.new }
 {
-    let lower = domain.lower;
-    let upper = domain.upper;
-    let after_start = put(out, at, start);
-    let after_lower = put_bound(out, after_start, lower, b'\t');
-    put_bound(out, after_lower, upper, b'\n')
+    pen.put(start);
+    put_bound(pen, domain.lower, b'\t');
+    put_bound(pen, domain.upper, b'\n');
 }
 
 // Kind, N, rows.
-fn put_cube(out: &mut [u8], at: usize, kind: Kind, n: usize) -> usize
+fn put_cube(pen: &mut Pen, kind: Kind, n: usize)
     requires n_value { in_range kind n ≡ true }
-    requires room { Room out.old at (cube_line kind n) }
-    ensures { Puts out.old at (cube_line kind n) result out.new }
+    requires room { HasRoom pen.old (cube_line kind n) }
+    ensures { Adds pen.old (cube_line kind n) pen.new }
 {
     let rows = count_rows(kind, n);
     match kind {
-        Kind::OneD => put_counts(out, at, b"cube\t1D\t", n as u64, rows as u64),
-        Kind::ThreeD => put_counts(out, at, b"cube\t3D\t", n as u64, rows as u64),
+        Kind::OneD => put_counts(pen, b"cube\t1D\t", n as u64, rows as u64),
+        Kind::ThreeD => put_counts(pen, b"cube\t3D\t", n as u64, rows as u64),
     }
 }
 
 // Yes and the text, or no.
-fn put_title(out: &mut [u8], at: usize, input: &[u8], title: Title) -> usize
+fn put_title(pen: &mut Pen, input: &[u8], title: Title)
     requires title_inside { TitleInside input.now title }
-    requires room { Room out.old at (title_line input.now title) }
-    ensures { Puts out.old at (title_line input.now title) result out.new }
+    requires room { HasRoom pen.old (title_line input.now title) }
+    ensures { Adds pen.old (title_line input.now title) pen.new }
 {
-    if !title.there {
-        return put(out, at, b"title\tno\n");
+    if title.there {
+        let end = title.place + title.length;
+        pen.put_between(b"title\tyes\t", &input[title.place..end], b"\n");
+    } else {
+        pen.put(b"title\tno\n");
     }
-    let first = title.place;
-    let count = title.length;
-    put_between(
-        out,
-        at,
-        b"title\tyes\t",
-        &input[first..first + count],
-        b"\n",
-    )
 }
 
 // Number, line.
@@ -90,21 +83,20 @@ fn put_refused(out: &mut [u8], reason: Refusal, line: usize) -> usize
     requires { Room out.old 0 (refused_line (refusal_number reason) line) }
     ensures { Puts out.old 0 (refused_line (refusal_number reason) line) result out.new }
 {
-    put_counts(out, 0, b"refused\t", reason.number() as u64, line as u64)
+    let mut pen = Pen { bytes: out, at: 0 };
+    put_counts(&mut pen, b"refused\t", reason.number() as u64, line as u64);
+    pen.at
 }
 
 // ---- the text
 
-fn put_domains(out: &mut [u8], at: usize, d: Description) -> usize
-    requires { Room out.old at (domain_lines d) }
-    ensures { Puts out.old at (domain_lines d) result out.new }
+fn put_domains(pen: &mut Pen, d: Description)
+    requires { HasRoom pen.old (domain_lines d) }
+    ensures { Adds pen.old (domain_lines d) pen.new }
 {
-    let red = d.red;
-    let green = d.green;
-    let blue = d.blue;
-    let after_red = put_domain(out, at, b"domain\tred\t", red);
-    let after_green = put_domain(out, after_red, b"domain\tgreen\t", green);
-    put_domain(out, after_green, b"domain\tblue\t", blue)
+    put_domain(pen, b"domain\tred\t", d.red);
+    put_domain(pen, b"domain\tgreen\t", d.green);
+    put_domain(pen, b"domain\tblue\t", d.blue);
 }
 
 fn put_accepted(out: &mut [u8], input: &[u8], d: Description) -> usize
@@ -112,11 +104,11 @@ fn put_accepted(out: &mut [u8], input: &[u8], d: Description) -> usize
     requires room { Room out.old 0 (answer_text input.now (Accepted d)) }
     ensures { Puts out.old 0 (answer_text input.now (Accepted d)) result out.new }
 {
-    let kind = d.kind;
-    let title = d.title;
-    let after_cube = put_cube(out, 0, kind, d.n);
-    let after_domains = put_domains(out, after_cube, d);
-    put_title(out, after_domains, input, title)
+    let mut pen = Pen { bytes: out, at: 0 };
+    put_cube(&mut pen, d.kind, d.n);
+    put_domains(&mut pen, d);
+    put_title(&mut pen, input, d.title);
+    pen.at
 }
 
 // What the report answers to its input.

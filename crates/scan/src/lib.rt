@@ -21,59 +21,35 @@ pub enum ByteKind {
 fn is_permitted(b: u8) -> bool
     ensures { result ≡ permitted b }
 {
-    if b < b' ' {
-        return b == b'\t';
-    }
-    b <= b'~'
+    matches!(b, b'\t' | b' '..=b'~')
 }
 
-// Space or tab: most bytes are past both, and one test is enough for them.
+// Space or tab.
 fn is_blank(b: u8) -> bool
     ensures { result ≡ blank b }
 {
-    if b > b' ' {
-        return false;
-    }
-    if b == b' ' {
-        return true;
-    }
-    b == b'\t'
+    matches!(b, b' ' | b'\t')
 }
 
 // 0 to 9.
 pub fn is_digit(b: u8) -> bool
     ensures { result ≡ digit b }
 {
-    if b < b'0' {
-        return false;
-    }
-    b <= b'9'
+    b.is_ascii_digit()
 }
 
 // A byte of a title: neither quote nor tab.
 fn is_in_title(b: u8) -> bool
     ensures { result ≡ in_title b }
 {
-    if b == b'"' {
-        return false;
-    }
-    b != b'\t'
+    !matches!(b, b'"' | b'\t')
 }
 
 // A byte that begins a data line: a digit, +, - or a point.
 pub fn is_number_byte(b: u8) -> bool
     ensures { result ≡ number_byte b }
 {
-    if is_digit(b) {
-        return true;
-    }
-    if b == b'+' {
-        return true;
-    }
-    if b == b'-' {
-        return true;
-    }
-    b == b'.'
+    matches!(b, b'0'..=b'9' | b'+' | b'-' | b'.')
 }
 
 // Whether a byte is of a kind.
@@ -96,14 +72,12 @@ pub fn run_end(s: &[u8], from: usize, k: ByteKind) -> usize
     ensures ends { result ≡ run_end (kind_of k) s.now from }
     ensures within { result ≤ length s.now }
 {
-    let mut i = from;
-    while i < s.len() {
+    for i in from..s.len() {
         if !is_kind(k, s[i]) {
             return i;
         }
-        i += 1;
     }
-    i
+    s.len()
 }
 
 // How long the longest first run of bytes of a kind is.

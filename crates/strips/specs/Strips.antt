@@ -1,5 +1,5 @@
 -- A strip: one colour of a 1D table as pieces of straight lines.
-use Rattle.std.specs.Prelude.{ℕ, ◌+◌, ◌*◌, ◌/◌, ◌≤◌, ◌<◌, ◌≡◌, true, List, leb, ℤ, pos, nat_abs, ◌+ℤ◌, ◌-ℤ◌, ◌*ℤ◌, length, get_or}
+use Rattle.std.specs.Prelude.{ℕ, ◌+◌, ◌*◌, ◌/◌, ◌≤◌, ◌<◌, ◌≡◌, true, Option, IfSome, List, leb, ℤ, pos, nat_abs, ◌+ℤ◌, ◌-ℤ◌, ◌*ℤ◌, length, get_or}
 use Rattle.whole.specs.Reciprocals.{reciprocal_of, excess}
 use Rattle.rules.specs.Units.{raw_m, corrected_m, sample_at}
 use Rattle.rules.specs.declared.Colour.{Colour}
@@ -11,8 +11,6 @@ use Rattle.lanes.specs.Lanes.{RunsAlong}
 use Rattle.lanes.specs.Parts.{Parted}
 use Rattle.strips.specs.declared.Piece.{Piece}
 use Rattle.strips.specs.declared.Strip.{Strip}
-use Rattle.strips.specs.declared.StripFound.{StripFound}
-use Rattle.strips.specs.declared.StripFound.TheVariants.{Laid, Beyond}
 
 -- ---- of what
 
@@ -54,9 +52,8 @@ pub record StrippedFor (d : Description) (depths : Depths) (c : Colour) (strip :
   pub depths_are : stripped.lined.planned.depths ≡ depths
   pub colour_is : strip.colour ≡ c
 
-abbrev pub StrippedIf : Description → Depths → Colour → List ℤ → StripFound → Type 0
-StrippedIf d depths c table (Laid strip) = StrippedFor d depths c strip table
-StrippedIf d depths c table Beyond = Unit {0}
+abbrev pub StrippedIf : Description → Depths → Colour → List ℤ → Option Strip → Type 0
+StrippedIf d depths c table found = IfSome found (λ strip. StrippedFor d depths c strip table)
 
 -- ---- the piece of a cell i: half a code is in its base
 

@@ -7,7 +7,7 @@ ghost use Rattle.rules.specs.Looking.{line_code};
 ghost use Rattle.strips.specs.Strips.{LineAt, Stripped, StrippedIf, PieceOf, LaidOut, StripAt};
 
 use colour::{Axis, Line, colour_place};
-use lanes::{AxisFound, Lane, LaneFound, WHOLE, common_in, lane_along, parted};
+use lanes::{Lane, WHOLE, common_in, lane_along, parted};
 use rules::Colour;
 use whole::{Reciprocal, Whole};
 
@@ -27,12 +27,6 @@ pub struct Strip {
     pub most: u16,
 }
 
-#[derive(Clone, Copy)]
-pub enum StripFound {
-    Laid(Strip),
-    Beyond,
-}
-
 // The slope and the base of a cell.
 #[derive(Clone, Copy)]
 pub struct Piece {
@@ -49,35 +43,31 @@ impl Strip {
 }
 
 // The strip of a colour, if there are not too many cells, p of the ratio p / q of the two M is 1, as at equal depths, and all is exact.
-pub fn strip_of(line: Line, raw: u16, most: u16) -> StripFound
+pub fn strip_of(line: Line, raw: u16, most: u16) -> Option<Strip>
     requires { (table : List ℤ) × LineAt line table raw most }
     ensures { (table : List ℤ) (l : LineAt line table raw most) → StrippedIf l.lined.planned.d l.lined.planned.depths line.colour table result }
 {
     let axis = line.axis;
     let cells = line.cells;
     if line.times != 1 {
-        return StripFound::Beyond;
+        return None;
     }
     if cells > Strip::MOST_CELLS {
-        return StripFound::Beyond;
+        return None;
     }
-    let AxisFound::In(parts) = parted(axis, common_in(axis)) else {
-        return StripFound::Beyond;
-    };
+    let parts = parted(axis, common_in(axis))?;
     if parts.den * cells as u64 > Strip::MOST_PARTS {
-        return StripFound::Beyond;
+        return None;
     }
-    let LaneFound::Runs(lane) = lane_along(parts, raw, cells, 3) else {
-        return StripFound::Beyond;
-    };
+    let lane = lane_along(parts, raw, cells, 3)?;
     let half = parts.unit / 2;
     let unit = Reciprocal::of(parts.unit);
     let top = parts.full + half;
     if !unit.divides(top) {
-        return StripFound::Beyond;
+        return None;
     }
     let colour = line.colour;
-    StripFound::Laid(Strip {
+    Some(Strip {
         colour,
         cells,
         lane,
@@ -118,16 +108,10 @@ pub fn lay_pieces(strip: Strip, table: &[i64], slopes: &mut [i64], bases: &mut [
     requires cells_in_bounds_2 { strip.cells ≤ length bases.old }
     ensures { LaidOut strip table.now slopes.new bases.new }
 {
-    let mut i = 0;
-    while i < strip.cells {
+    for i in 0..strip.cells {
         let piece = piece_at(strip, table, i);
-        let slope = piece.slope;
-        let base = piece.base;
-        let s = slope.0;
-        let b = base.0;
-        slopes[i] = s;
-        bases[i] = b;
-        i += 1;
+        slopes[i] = piece.slope.0;
+        bases[i] = piece.base.0;
     }
 }
 

@@ -1,21 +1,15 @@
--- A test that is true just where two lists are equal is the rules' own.
+-- The test of two slices byte for byte is the rules' own.
 use Prim.Native.Nat.{ℕ}
-use mathlib.Core.Path.{◌≡◌, refl, sym}
-use mathlib.Core.Bool.{Bool, true, false}
+use mathlib.Core.Path.{◌≡◌, refl, ap}
+use mathlib.Core.Bool.{◌&&◌}
 use mathlib.Core.List.{List, [], ◌∷◌}
-use borrow.Author.Tests.{eq-eqb}
+use lib.Dec.{eqb}
+use lib.Pointwise.{pointwise}
 use Rattle.rules.specs.Reading.Lines.{same}
-use Rattle.rules.proofs.Reading.Wordings.{same-eq}
 
-same_self : (a : List ℕ) → same a a ≡ true
+pub bytewise : (a b : List ℕ) → pointwise eqb a b ≡ same a b
 unfolding same
-same_self [] = refl
-same_self (x ∷ xs) = rw (eq-eqb x x refl, same_self xs)
-
-pub is_same : (r : Bool) (a b : List ℕ) → (r ≡ true → a ≡ b) → (a ≡ b → r ≡ true) → r ≡ same a b
-is_same true a b f g = sym (rw (f refl) (same_self b))
-is_same false a b f g = split (same a b) refl
-  where
-    split : (t : Bool) → same a b ≡ t → false ≡ t
-    split true e = g (same-eq a b e)
-    split false e = refl
+bytewise [] [] = refl
+bytewise [] (y ∷ ys) = refl
+bytewise (x ∷ xs) [] = refl
+bytewise (x ∷ xs) (y ∷ ys) = ap (λ t. eqb x y && t) (bytewise xs ys)

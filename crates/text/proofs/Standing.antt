@@ -12,7 +12,8 @@ use Rattle.rules.specs.Reading.Lines.{lines_of, newlines}
 use Rattle.scan.specs.Kinds.{in_line}
 use Rattle.text.specs.LinesFrom.{end_of, lines_from, step_at}
 use Rattle.text.specs.declared.cursor.Cursor.{Cursor}
-use Rattle.text.specs.declared.cursor.Step.TheVariants.{Line, End}
+use Rattle.std.specs.Prelude.{None, Some}
+use Rattle.text.specs.declared.cursor.Line.{Line}
 use Rattle.scan.proofs.Runs.{end-within}
 use Rattle.text.proofs.Newlines.{newlines-before, newlines-next}
 use Rattle.text.proofs.LinesFrom.{lines-all, lines_next, lines-past, next_start}
@@ -56,6 +57,10 @@ pub record EndFound (s : List ℕ) (c : Cursor) : Type 0 where
 abbrev past : List ℕ → Cursor → Cursor
 past s c = record { at = end_of s c.at + 1; line = cond (ltb (end_of s c.at) (length s)) (c.line + 1) c.line }
 
+-- the line at the cursor
+abbrev line : List ℕ → Cursor → Line
+line s c = record { start = c.at; end = end_of s c.at; line = c.line; next = past s c }
+
 pub step-first : (s : List ℕ) (c : Cursor) → c.at ≡ 0 → c.line ≡ 1 → Beginning s c
 unfolding newlines
 step-first s c p n = record {
@@ -97,22 +102,19 @@ module _ (s : List ℕ) (c : Cursor) (standing : Standing s c) where
     next-standing = standing-past h;
   }
 
-  pub step_line : (start end line : ℕ) (next : Cursor) → step_at s c.at c.line ≡ Line start end line next → LineFound s c start end line next
-  step_line start end line next = split (ltb (length s) c.at) refl
+  pub step_line : (l : Line) → step_at s c.at c.line ≡ Some l → LineFound s c l.start l.end l.line l.next
+  step_line l = split (ltb (length s) c.at) refl
     where
-      split : (t : Bool) → ltb (length s) c.at ≡ t → cond t End (Line c.at (end_of s c.at) c.line (past s c)) ≡ Line start end line next → LineFound s c start end line next
+      split : (t : Bool) → ltb (length s) c.at ≡ t → cond t None (Some (line s c)) ≡ Some l → LineFound s c l.start l.end l.line l.next
       split true e g = let z : ◌≡◌ {A = ℕ} 0 1 = cc in absurd (omega arith)
       split false e g =
-          let a : c.at ≡ start = cc in
-          let b : end_of s c.at ≡ end = cc in
-          let n : c.line ≡ line = cc in
-          let q : past s c ≡ next = cc in
-          rw (← a, ← b, ← n, ← q) (line-there (ltb-false _ _ e))
+          let same : line s c ≡ l = cc in
+          rw (← same) (line-there (ltb-false _ _ e))
 
-  pub step_end : step_at s c.at c.line ≡ End → EndFound s c
+  pub step_end : step_at s c.at c.line ≡ None → EndFound s c
   step_end = split (ltb (length s) c.at) refl
     where
-      split : (t : Bool) → ltb (length s) c.at ≡ t → cond t End (Line c.at (end_of s c.at) c.line (past s c)) ≡ End → EndFound s c
+      split : (t : Bool) → ltb (length s) c.at ≡ t → cond t None (Some (line s c)) ≡ None → EndFound s c
       split true e g = record {
         lines = lines-past s c.at (omega (arith, ltb-true));
         all-passed = rw e;

@@ -12,7 +12,8 @@ use Rattle.rules.proofs.Tests.{no_true}
 use Rattle.rules.proofs.Reading.Runs.{after-stops, run-after, run-every, run-starts}
 use Rattle.rules.proofs.Reading.Wordings.{words-first}
 use Rattle.text.specs.WordsFrom.{word_at, word_end, word_start}
-use Rattle.text.specs.declared.words.Word.TheVariants.{At, Nothing}
+use Rattle.std.specs.Prelude.{None, Some}
+use Rattle.text.specs.declared.words.Word.{Word}
 use Rattle.scan.proofs.Runs.{drop-to-end, end-within, take-to-end}
 
 -- ---- the first word of a list
@@ -48,6 +49,10 @@ first_word t x e s =
 
 -- ---- the next word of a line
 
+-- by its places
+abbrev word : List ℕ → ℕ → Word
+word l from = record { start = word_start l from; end = word_end l from }
+
 -- what finding a word from a place on says
 pub record WordFound (l : List ℕ) (from start end : ℕ) : Type 0 where
   pub onward : from ≤ start
@@ -59,10 +64,10 @@ module _ (l : List ℕ) (from : ℕ) where
   past-blanks : after blank (drop from l) ≡ drop (word_start l from) l
   past-blanks = sym (drop-to-end blank l from)
 
-  pub words-none : word_at l from ≡ Nothing → words_of (drop from l) ≡ []
+  pub words-none : word_at l from ≡ None → words_of (drop from l) ≡ []
   words-none = split (eqb (word_start l from) (length l)) refl
     where
-      split : (t : Bool) → eqb (word_start l from) (length l) ≡ t → cond t Nothing (At (word_start l from) (word_end l from)) ≡ Nothing → words_of (drop from l) ≡ []
+      split : (t : Bool) → eqb (word_start l from) (length l) ≡ t → cond t None (Some (word l from)) ≡ None → words_of (drop from l) ≡ []
       split true e g = let i : length l ≤ word_start l from = omega (arith, eqb-true) in no_word (drop from l) (past-blanks ∙ drop_of_length-le l i)
       split false e g = let z : ◌≡◌ {A = ℕ} 0 1 = cc in absurd (omega arith)
 
@@ -79,12 +84,11 @@ module _ (l : List ℕ) (from : ℕ) where
         words = rw (take-to-end in_word l a, drop-to-end in_word l a) (first_word (drop from l) x past-blanks s);
       }
 
-  pub words-next : (start end : ℕ) → from ≤ length l → word_at l from ≡ At start end → WordFound l from start end
-  words-next start end h = split (eqb (word_start l from) (length l)) refl
+  pub words-next : (w : Word) → from ≤ length l → word_at l from ≡ Some w → WordFound l from w.start w.end
+  words-next w h = split (eqb (word_start l from) (length l)) refl
     where
-      split : (t : Bool) → eqb (word_start l from) (length l) ≡ t → cond t Nothing (At (word_start l from) (word_end l from)) ≡ At start end → WordFound l from start end
+      split : (t : Bool) → eqb (word_start l from) (length l) ≡ t → cond t None (Some (word l from)) ≡ Some w → WordFound l from w.start w.end
       split true e g = let z : ◌≡◌ {A = ℕ} 0 1 = cc in absurd (omega arith)
       split false e g =
-          let x : word_start l from ≡ start = cc in
-          let y : word_end l from ≡ end = cc in
-          rw (← x, ← y) (word-there h (eqb-false _ _ e))
+          let same : word l from ≡ w = cc in
+          rw (← same) (word-there h (eqb-false _ _ e))

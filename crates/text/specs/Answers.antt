@@ -1,18 +1,15 @@
--- What the answers say in the rules' terms.
-use Rattle.std.proofs.Math.Option.{Option, none, some}
+-- What the answers say in the rules' terms, whose own Option this is.
+use Rattle.std.specs.Prelude.{Option, None, Some, Result, Ok, Err}
+use Rattle.std.proofs.Math.Option as Told
 use Rattle.rules.specs.Reading.Judge.{Fault}
-use Rattle.rules.specs.declared.Keyword.{Keyword}
-use Rattle.text.specs.declared.keywords.KeywordFound.{KeywordFound}
-use Rattle.text.specs.declared.keywords.KeywordFound.TheVariants.{Known, Unknown}
-use Rattle.text.specs.declared.lines.Checked.{Checked}
-use Rattle.text.specs.declared.lines.Checked.TheVariants.{Passed, Refused}
+use Rattle.rules.specs.declared.Refusal.{Refusal}
+
+-- a value, or none
+abbrev pub told : {A : Type 0} → Option A → Told.Option A
+told None = Told.none
+told (Some a) = Told.some a
 
 -- a refusal, or none
-abbrev pub fault_of : Checked → Fault
-fault_of Passed = none
-fault_of (Refused r) = some r
-
--- the keyword found, or none
-abbrev pub found_of : KeywordFound → Option Keyword
-found_of (Known k) = some k
-found_of Unknown = none
+abbrev pub fault_of : Result (Unit {0}) Refusal → Fault
+fault_of (Ok u) = Told.none
+fault_of (Err r) = Told.some r

@@ -11,16 +11,13 @@ pub struct Cursor {
     pub line: usize,
 }
 
-// The line at a cursor, with the cursor past it, or the end of the file.
+// A line: where it starts and ends, its number, and the cursor past it.
 #[derive(Clone, Copy)]
-pub enum Step {
-    Line {
-        start: usize,
-        end: usize,
-        line: usize,
-        next: Cursor,
-    },
-    End,
+pub struct Line {
+    pub start: usize,
+    pub end: usize,
+    pub line: usize,
+    pub next: Cursor,
 }
 
 impl Cursor {
@@ -31,33 +28,26 @@ impl Cursor {
         Cursor { at: 0, line: 1 }
     }
 
-    // The line at the cursor. Only a newline begins another line; past the last line the number stays.
-    pub fn next_line(self, s: &[u8]) -> Step
+    // The line at the cursor, or none at the end of the file. Only a newline begins another line; past the last line the number stays.
+    pub fn next_line(self, s: &[u8]) -> Option<Line>
         requires { self.line ≤ self.at + 1 }
         ensures { result ≡ step_at s.now self.at self.line }
     {
         let start = self.at;
         let line = self.line;
         if start > s.len() {
-            return Step::End;
+            return None;
         }
         let end = run_end(s, start, ByteKind::InLine);
-        if end < s.len() {
-            return Step::Line {
-                start,
-                end,
-                line,
-                next: Cursor {
-                    at: end + 1,
-                    line: line + 1,
-                },
-            };
-        }
-        Step::Line {
+        let below = if end < s.len() { line + 1 } else { line };
+        Some(Line {
             start,
             end,
             line,
-            next: Cursor { at: end + 1, line },
-        }
+            next: Cursor {
+                at: end + 1,
+                line: below,
+            },
+        })
     }
 }

@@ -2,7 +2,7 @@
 ghost use Rattle.std.specs.Prelude.{◌≡◌};
 ghost use Rattle.rules.specs.Reading.Lines.{same};
 ghost use Rattle.rules.specs.Reading.Contents.{keyword_of};
-ghost use Rattle.text.specs.Answers.{found_of};
+ghost use Rattle.text.specs.Answers.{told};
 
 use rules::{Keyword, Kind};
 
@@ -16,37 +16,31 @@ const LUT_1D_SIZE: [u8; 11] = *b"LUT_1D_SIZE";
 
 const LUT_3D_SIZE: [u8; 11] = *b"LUT_3D_SIZE";
 
-#[derive(Clone, Copy)]
-pub enum KeywordFound {
-    Known(Keyword),
-    Unknown,
-}
-
 // The keyword that a word is.
-pub fn keyword_of(w: &[u8]) -> KeywordFound
-    ensures { found_of result ≡ keyword_of w.now }
+pub fn keyword_of(w: &[u8]) -> Option<Keyword>
+    ensures { told result ≡ keyword_of w.now }
 {
     if is_named(w, &TITLE) {
-        return KeywordFound::Known(Keyword::ATitle);
+        return Some(Keyword::ATitle);
     }
     if is_named(w, &DOMAIN_MIN) {
-        return KeywordFound::Known(Keyword::ALower);
+        return Some(Keyword::ALower);
     }
     if is_named(w, &DOMAIN_MAX) {
-        return KeywordFound::Known(Keyword::AnUpper);
+        return Some(Keyword::AnUpper);
     }
     if is_named(w, &LUT_1D_SIZE) {
-        return KeywordFound::Known(Keyword::ASize(Kind::OneD));
+        return Some(Keyword::ASize(Kind::OneD));
     }
     if is_named(w, &LUT_3D_SIZE) {
-        return KeywordFound::Known(Keyword::ASize(Kind::ThreeD));
+        return Some(Keyword::ASize(Kind::ThreeD));
     }
-    KeywordFound::Unknown
+    None
 }
 
 // Whether a word is a name, byte for byte.
 pub fn is_named(w: &[u8], name: &[u8]) -> bool
     ensures { result ≡ same w.now name.now }
 {
-    check::same(w, name)
+    w == name
 }

@@ -8,9 +8,9 @@ mod runs;
 mod title;
 mod words;
 
-pub use cursor::{Cursor, Step};
-pub use keywords::{KeywordFound, is_named, keyword_of};
-pub use lines::{Checked, byte_fault, form_of};
+pub use cursor::{Cursor, Line};
+pub use keywords::{is_named, keyword_of};
+pub use lines::{byte_fault, form_of};
 pub use runs::every;
 pub use title::title_of;
 pub use words::{Word, next_word};

@@ -5,32 +5,26 @@ ghost use Rattle.rules.specs.Reading.Contents.{form_of, word_form};
 ghost use Rattle.rules.specs.Reading.Judge.{byte_fault};
 ghost use Rattle.text.specs.Answers.{fault_of};
 
-use crate::keywords::{KeywordFound, keyword_of};
+use crate::keywords::keyword_of;
 use crate::runs::every;
-use crate::words::{Word, next_word};
+use crate::words::next_word;
 use rules::{Form, Refusal};
 use scan::{ByteKind, is_number_byte};
 
 // A line has at most so many bytes.
 const LINE_LIMIT: usize = 250;
 
-#[derive(Clone, Copy)]
-pub enum Checked {
-    Passed,
-    Refused(Refusal),
-}
-
 // The checks 1 and 2: the length of a line, then its bytes.
-pub fn byte_fault(l: &[u8]) -> Checked
+pub fn byte_fault(l: &[u8]) -> Result<(), Refusal>
     ensures { fault_of result ≡ byte_fault l.now }
 {
     if l.len() > LINE_LIMIT {
-        return Checked::Refused(Refusal::LineTooLong);
+        return Err(Refusal::LineTooLong);
     }
     if !every(l, ByteKind::Permitted) {
-        return Checked::Refused(Refusal::ByteNotPermitted);
+        return Err(Refusal::ByteNotPermitted);
     }
-    Checked::Passed
+    Ok(())
 }
 
 // The form of a line: empty, a comment, or by its first word; blanks alone have none.
@@ -47,10 +41,10 @@ pub fn form_of(l: &[u8]) -> Form
     if is_number_byte(l[0]) {
         return Form::Data;
     }
-    let Word::At { start, end } = next_word(l, 0) else {
+    let Some(word) = next_word(l, 0) else {
         return Form::Neither;
     };
-    word_form(&l[start..end])
+    word_form(&l[word.start..word.end])
 }
 
 // The form of a line by its first word.
@@ -61,8 +55,8 @@ fn word_form(w: &[u8]) -> Form
         return Form::Data;
     }
     match keyword_of(w) {
-        KeywordFound::Known(k) => Form::Keyed(k),
-        KeywordFound::Unknown => Form::Neither,
+        Some(k) => Form::Keyed(k),
+        None => Form::Neither,
     }
 }
 
@@ -70,8 +64,5 @@ fn word_form(w: &[u8]) -> Form
 fn starts_number(w: &[u8]) -> bool
     ensures { result ≡ starts number_byte w.now }
 {
-    if w.len() == 0 {
-        return false;
-    }
-    is_number_byte(w[0])
+    w.len() != 0 && is_number_byte(w[0])
 }

@@ -43,8 +43,5 @@ fn quoted(s: &[u8], end: usize) -> Content
 fn closes(s: &[u8]) -> bool
     ensures { result ≡ closes s.now }
 {
-    if s.len() == 0 {
-        return false;
-    }
-    s[0] == b'"' && every(&s[1..], ByteKind::Blank)
+    s.len() != 0 && s[0] == b'"' && every(&s[1..], ByteKind::Blank)
 }

@@ -1,5 +1,5 @@
-// Whole numbers held in 64 bits: sums of weight times value, and the nearest code, exact over ℤ; the lesser and the greater of two numbers, and their
-// greatest common divisor; the upper half of a product; division by a number that stays the same.
+// Whole numbers held in 64 bits: sums of weight times value, and the nearest code, exact over ℤ; the greatest common divisor of two numbers; the upper half of
+// a product; division by a number that stays the same.
 #![tactic(auto)]
 
 ghost use Rattle.std.specs.Prelude.{◌≡◌, ◌+◌, ◌*◌, ◌≤◌, ◌<◌, max, pos, nat_abs, ◌+ℤ◌, ◌*ℤ◌};
@@ -8,16 +8,14 @@ ghost use Rattle.whole.specs.Integers.{up, dn};
 ghost use Rattle.whole.specs.Nearest.{rounded, code};
 
 pub use divisor::common_divisor;
-pub use order::{greater, greater_code, lesser, lesser_code, lesser_count};
 pub use product::upper_half;
 pub use reciprocal::{Divisor, Reciprocal, WideReciprocal};
 
 mod divisor;
-mod order;
 mod product;
 mod reciprocal;
 
-#[derive(Clone, Copy)]
+#[derive(Clone, Copy, Debug, PartialEq, Eq, PartialOrd, Ord)]
 pub struct Whole(pub i64);
 
 impl Whole {
@@ -58,54 +56,38 @@ impl Whole {
     pub fn above(self) -> u64
         ensures { result ≡ up self.0 }
     {
-        let s = self.0;
-        if s < 0 { 0 } else { s as u64 }
+        self.0.max(0) as u64
     }
 
     // How far it is from 0; the least i64 too.
     pub fn size(self) -> u64
         ensures { result ≡ nat_abs self.0 }
     {
-        let s = self.0;
-        if s < 0 {
-            let below = -(s + 1);
-            return below as u64 + 1;
-        }
-        s as u64
+        self.0.unsigned_abs()
     }
 
     // The lesser of two is as far below 0 as the farther of them.
     pub fn lesser(self, other: Whole) -> Whole
         ensures { dn result.0 ≡ max (dn self.0) (dn other.0) }
     {
-        let x = self.0;
-        let y = other.0;
-        if x < y {
-            return self;
-        }
-        other
+        self.min(other)
     }
 
     // The greater of two is as far above 0 as the farther of them.
     pub fn greater(self, other: Whole) -> Whole
         ensures { up result.0 ≡ max (up self.0) (up other.0) }
     {
-        let x = self.0;
-        let y = other.0;
-        if y < x {
-            return self;
-        }
-        other
+        self.max(other)
     }
 
     // The code from 0 to m that is nearest to self / den, the greater of two equally near.
+    #[tactic(auto, unfolding(crate::specs::Nearest::code))]
     pub fn nearest(self, den: u64, m: u64) -> u64
         requires den_nonzero { 0 < den }
         requires den_bound { 2 * nat_abs self.0 + 2 * den ≤ 18_446_744_073_709_551_615 }
         ensures { result ≡ code self.0 den m }
     {
-        let n = self.above();
-        lesser(m, rounded(n, den))
+        m.min(rounded(self.above(), den))
     }
 }
 

@@ -44,12 +44,9 @@ fn count_row(row: Row) -> usize
     ensures counts { result ≡ length (text_of row) }
     ensures few { result ≤ 66 }
 {
-    let red = row.red;
-    let green = row.green;
-    let blue = row.blue;
-    let first = count_decimals(Whole(red.0));
-    let second = count_decimals(Whole(green.0));
-    let third = count_decimals(Whole(blue.0));
+    let first = count_decimals(Whole(row.red.0));
+    let second = count_decimals(Whole(row.green.0));
+    let third = count_decimals(Whole(row.blue.0));
     first + second + third + 3
 }
 
@@ -69,10 +66,8 @@ fn count_lines(table: &[i64], rows: usize) -> usize
     ensures few { result ≤ 66 * rows }
 {
     let mut total = 0;
-    let mut i = 0;
-    while i < rows {
+    for i in 0..rows {
         total += count_row(row_at(table, i));
-        i += 1;
     }
     total
 }
@@ -83,10 +78,8 @@ fn count_head(d: Description, title: &[u8]) -> usize
     ensures counts { result ≡ length (head_text d title.now) }
     ensures few { result ≤ 423 }
 {
-    let marked = d.title;
-    let kind = d.kind;
-    let titled = count_title(marked.there, title);
-    let sized = count_size(kind, d.n);
+    let titled = count_title(d.title.there, title);
+    let sized = count_size(d.kind, d.n);
     let lower = count_bounds(lowers(d));
     let upper = count_bounds(uppers(d));
     titled + sized + lower + upper
@@ -97,7 +90,6 @@ pub fn count_text(d: Description, table: &[i64], title: &[u8]) -> usize
     requires title_value { title_fits d.title.there title.now ≡ true }
     ensures { result ≡ length (file_text d table.now title.now) }
 {
-    let kind = d.kind;
-    let rows = count_rows(kind, d.n);
+    let rows = count_rows(d.kind, d.n);
     count_head(d, title) + count_lines(table, rows)
 }

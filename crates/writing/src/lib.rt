@@ -26,23 +26,15 @@ const LONGEST_TITLE: usize = 242;
 fn is_plain(title: &[u8]) -> bool
     ensures { result ≡ every title_byte title.now }
 {
-    if !every(title, ByteKind::Permitted) {
-        return false;
-    }
-    every(title, ByteKind::InTitle)
+    every(title, ByteKind::Permitted) && every(title, ByteKind::InTitle)
 }
 
 // Without the mark the title's bytes are not judged.
+// Stays: a mark beside the bytes, and no Option, since `write` and the C interface are lent both, and `title_fits` of rules judges them so.
 fn title_fits(there: bool, title: &[u8]) -> bool
     ensures { result ≡ title_fits there title.now }
 {
-    if !there {
-        return true;
-    }
-    if LONGEST_TITLE < title.len() {
-        return false;
-    }
-    is_plain(title)
+    !there || title.len() <= LONGEST_TITLE && is_plain(title)
 }
 
 // ---- the call
@@ -54,8 +46,7 @@ pub fn write(d: Description, table: &[i64], title: &[u8], out: &mut [u8]) -> Wri
     if !could_be_read(d, table) {
         return Write::Refused(Refusal::CouldNotBeRead);
     }
-    let marked = d.title;
-    if !title_fits(marked.there, title) {
+    if !title_fits(d.title.there, title) {
         return Write::Refused(Refusal::TitleNotPlain);
     }
     let length = count_text(d, table, title);

@@ -13,35 +13,36 @@ pub fn row_at(table: &[i64], n: usize) -> Row
     ensures { result ≡ row_at table.now n }
 {
     let at = 3 * n;
-    let red = table[at];
-    let green = table[at + 1];
-    let blue = table[at + 2];
     Row {
-        red: TenMillionths(red),
-        green: TenMillionths(green),
-        blue: TenMillionths(blue),
+        red: TenMillionths(table[at]),
+        green: TenMillionths(table[at + 1]),
+        blue: TenMillionths(table[at + 2]),
     }
 }
 
+// Stays: two functions, since one with the side as a closure, `bounds_of(d, |domain| domain.lower)`, has to tell its answer by `F.post`.
 pub fn lowers(d: Description) -> Bounds
     ensures { result ≡ lowers d }
 {
-    let red = d.red.lower;
-    let green = d.green.lower;
-    let blue = d.blue.lower;
-    Bounds { red, green, blue }
+    Bounds {
+        red: d.red.lower,
+        green: d.green.lower,
+        blue: d.blue.lower,
+    }
 }
 
 pub fn uppers(d: Description) -> Bounds
     ensures { result ≡ uppers d }
 {
-    let red = d.red.upper;
-    let green = d.green.upper;
-    let blue = d.blue.upper;
-    Bounds { red, green, blue }
+    Bounds {
+        red: d.red.upper,
+        green: d.green.upper,
+        blue: d.blue.upper,
+    }
 }
 
 // A bound in ten-millionths: its text is the same.
+// Stays: `From<Thousandths>` could not require that the bound keeps its limit, without which the product does not fit.
 fn finer_bound(bound: Thousandths) -> TenMillionths
     requires { nat_abs bound.0 ≤ bound_limit }
     ensures { result.0 ≡ bound.0 *ℤ pos 10_000 }
@@ -54,12 +55,9 @@ pub fn finer(bounds: Bounds) -> Row
     requires { BoundsFit bounds }
     ensures { result ≡ finer bounds }
 {
-    let red = bounds.red;
-    let green = bounds.green;
-    let blue = bounds.blue;
     Row {
-        red: finer_bound(red),
-        green: finer_bound(green),
-        blue: finer_bound(blue),
+        red: finer_bound(bounds.red),
+        green: finer_bound(bounds.green),
+        blue: finer_bound(bounds.blue),
     }
 }

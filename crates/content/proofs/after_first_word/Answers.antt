@@ -8,15 +8,15 @@ use Rattle.text.proofs.WordsFrom.{words-next, words-none}
 use Rattle.content.proofs.after_first_word.Goals as goal
 
 -- The words past the first, where there is one; else none.
-pub returns-in_default : goal.returns-in_default
+pub returns-in-Some : goal.returns-in-Some
+unfolding parameters
+returns-in-Some c =
+    let w = words-next c.args.l.now 0 _ (omega arith) (sym c.in-Some.ensures) in
+    record { within = w.inside; rest = sym (ap parameters w.words) }
+
+pub returns-in-None : goal.returns-in-None
 unfolding words_of parameters
-returns-in_default c =
+returns-in-None c =
     let l = c.args.l.now in
     let h : length l ≤ length l = omega arith in
-    record { within = h; rest = ap words_of (drop_of_length-le l h) ∙ sym (ap parameters (words-none l 0 (sym c.in_default.ensures))) }
-
-pub returns : goal.returns
-unfolding parameters
-returns c =
-    let w = words-next c.args.l.now 0 _ _ (omega arith) (sym c.in-At.ensures) in
-    record { within = w.inside; rest = sym (ap parameters w.words) }
+    record { within = h; rest = ap words_of (drop_of_length-le l h) ∙ sym (ap parameters (words-none l 0 (sym c.in-None.ensures))) }

@@ -1,29 +1,24 @@
-use mathlib.Core.Path.{◌≡◌, ap, ◌∙◌}
-use lib.IntN.{ℤ}
+use mathlib.Core.Path.{◌≡◌}
 use mir.Syntax.{w64}
 use mir.Val.{of_z, to_z}
-use Rattle.rules.specs.Reading.Contents.{bounds_at, bounds_of}
-use Rattle.rules.specs.declared.Content.{Content}
-use Rattle.rules.specs.declared.Content.TheVariants.{Says}
-use Rattle.content.specs.Found.{item_of}
-use Rattle.content.specs.declared.Side.{Side}
 use borrow.Author.Rules.{rules}
+use Rattle.std.proofs.lemmas.Result.{err_from_is_err_and}
+use Rattle.rules.specs.Reading.Contents.{bounds_at, bounds_of}
+use Rattle.rules.specs.declared.Content.TheVariants.{Says}
 use Rattle.content.proofs.bounds_on.Goals as goal
 
 -- What the values found say is what the definition says of the words; a value that an i64 holds is the bound handed on.
--- what three values say
-abbrev saying : Side → ℤ → ℤ → ℤ → Content
-saying side x y z = Says (item_of side (bounds_at x y z))
-
-pub returns-in-All : goal.returns-in-All
+pub returns-in_err-t : goal.returns-in_err-t
 unfolding bounds_of
-returns-in-All c =
-    let t = c.in-All.t in
+returns-in_err-t c = λ side.
+    let p = err_from_is_err_and c.from_residual.result c.from_residual.ensures.1 in
+    rw (p.1, p.2) (c.in_err-t.ensures (λ x y z. Says (side (bounds_at x y z))))
+
+pub returns : goal.returns
+unfolding bounds_of
+returns c = λ side.
+    let t = c.in_ok-t.t in
     let r : to_z w64 (of_z w64 t.x) ≡ t.x = search rules in
     let g : to_z w64 (of_z w64 t.y) ≡ t.y = search rules in
     let b : to_z w64 (of_z w64 t.z) ≡ t.z = search rules in
-    ap Says c.bounds_item.ensures ∙ rw (r, g, b) (c.in-All.ensures (saying c.args.side))
-
-pub returns-in-Fault : goal.returns-in-Fault
-unfolding bounds_of
-returns-in-Fault c = c.in-Fault.ensures (saying c.args.side)
+    rw (r, g, b) (c.in_ok-t.ensures (λ x y z. Says (side (bounds_at x y z))))

@@ -9,16 +9,16 @@ unfolding size_of
 returns-in_default c = rw (words-none _ _ (sym c.in_default.ensures))
 
 pub next_word-requires-2 : goal.next_word-requires-2
-next_word-requires-2 c = (words-next _ _ _ _ c.requires (sym c.in-At.ensures)).inside
+next_word-requires-2 c = (words-next _ _ _ c.requires (sym c.in-Some.ensures)).inside
 
 pub returns-in_default-next_word : goal.returns-in_default-next_word
 unfolding size_of
 returns-in_default-next_word c =
-    let w = words-next _ _ _ _ c.requires (sym c.in-At.ensures) in
-    let v = words-next _ _ _ _ w.inside (sym c.next_word-2.ensures ∙ c.in_default-next_word.is) in
+    let w = words-next _ _ _ c.requires (sym c.in-Some.ensures) in
+    let v = words-next _ _ _ w.inside (sym c.next_word-2.ensures ∙ c.in_default-next_word.is) in
     rw (w.words, v.words)
 
 pub returns : goal.returns
 returns c =
-    let w = words-next _ _ _ _ c.requires (sym c.in-At.ensures) in
-    rw (w.words, words-none _ _ (sym c.in-Nothing.ensures)) c.size_in.ensures
+    let w = words-next _ _ _ c.requires (sym c.in-Some.ensures) in
+    rw (w.words, words-none _ _ (sym c.in-None.ensures)) c.size_in.ensures

@@ -1,4 +1,3 @@
-use native.Mathlib.Omega.{arith}
 use borrow.Author.Rules.{rules}
 use lib.Dec.{lit≤}
 use mir.Syntax.{w64}
@@ -10,16 +9,16 @@ use lib.ListN.{get_or}
 use Rattle.judge.proofs.Together.{together-more, together-fit}
 use Rattle.judge.proofs.all_small.Goals as goal
 
-pub loop-i-preserved : goal.loop-i-preserved
-loop-i-preserved c =
+pub loop-s-preserved : goal.loop-s-preserved
+loop-s-preserved c =
     let xs = c.args.samples.now in
-    let n = c.loop-i.any-bits in
-    let h : Fits w64 n = c.loop-i.auto.any in
-    let f : SFits w64 (get_or xs c.loop-i.i (pos 0)) = search rules in
-    let g : Fits w64 (bit_or n (of_z w64 (get_or xs c.loop-i.i (pos 0)))) = Fits-or c.loop-i.auto.any (Fits-of_z f) in
-    (omega arith, rw of_z-to_z (together-more xs c.loop-i.i n f (rw of_z-to_z at c.loop-i.invariant.1)))
+    let n = c.loop-s.any-bits in
+    let h : Fits w64 n = c.loop-s.auto.any in
+    let f : SFits w64 (get_or xs c.loop-s.s-index (pos 0)) = search rules in
+    let g : Fits w64 (bit_or n (of_z w64 (get_or xs c.loop-s.s-index (pos 0)))) = Fits-or c.loop-s.auto.any (Fits-of_z f) in
+    rw of_z-to_z (together-more xs c.loop-s.s-index n f (rw of_z-to_z at c.loop-s.invariant))
 
-pub returns : goal.returns
-returns c e =
-    let h : Fits w64 c.loop-i.any-bits = c.loop-i.auto.any in
-    together-fit c.args.samples.now c.loop-i.i c.loop-i.any-bits _ (omega arith) (lit≤ tt) (rw of_z-to_z at c.loop-i.invariant.1) c.if-any-lt0.false e
+pub returns-then-any-ge0 : goal.returns-then-any-ge0
+returns-then-any-ge0 c e =
+    let h : Fits w64 c.loop-s.any-bits = c.loop-s.auto.any in
+    together-fit c.args.samples.now c.loop-s.s-index c.loop-s.any-bits _ c.loop-s-test.false (lit≤ tt) (rw of_z-to_z at c.loop-s.invariant) c.if-any-ge0.true e

@@ -1,11 +1,12 @@
-use mathlib.Core.Path.{sym, ◌∙◌}
+use Rattle.std.proofs.Common.{sym, ◌∙◌}
 use Rattle.rules.specs.Descriptions.{one_domain}
+use Rattle.judge.proofs.Alike.{same-domain}
 use Rattle.judge.proofs.one_domain.Goals as goal
 
-pub returns-then-same_domain : goal.returns-then-same_domain
+pub returns-then-eq : goal.returns-then-eq
 unfolding one_domain
-returns-then-same_domain c = rw (sym c.same_domain.ensures ∙ c.if-same_domain.true) c.same_domain-then-same_domain.ensures
+returns-then-eq c = rw (sym (c.eq.ensures ∙ same-domain c.args.d.green c.args.d.red) ∙ c.if-eq.true) (c.eq-then-eq.ensures ∙ same-domain c.args.d.blue c.args.d.red)
 
-pub returns : goal.returns
+pub returns-else-eq : goal.returns-else-eq
 unfolding one_domain
-returns c = rw (sym c.same_domain.ensures ∙ c.if-same_domain.false)
+returns-else-eq c = rw (sym (c.eq.ensures ∙ same-domain c.args.d.green c.args.d.red) ∙ c.if-eq.false) c.if-eq.false

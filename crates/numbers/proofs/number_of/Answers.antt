@@ -22,8 +22,8 @@ returns-in_default c = ap (value_of _ _) c.in_default.ensures.says
 pub value-requires : goal.value-requires
 value-requires c =
     let w = c.args.w.now in
-    let p = c.in-Stands.p in
-    let d = numeral-digits w _ (sym c.in-Stands.ensures.says) in
+    let p = c.in-Some.p in
+    let d = numeral-digits w _ (sym c.in-Some.ensures.says) in
     record {
       whole_short = omega (arith, part-short w p.whole p.point);
       fraction_short = omega (arith, part-short w p.fraction p.end);
@@ -37,8 +37,8 @@ pub returns : goal.returns
 unfolding number_of
 returns c =
     let w = c.args.w.now in
-    let p = c.in-Stands.p in
+    let p = c.in-Some.p in
     let a = c.args in
     c.value.ensures
     ∙ ap (λ l. value_of a.places a.limit (some (numeral p.negative (part w p.whole p.point) (part w p.fraction p.end) p.down l))) (part_to_end w p.power)
-    ∙ ap (value_of a.places a.limit) c.in-Stands.ensures.says
+    ∙ ap (value_of a.places a.limit) c.in-Some.ensures.says

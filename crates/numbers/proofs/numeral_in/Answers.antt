@@ -51,8 +51,8 @@ returns-then-not-there-clause-says c =
     in
     rw c.if-not-there.true at r
 
-pub returns-in_default-clause-says : goal.returns-in_default-clause-says
-returns-in_default-clause-says c =
+pub returns-in_err-down-clause-says : goal.returns-in_err-down-clause-says
+returns-in_err-down-clause-says c =
     let a = c.sign_length-whole.result in
     let b = c.run_end-point.result in
     let tested : c.if-whole-point.there ≡ (ltb a b || ltb (b + bool_byte c.starts_with-pointed.result) c.run_end-end.result) =
@@ -64,9 +64,9 @@ returns-in_default-clause-says c =
     let r =
     read c.args.w.now c.starts_with-negative.result a b c.starts_with-pointed.result c.run_end-end.result c.if-whole-point.there
     c.starts_with-negative.ensures c.sign_length-whole.ensures.skips c.run_end-point.ensures.ends c.starts_with-pointed.ensures c.run_end-end.ensures.ends
-    tested none c.in_default.ensures.says
+    tested none (c.in_err-down.ensures.says)
     in
-    rw c.if-not-there.false at r
+    rw c.from_residual.ensures (rw c.if-not-there.false at r)
 
 pub returns-clause-says : goal.returns-clause-says
 returns-clause-says c =
@@ -83,6 +83,6 @@ returns-clause-says c =
     let r =
     read w c.starts_with-negative.result a b c.starts_with-pointed.result d c.if-whole-point.there
     c.starts_with-negative.ensures c.sign_length-whole.ensures.skips c.run_end-point.ensures.ends c.starts_with-pointed.ensures c.run_end-end.ensures.ends
-    tested _ c.in-Power.ensures.says
+    tested _ c.in_ok-down.ensures.says
     in
-    rw (← drop-drop c.in-Power.p.start d w, ← part_to_end w d) (rw c.if-not-there.false at r)
+    rw (← drop-drop c.in_ok-down.field-0.start d w, ← part_to_end w d) (rw c.if-not-there.false at r)

@@ -1,23 +1,18 @@
-use mathlib.Core.Path.{refl, sym, ◌∙◌}
-use Rattle.rules.specs.Reading.Lines.{minus_byte, starts}
+use mathlib.Core.Path.{◌≡◌, sym, ◌∙◌}
+use mathlib.Core.Bool.{◌||◌}
+use Rattle.rules.specs.Reading.Lines.{minus_byte, plus_byte, starts}
 use Rattle.numbers.proofs.Words.{sign-skipped}
-use mathlib.Core.Bool.{true, false}
 use Rattle.numbers.proofs.sign_length.Goals as goal
-
-pub returns-then-starts_with : goal.returns-then-starts_with
-returns-then-starts_with c =
-    let w = c.before.before.before.args.w.now in
-    let s = sign-skipped w true (starts minus_byte w) (sym c.before.starts_with.ensures ∙ c.if-starts_with.true) refl in
-    record { skips = s.0; within = s.1 }
-
-pub returns-then-starts_with-2 : goal.returns-then-starts_with-2
-returns-then-starts_with-2 c =
-    let k = c.before.before in
-    let s = sign-skipped k.before.before.before.args.w.now false true (sym k.before.starts_with.ensures ∙ k.if-starts_with.false) (sym c.before.starts_with-2.ensures ∙ c.if-starts_with-2.true) in
-    record { skips = s.0; within = s.1 }
+use Rattle.numbers.proofs.sign_length.Goals.{then-starts_with, else-starts_with}
 
 pub returns : goal.returns
 returns c =
-    let k = c.before.before in
-    let s = sign-skipped k.before.before.before.args.w.now false false (sym k.before.starts_with.ensures ∙ k.if-starts_with.false) (sym c.before.starts_with-2.ensures ∙ c.if-starts_with-2.false) in
+    let w = c.args.w.now in
+    let signed : c.if-starts_with.result ≡ (starts plus_byte w || starts minus_byte w) =
+    elim c.if-starts_with.branch [
+      | then-starts_with t ↦ t.result-is ∙ t.if-starts_with.true ∙ sym (rw (sym c.starts_with.ensures ∙ t.if-starts_with.true))
+      | else-starts_with t ↦ t.result-is ∙ t.starts_with-else-starts_with.ensures ∙ sym (rw (sym c.starts_with.ensures ∙ t.if-starts_with.false))
+    ]
+    in
+    let s = sign-skipped w c.if-starts_with.result signed in
     record { skips = s.0; within = s.1 }

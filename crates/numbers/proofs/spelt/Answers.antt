@@ -8,19 +8,17 @@ use Rattle.numbers.proofs.Digits.{spell-end, spell-step}
 use Rattle.numbers.proofs.Kept.{kept-spell}
 use Rattle.numbers.proofs.spelt.Goals as goal
 
-pub loop-i-preserved : goal.loop-i-preserved
-loop-i-preserved c =
-    let l = c.before.before.before in
-    let a = l.before.before.args in
-    let s = a.s.now in (
-      omega arith,
+pub loop-b-preserved : goal.loop-b-preserved
+loop-b-preserved c =
+    let a = c.args in
+    let l = c.loop-b in (
       omega (arith, c.one_more-n.ensures),
-      l.loop-i.invariant.2 ∙ ap (kept a.limit) (spell-step l.loop-i.n s l.loop-i.i (omega arith)) ∙ sym (kept-spell a.limit _ _)
-          ∙ ap (λ n. kept a.limit (spell n (drop (l.loop-i.i + 1) s))) (sym c.one_more-n.ensures),
+      l.invariant.1 ∙ ap (kept a.limit) (spell-step l.n a.s.now l.b-index (omega arith)) ∙ sym (kept-spell a.limit _ _)
+          ∙ ap (λ n. kept a.limit (spell n (drop (l.b-index + 1) a.s.now))) (sym c.one_more-n.ensures),
     )
 
 pub returns : goal.returns
 returns c =
-    let l = c.before in
-    let a = l.before.before.args in
-    omega (arith, l.loop-i.invariant.2 ∙ ap (kept a.limit) (spell-end l.loop-i.n a.s.now l.loop-i.i (omega arith)))
+    let l = c.loop-b in
+    let a = c.args in
+    omega (arith, l.invariant.1 ∙ ap (kept a.limit) (spell-end l.n a.s.now l.b-index (omega arith)))

@@ -15,10 +15,10 @@ returns c =
     let f = g.fraction.now in
     let limit = g.limit in
     let cut = c.cut_at-cut.result in
-    let m = c.lesser_count-a.result in
-    let n = c.lesser_count-b.result in
+    let m = c.min-a.result in
+    let n = c.min-b.result in
     c.conclude.ensures
     ∙ ap₂ (answer limit g.negative) (c.padded-quotient.ensures ∙ ap (λ k. kept limit (k * 10 ^ (cut - m - n))) c.spelt_both-front.ensures)
     (c.spelt_both-rest.ensures ∙ ap₂ (λ k l. kept limit (spell 0 (k ++ l))) (part_to_end w m) (part_to_end f n))
     ∙ exact g.places limit g.negative w f g.power.now c.requires g.down cut m n
-    (c.cut_at-cut.ensures ∙ ap (cut_of (length w) g.places g.down) c.spelt-x.ensures) c.lesser_count-a.ensures c.lesser_count-b.ensures
+    (c.cut_at-cut.ensures ∙ ap (cut_of (length w) g.places g.down) c.spelt-x.ensures) c.min-a.ensures c.min-b.ensures

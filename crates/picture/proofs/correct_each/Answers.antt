@@ -1,3 +1,4 @@
+use native.Mathlib.Omega.{arith}
 use Rattle.picture.proofs.Filled.{whole-pixel, none_filled, room-here, one-filled, all-filled}
 use Rattle.picture.proofs.correct_each.Goals as goal
 
@@ -16,3 +17,10 @@ loop-i-preserved c =
 
 pub returns : goal.returns
 returns c = λ p. all-filled c.requires.fillable (c.loop-i.invariant p) c.loop-i-test.false
+
+-- at the last pixel
+pub returns-2 : goal.returns-2
+returns-2 c =
+    λ p. all-filled c.requires.fillable
+    (one-filled c.requires.fillable (c.loop-i.invariant p) c.loop-i-test.true c.pixel_from-pixel.ensures (c.correct.ensures p) c.write_pixel.ensures)
+    (omega arith)

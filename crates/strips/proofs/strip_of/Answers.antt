@@ -55,7 +55,7 @@ parted-requires c =
 pub lane_along-requires : goal.lane_along-requires
 lane_along-requires c =
     let l = c.requires.1.lined in
-    let parted = c.in-In.ensures in
+    let parted = c.in_ok-parts.ensures in
     let some = c.common_in.ensures in
     let fits = (line-fits l).0 in
     record {
@@ -68,8 +68,8 @@ lane_along-requires c =
 
 pub returns : goal.returns
 returns c =
-    let parts = c.in-In.parts in
-    let parted = c.in-In.ensures in
+    let parts = c.in_ok-parts.parts in
+    let parted = c.in_ok-parts.ensures in
     let some = c.common_in.ensures in
     λ table l. record {
       stripped =
@@ -81,7 +81,7 @@ returns c =
             g = c.common_in.result;
             some = some;
             parted = parted;
-            runs = subst (λ x. RunsAlong x _ _ _ _ _) l.raw_is c.in-Runs.ensures.0;
+            runs = subst (λ x. RunsAlong x _ _ _ _ _) l.raw_is c.in_ok-lane.ensures.0;
             few = c.if-cells-gt-MOST_CELLS.false;
             small = c.if-parts-cells-gt-MOST_PARTS.false;
             in_terms = in_terms l.lined some parted c.if-line-ne1.false ∙ ap (λ x. x * parts.unit) (sym l.most_is);

@@ -7,11 +7,12 @@ pub returns-then-not-there : goal.returns-then-not-there
 unfolding title_fits
 returns-then-not-there c = rw c.if-not-there.true
 
-pub returns-then-title-gt-LONGEST_TITLE : goal.returns-then-title-gt-LONGEST_TITLE
+pub returns-then-title-le-LONGEST_TITLE : goal.returns-then-title-le-LONGEST_TITLE
 unfolding title_fits
-returns-then-title-gt-LONGEST_TITLE c = rw (c.if-not-there.false, lt-leb _ _ c.if-title-gt-LONGEST_TITLE.true)
+returns-then-title-le-LONGEST_TITLE c =
+    rw (c.if-not-there.false, le-leb _ _ c.if-title-le-LONGEST_TITLE.true) c.is_plain.ensures
 
-pub returns : goal.returns
+pub returns-else-title-le-LONGEST_TITLE : goal.returns-else-title-le-LONGEST_TITLE
 unfolding title_fits
-returns c =
-    rw (c.if-not-there.false, le-leb _ _ c.if-title-gt-LONGEST_TITLE.false) c.is_plain.ensures
+returns-else-title-le-LONGEST_TITLE c =
+    rw (c.if-not-there.false, lt-leb _ _ c.if-title-le-LONGEST_TITLE.false)

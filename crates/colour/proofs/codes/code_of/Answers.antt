@@ -12,11 +12,11 @@ use Rattle.colour.proofs.codes.code_of.Lts as lts
 use Rattle.colour.proofs.codes.code_of.Reads as reads
 use Rattle.colour.proofs.codes.code_of.Tie as ties
 
-abbrev After-lesser-s : Type 0
-After-lesser-s = lts.After-lesser ties.the-claims reads.Pre reads.Post
+abbrev After-min-s : Type 0
+After-min-s = lts.After-min ties.the-claims reads.Pre reads.Post
 
-moved : (c : After-lesser-s) → let a = c.args in c.lesser-s.result ≡ min a.axis.full (up a.sum.0)
-moved c = c.lesser-s.ensures ∙ ap (min c.args.axis.full) c.above.ensures
+moved : (c : After-min-s) → let a = c.args in c.min-s.result ≡ min a.axis.full (up a.sum.0)
+moved c = c.min-s.ensures ∙ ap (min c.args.axis.full) c.above.ensures
 
 coded : (c : goal.After-quotient) → let a = c.args in
     (m : ℕ) → Codable a.p a.axis m → c.quotient.result ≡ code (pos m *ℤ a.sum.0) a.axis.full m

@@ -3,4 +3,4 @@ use Rattle.colour.proofs.place.place_of.Goals as goal
 
 pub returns : goal.returns
 unfolding place_of
-returns c = rw (c.lesser-i.ensures, c.lesser-a.ensures, c.above_lower-above.ensures)
+returns c = rw (c.min-i.ensures, c.min-a.ensures, c.above_lower-above.ensures)

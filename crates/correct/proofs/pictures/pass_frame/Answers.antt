@@ -3,5 +3,5 @@ use mathlib.Core.Path.{sym}
 use Rattle.correct.proofs.Agreeing.{job-agrees}
 use Rattle.correct.proofs.pictures.pass_frame.Goals as goal
 
-pub pass_job-requires-clause-agrees : goal.pass_job-requires-clause-agrees
-pass_job-requires-clause-agrees c = job-agrees c.args.frame c.args.wanted c.requires.sized_frame (sym c.in-Ready.ensures)
+pub pass_job-requires : goal.pass_job-requires
+pass_job-requires c = record { agrees = job-agrees c.args.frame c.args.wanted c.requires.sized_frame (sym c.in-Ok.ensures) }

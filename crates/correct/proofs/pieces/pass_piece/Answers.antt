@@ -10,8 +10,8 @@ returns c = λ d readable.
     let a = c.args in
     let got = c.in-Bytes.got in
     let asked = a.want * c.pixel_bytes-size.result in
-    let read = take got (c.fill.new.space ++ drop asked a.bytes.now) in
-    let few : length read ≤ asked = omega (arith, length-take got (c.fill.new.space ++ drop asked a.bytes.now), c.in-Bytes.ensures, c.fill.auto.space, length-take asked a.bytes.now) in
+    let read = take got (c.fill.new.space ++ drop asked a.space.now.bytes.now) in
+    let few : length read ≤ asked = omega (arith, length-take got (c.fill.new.space ++ drop asked a.space.now.bytes.now), c.in-Bytes.ensures, c.fill.auto.space, length-take asked a.space.now.bytes.now) in
     inr
     (inr
     (record {

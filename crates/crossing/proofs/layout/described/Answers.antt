@@ -1,37 +1,26 @@
-use borrow.Author.Rules.{sfits_of}
-use mir.Syntax.{w64}
-use mir.ValLaws.{to_z-of_z}
-use Rattle.whole.specs.Integers.{up}
-use mathlib.Core.Path.{◌≡◌, sym, ap, ◌∙◌}
-use borrow.Author.Tests.{eq-eqb, ne_eqb}
-use Rattle.rules.specs.Boundary.{number_at, described_in}
-use Rattle.crossing.specs.declared.layout.DescriptionFound.TheVariants.{Known}
+use mathlib.Core.Path.{◌≡◌, refl, sym, ◌∙◌}
+use Rattle.std.specs.Prelude.{List, ℤ, None, Some}
+use Rattle.std.proofs.Math.Option.{none, some}
+use Rattle.std.proofs.Math.Option as M
+use Rattle.rules.specs.Boundary.{described_in, description_in, kind_in}
+use Rattle.rules.specs.declared.Kind.{Kind}
+use Rattle.crossing.specs.Layout.{crossed}
 use Rattle.crossing.proofs.layout.described.Goals as goal
-use Rattle.crossing.proofs.layout.described.Lts as lts
-use Rattle.crossing.proofs.layout.described.Reads as reads
-use Rattle.crossing.proofs.layout.described.Tie as ties
 
-abbrev After-above-kind : Type 0
-After-above-kind = lts.After-above ties.the-claims reads.Pre reads.Post
+-- A description is found exactly if its kind is.
+module _ (eleven : List ℤ) where
+  unknown : (k : M.Option Kind) → kind_in eleven ≡ k → None ≡ crossed k → crossed (described_in eleven) ≡ None
+  unfolding described_in
+  unknown none so e = rw so
+  unknown (some k) so e = cc
 
--- The kind is the first number, and 1 and 3 are its two values.
--- what is compared with 1 and 3
-first : (c : After-above-kind) → c.above-kind.result ≡ up (number_at c.before.before.args.eleven.now 0)
-first c = c.above-kind.ensures ∙ ap up (to_z-of_z w64 (number_at c.before.before.args.eleven.now 0) (sfits_of c.before.first-1.given))
+  known : (k : M.Option Kind) (kind : Kind) → kind_in eleven ≡ k → Some kind ≡ crossed k → crossed (described_in eleven) ≡ Some (description_in eleven kind)
+  unfolding described_in
+  known none kind so e = cc
+  known (some k) kind so e = let same : k ≡ kind = cc in rw (so, same)
 
-pub returns-then-kind-eq1 : goal.returns-then-kind-eq1
-unfolding described_in
-returns-then-kind-eq1 c =
-    rw (eq-eqb _ _ (sym (first c.before.before) ∙ c.before.if-kind-eq1.true)) (ap Known c.description_in.ensures)
-
-pub returns-then-kind-eq3 : goal.returns-then-kind-eq3
-unfolding described_in
-returns-then-kind-eq3 c =
-    let found = first c.before.before.before in
-    rw (ne_eqb _ _ (λ e. c.before.before.if-kind-eq1.false (found ∙ e)), eq-eqb _ _ (sym found ∙ c.before.if-kind-eq3.true)) (ap Known c.description_in-then-kind-eq3.ensures)
+pub returns-in_err-kind : goal.returns-in_err-kind
+returns-in_err-kind c = c.from_residual.ensures ∙ sym (unknown _ _ refl c.in_err-kind.ensures)
 
 pub returns : goal.returns
-unfolding described_in
-returns c =
-    let found = first c.before.before in
-    rw (ne_eqb _ _ (λ e. c.before.if-kind-eq1.false (found ∙ e)), ne_eqb _ _ (λ e. c.if-kind-eq3.false (found ∙ e)))
+returns c = rw c.description_in.ensures (sym (known _ _ _ refl c.in_ok-kind.ensures))

@@ -11,5 +11,5 @@ use Rattle.desk.proofs.printing.write_sample.Goals as goal
 same : (c : goal.After-struct_told-1) → let z = c.before.before.args.sample.0 in to_z w64 (of_z w64 z) ≡ z
 same c = to_z-of_z w64 _ (record { sfits = c.struct_told-1.given.0.1 })
 
-pub put_decimals-count-requires : goal.put_decimals-count-requires
-put_decimals-count-requires c = rw (same c) (record { fits = omega (arith, longest c.before.before.args.sample.0 (record { sfits = c.struct_told-1.given.0.1 })) })
+pub put_decimals-requires : goal.put_decimals-requires
+put_decimals-requires c = rw (same c) (record { fits = omega (arith, longest c.before.before.args.sample.0 (record { sfits = c.struct_told-1.given.0.1 })) })

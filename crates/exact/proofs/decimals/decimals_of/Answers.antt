@@ -1,6 +1,7 @@
 use Prim.Native.Nat.{ℕ, ◌+◌, ◌*◌, ◌/◌, ◌≤◌, ◌<◌}
+use native.Mathlib.Nat as NatL
 use native.Mathlib.Omega.{arith}
-use Rattle.exact.proofs.Dividing.{Dividing, next, digits-most}
+use Rattle.exact.proofs.Dividing.{Dividing, next, digits-most, at-most}
 use Rattle.exact.proofs.decimals.decimals_of.Goals as goal
 
 -- the digits after one more, which fit
@@ -12,7 +13,7 @@ pub overflow_mul-digits : goal.overflow_mul-digits
 overflow_mul-digits c = record {
   fits = omega (
     arith,
-    after-most c.requires.rest_lt_unit c.requires.most_bound c.loop-left.invariant c.loop-left-test.true (omega (arith, c.loop-left.invariant.within)),
+    after-most c.requires.rest_lt_unit c.requires.most_bound c.loop-count.invariant (NatL.pos_of_ne-zero c.if-left-eq0.false) c.loop-count-test.true,
   );
 }
 
@@ -20,9 +21,12 @@ pub overflow_add-digits : goal.overflow_add-digits
 overflow_add-digits c = record {
   fits = omega (
     arith,
-    after-most c.requires.rest_lt_unit c.requires.most_bound c.loop-left.invariant c.loop-left-test.true (omega (arith, c.loop-left.invariant.within)),
+    after-most c.requires.rest_lt_unit c.requires.most_bound c.loop-count.invariant (NatL.pos_of_ne-zero c.if-left-eq0.false) c.loop-count-test.true,
   );
 }
 
-pub loop-left-preserved : goal.loop-left-preserved
-loop-left-preserved c = next c.requires.rest_lt_unit c.loop-left.invariant c.loop-left-test.true (omega (arith, c.loop-left.invariant.within))
+pub loop-count-preserved : goal.loop-count-preserved
+loop-count-preserved c = next c.requires.rest_lt_unit c.loop-count.invariant (NatL.pos_of_ne-zero c.if-left-eq0.false) c.loop-count-test.true
+
+pub returns : goal.returns
+returns c = at-most c.requires.rest_lt_unit c.loop-count.invariant (omega (arith, c.loop-count.invariant.within, c.loop-count-test.false))

@@ -10,4 +10,4 @@ returns-then-not-carries c den wide =
 pub returns : goal.returns
 returns c den wide =
     carrying-widens _ c.args.share c.args.span c.row_code-code.result _ _
-    (sym c.carries.ensures ∙ not-false _ c.if-not-carries.false-raw) (c.row_code-code.ensures den wide) c.lesser_code-least.ensures c.greater_code-greatest.ensures
+    (sym c.carries.ensures ∙ not-false _ c.if-not-carries.false-raw) (c.row_code-code.ensures den wide) c.min-least.ensures c.max-greatest.ensures

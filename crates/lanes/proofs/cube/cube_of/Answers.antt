@@ -15,8 +15,9 @@ use Rattle.colour.proofs.Plans.{axis-fits}
 use Rattle.lanes.specs.Cubes.{LaneOf, lane_in, Halved, Wide, Single, NearOrFar, Nearby, CubedFor, CubedIf}
 use Rattle.lanes.specs.Parts.{Parted}
 use Rattle.lanes.specs.declared.cube.Cube.{Cube}
-use Rattle.lanes.specs.declared.cube.CubeFound.{CubeFound}
-use Rattle.lanes.specs.declared.cube.CubeFound.TheVariants.{Near, Far, Beyond}
+use Rattle.std.specs.Prelude.{Option, Some, None}
+use Rattle.lanes.specs.declared.cube.Way.{Way}
+use Rattle.lanes.specs.declared.cube.Way.TheVariants.{Near, Far}
 use Rattle.lanes.proofs.Parting.{unit_most}
 use Rattle.lanes.proofs.Cubing.{den-narrow, parts-codable}
 use Rattle.lanes.proofs.cube.cube_of.Goals as goal
@@ -49,10 +50,10 @@ module _ {plan : Plan} {table : List ℤ} (p : Planned plan table) {g : ℕ} {cu
       }
 
   found : {d : Description} {depths : Depths} → (Wide cube → CubedFor d depths cube table) → cube.times ≡ plan.times → cube.most ≡ corrected_m p.depths
-      → (r : CubeFound) → NearOrFar cube r → CubedIf d depths table r
-  found {d} {depths} q t e (Near c) h = subst (λ x. CubedFor d depths x table × Nearby x) (sym h.0) (q h.1.0, nearby t e h.1.1)
-  found {d} {depths} q t e (Far c) h = subst (λ x. CubedFor d depths x table) (sym h.0) (q h.1)
-  found q t e Beyond h = tt
+      → (r : Option Way) → NearOrFar cube r → CubedIf d depths table r
+  found {d} {depths} q t e (Some (Near c)) h = subst (λ x. CubedFor d depths x table × Nearby x) (sym h.0) (q h.1.0, nearby t e h.1.1)
+  found {d} {depths} q t e (Some (Far c)) h = subst (λ x. CubedFor d depths x table) (sym h.0) (q h.1)
+  found q t e None h = tt
 
 pub lanes_of-requires : goal.lanes_of-requires
 lanes_of-requires c =
@@ -65,16 +66,16 @@ parted-requires c =
     record { axis_fits = axis-fits p Red; g_nonzero = c.common_parts-g.ensures; unit_bound = unit_most p Red }
 
 pub near_or_far-requires : goal.near_or_far-requires
-near_or_far-requires c = halved c.requires.1.0.planned c.common_parts-g.ensures c.in-In.ensures refl refl c.of.ensures c.of-2.ensures
+near_or_far-requires c = halved c.requires.1.0.planned c.common_parts-g.ensures c.in_ok-axis.ensures refl refl c.of.ensures c.of-2.ensures
 
 pub returns : goal.returns
 returns c =
     let a = c.args in
     let g = c.common_parts-g.result in
-    let lanes = c.in-All.lanes in
+    let lanes = c.in_ok-lanes.lanes in
     λ table p e.
     let most = c.greatest-2.ensures ∙ ap corrected_m (sym e) in
-    found p.planned c.common_parts-g.ensures c.in-In.ensures
+    found p.planned c.common_parts-g.ensures c.in_ok-axis.ensures
     (λ w. record {
       cubed =
           record {
@@ -83,8 +84,8 @@ returns c =
             three_d = p.three_d;
             g = g;
             some = c.common_parts-g.ensures;
-            lanes = λ k. subst (λ m. LaneOf g m a.plan.cells (axis_in a.plan k) (lane_in lanes k)) (c.greatest.ensures ∙ ap raw_m (sym e)) (c.in-All.ensures k);
-            parted = c.in-In.ensures;
+            lanes = λ k. subst (λ m. LaneOf g m a.plan.cells (axis_in a.plan k) (lane_in lanes k)) (c.greatest.ensures ∙ ap raw_m (sym e)) (c.in_ok-lanes.ensures k);
+            parted = c.in_ok-axis.ensures;
             across_is = refl;
             times_is = refl;
             most_is = most;

@@ -59,8 +59,8 @@ lane_in-requires-3 c =
 pub returns : goal.returns
 returns c =
     let a = c.args in
-    let lanes : Lanes = record { red = c.in-Runs.red; green = c.in-Runs-lane_in.green; blue = c.in-Runs-lane_in-2.blue } in
+    let lanes : Lanes = record { red = c.in_ok-red.red; green = c.in_ok-green.green; blue = c.in_ok-blue.blue } in
     each-colour (λ k. LaneOf a.g a.m a.plan.cells (axis_in a.plan k) (lane_in lanes k))
-    c.in-Runs.ensures
-    c.in-Runs-lane_in.ensures
-    c.in-Runs-lane_in-2.ensures
+    c.in_ok-red.ensures
+    c.in_ok-green.ensures
+    c.in_ok-blue.ensures

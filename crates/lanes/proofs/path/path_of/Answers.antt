@@ -4,20 +4,20 @@ use Rattle.lanes.proofs.Sorting.{Sorted, Stepped, sorted, stepped, climbs}
 use Rattle.lanes.proofs.path.path_of.Goals as goal
 
 -- The three numbers that come out are the keys in order, so that no difference falls below 0 and no weight is above D.
-in_order : (c : goal.After-lesser-last) → let a = c.args in
-    Sorted (three a.red a.green a.blue) c.greater-one.result c.greater-two.result c.lesser-last.result
+in_order : (c : goal.After-min-last) → let a = c.args in
+    Sorted (three a.spot.red a.spot.green a.spot.blue) c.max-one.result c.max-two.result c.min-last.result
 in_order c =
     let a = c.args in
-    sorted (three a.red a.green a.blue)
-    c.greater-upper.ensures
-    c.lesser-lower.ensures
-    c.greater-one.ensures
-    c.lesser-middle.ensures
-    c.greater-two.ensures
-    c.lesser-last.ensures
+    sorted (three a.spot.red a.spot.green a.spot.blue)
+    c.max-upper.ensures
+    c.min-lower.ensures
+    c.max-one.ensures
+    c.min-middle.ensures
+    c.max-two.ensures
+    c.min-last.ensures
 
-steps : (c : goal.After-lesser-last) → let a = c.args in
-    Stepped a.den a.across c.greater-one.result c.greater-two.result c.lesser-last.result
+steps : (c : goal.After-min-last) → let a = c.args in
+    Stepped a.den a.across c.max-one.result c.max-two.result c.min-last.result
 steps c = stepped c.requires (in_order c)
 
 pub overflow_sub-den : goal.overflow_sub-den

@@ -1,4 +1,3 @@
-use Prim.Native.Nat.{◌-◌, ◌≤◌}
 use lib.ListN.{length}
 use Rattle.lanes.specs.Spots.{lane_at}
 use Rattle.lanes.proofs.Stored.{Stored}
@@ -7,8 +6,5 @@ use Rattle.lanes.proofs.spots.lay_lanes.Given as goal
 -- The invariant: each of the three is filled up to the place that the loop has come to.
 abbrev pub invariant-loop-j : goal.invariant-loop-j
 invariant-loop-j l =
-    (l.j ≤ length l.initial.times) × Stored 0 (λ k. (lane_at l.lanes k).times) (length l.initial.times) l.j l.times × Stored 0 (λ k. (lane_at l.lanes k).from) (length l.initial.times) l.j l.from
+    Stored 0 (λ k. (lane_at l.lanes k).times) (length l.initial.times) l.j l.times × Stored 0 (λ k. (lane_at l.lanes k).from) (length l.initial.times) l.j l.from
     × Stored 0 (λ k. (lane_at l.lanes k).stride) (length l.initial.times) l.j l.strides
-
-abbrev pub decreases-loop-j : goal.decreases-loop-j
-decreases-loop-j l = length l.initial.times - l.j

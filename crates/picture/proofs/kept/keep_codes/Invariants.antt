@@ -1,4 +1,3 @@
-use Prim.Native.Nat.{◌-◌, ◌≤◌}
 use lib.ListN.{length}
 use Rattle.colour.specs.Lines.{Lined}
 use Rattle.lanes.proofs.Stored.{Stored}
@@ -7,7 +6,4 @@ use Rattle.picture.proofs.kept.keep_codes.Given as goal
 
 -- The invariant: the codes up to the one that the loop has come to are kept.
 abbrev pub invariant-loop-c : goal.invariant-loop-c
-invariant-loop-c l = (l.c ≤ l.count) × ((k : Lined l.line l.table) → Stored 0 (line_by k) (length l.initial.kept) l.c l.kept)
-
-abbrev pub decreases-loop-c : goal.decreases-loop-c
-decreases-loop-c l = l.count - l.c
+invariant-loop-c l = (k : Lined l.line l.table) → Stored 0 (line_by k) (length l.initial.kept) l.c l.kept

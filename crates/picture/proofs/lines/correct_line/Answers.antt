@@ -5,13 +5,13 @@ use Rattle.picture.proofs.lines.correct_line.Goals as goal
 pub correct_strip-requires-clause-inside : goal.correct_strip-requires-clause-inside
 correct_strip-requires-clause-inside c =
     let l = c.requires.line_at in
-    let q = c.in-Laid.ensures c.args.table.now l in
+    let q = c.in-Some.ensures c.args.table.now l in
     (q.stripped, strip-inside l q c.requires.inside)
 
-pub returns-in-Laid : goal.returns-in-Laid
-returns-in-Laid c =
-    λ l. let q = c.in-Laid.ensures c.args.table.now l in
+pub returns-in-Some : goal.returns-in-Some
+returns-in-Some c =
+    λ l. let q = c.in-Some.ensures c.args.table.now l in
     strip-passed l q (c.correct_strip.ensures q.stripped (strip-inside l q c.requires.inside))
 
-pub returns-in-Beyond : goal.returns-in-Beyond
-returns-in-Beyond c = λ l. c.pass_line.ensures l.lined
+pub returns-in-None : goal.returns-in-None
+returns-in-None c = λ l. c.pass_line.ensures l.lined

@@ -13,8 +13,8 @@ use Rattle.pointing.proofs.lines.line_past.Goals as goal
 pub loop-start-init : goal.loop-start-init
 loop-start-init c = begins c.args.file.now c.args.others _ c.new-c.ensures.0 c.new-c.ensures.1
 
-pub returns-in_default-clause-is : goal.returns-in_default-clause-is
-returns-in_default-clause-is c = sym (ends c.loop-start.invariant (step_end c.args.file.now c.loop-start.c c.loop-start.invariant.standing (sym c.in_default.ensures)))
+pub returns-clause-is : goal.returns-clause-is
+returns-clause-is c = sym (ends c.loop-start.invariant (step_end c.args.file.now c.loop-start.c c.loop-start.invariant.standing (sym c.in_default.ensures)))
 
 -- the line at the cursor, as a place and a length
 at-cursor : {file : List ℕ} {others left from to line : ℕ} {c next : Cursor} → Ahead file others c left → LineFound file c from to line next → left ≡ 0
@@ -25,8 +25,8 @@ at-cursor {file} {from = from} {to} a found z =
 
 pub returns-then-left-eq0 : goal.returns-then-left-eq0
 returns-then-left-eq0 c =
-    let found = step_line c.args.file.now c.loop-start.c c.loop-start.invariant.standing _ _ _ _ (sym c.in-Line.ensures) in
+    let found = step_line c.args.file.now c.loop-start.c c.loop-start.invariant.standing _ (sym c.in-Some.ensures) in
     record { is = at-cursor c.loop-start.invariant found c.if-left-eq0.true; within = omega (arith, found.order, found.inside) }
 
 pub loop-start-preserved : goal.loop-start-preserved
-loop-start-preserved c = one_less c.loop-start.invariant (step_line c.args.file.now c.loop-start.c c.loop-start.invariant.standing _ _ _ _ (sym c.in-Line.ensures)) c.if-left-eq0.false
+loop-start-preserved c = one_less c.loop-start.invariant (step_line c.args.file.now c.loop-start.c c.loop-start.invariant.standing _ (sym c.in-Some.ensures)) c.if-left-eq0.false

@@ -25,21 +25,22 @@ ended l place w h e = rw e (word-inside l place h).inside
 
 pub overflow_add-end : goal.overflow_add-end
 overflow_add-end c =
-    record { fits = omega (arith, ended c.args.l.now c.loop-left.place _ c.loop-left.invariant.inside c.word_from-word.ensures, c.well_formed) }
+    record { fits = omega (arith, ended c.args.l.now c.loop.place _ c.loop.invariant.inside c.word_from-word.ensures, c.well_formed) }
 
 pub slice_bounds-is_right-end : goal.slice_bounds-is_right-end
-slice_bounds-is_right-end c = ended c.args.l.now c.loop-left.place _ c.loop-left.invariant.inside c.word_from-word.ensures
+slice_bounds-is_right-end c = ended c.args.l.now c.loop.place _ c.loop.invariant.inside c.word_from-word.ensures
 
 pub returns-then-not-is_right : goal.returns-then-not-is_right
 returns-then-not-is_right c =
-    c.word_from-word.ensures ∙ sym (fails c.loop-left.invariant c.loop-left-test.true (told c.args.wanted c.args.l.now c.loop-left.place _ c.word_from-word.ensures c.is_right.ensures ∙ c.if-not-is_right.true))
+    c.word_from-word.ensures ∙ sym (fails c.loop.invariant (omega arith) (told c.args.wanted c.args.l.now c.loop.place _ c.word_from-word.ensures c.is_right.ensures ∙ c.if-not-is_right.true))
 
-pub loop-left-preserved : goal.loop-left-preserved
-loop-left-preserved c =
-    let p = c.loop-left.place in
+pub loop-preserved : goal.loop-preserved
+loop-preserved c =
+    let p = c.loop.place in
     let ends : c.word_from-word.result.place + c.word_from-word.result.length ≡ word_end c.args.l.now p =
-    ap (λ (x : Spot). x.place + x.length) c.word_from-word.ensures ∙ word-end c.args.l.now p c.loop-left.invariant.inside in
-    rw ends (goes-on c.loop-left.invariant c.loop-left-test.true (told c.args.wanted c.args.l.now p _ c.word_from-word.ensures c.is_right.ensures ∙ c.if-not-is_right.false))
+    ap (λ (x : Spot). x.place + x.length) c.word_from-word.ensures ∙ word-end c.args.l.now p c.loop.invariant.inside in
+    let left : c.args.count - (c.loop.counter + 1) ≡ c.args.count - c.loop.counter - 1 = omega arith in
+    rw (left, ends) (goes-on c.loop.invariant (omega arith) (told c.args.wanted c.args.l.now p _ c.word_from-word.ensures c.is_right.ensures ∙ c.if-not-is_right.false))
 
 pub returns : goal.returns
-returns c = c.word_from.ensures ∙ sym (runs-out c.loop-left.invariant c.loop-left-test.false)
+returns c = c.word_from.ensures ∙ sym (runs-out c.loop.invariant (omega arith))

@@ -1,7 +1,7 @@
-use Prim.Native.Nat.{◌+◌, ◌*◌, ◌/◌, ◌<◌}
-use mathlib.Core.Path.{◌≡◌, ◌∙◌}
+use Prim.Native.Nat.{ℕ, ◌+◌, ◌*◌, ◌/◌, ◌%◌, ◌<◌}
+use mathlib.Core.Path.{◌≡◌, ap, ◌∙◌}
 use native.Mathlib.Omega.{arith}
-use lib.ListN.{length}
+use lib.ListN.{length, get_or}
 use Rattle.ppm.proofs.Codes.{narrow-byte, wide-bytes}
 use Rattle.ppm.proofs.raster.byte_at.Goals as goal
 
@@ -10,18 +10,20 @@ pub returns-then-not-wide : goal.returns-then-not-wide
 returns-then-not-wide c =
     let narrow-place : let a = c.args in a.i < length a.codes.now = rw c.if-not-wide.true at c.requires in
     let a = c.args in
-    c.lesser_byte.ensures ∙ narrow-byte a.codes.now a.i narrow-place ∙ rw c.if-not-wide.true
+    ap (λ both. get_or both 1 0) c.to_be_bytes.ensures ∙ narrow-byte a.codes.now a.i narrow-place ∙ rw c.if-not-wide.true
 
 pub returns-then-i-eq0 : goal.returns-then-i-eq0
 returns-then-i-eq0 c =
     let wide-place : let a = c.args in a.i / 2 < length a.codes.now = let twice = rw c.if-not-wide.false at c.requires in omega arith in
     let a = c.args in
     let even : a.i / 2 * 2 ≡ a.i = omega (arith, c.if-i-eq0.true) in
-    c.greater_byte.ensures ∙ (wide-bytes a.codes.now (a.i / 2) wide-place).0 ∙ rw (even, c.if-not-wide.false)
+    let code : ℕ = get_or a.codes.now (a.i / 2) 0 in
+    let greater : code / 256 % 256 ≡ code / 256 = omega (arith, c.type_inv.codes (a.i / 2)) in
+    ap (λ both. get_or both 0 0) c.to_be_bytes-2.ensures ∙ greater ∙ (wide-bytes a.codes.now (a.i / 2) wide-place).0 ∙ rw (even, c.if-not-wide.false)
 
-pub returns : goal.returns
-returns c =
+pub returns-else-i-eq0 : goal.returns-else-i-eq0
+returns-else-i-eq0 c =
     let wide-place : let a = c.args in a.i / 2 < length a.codes.now = let twice = rw c.if-not-wide.false at c.requires in omega arith in
     let a = c.args in
     let odd : a.i / 2 * 2 + 1 ≡ a.i = omega (arith, c.if-i-eq0.false) in
-    c.lesser_byte-2.ensures ∙ (wide-bytes a.codes.now (a.i / 2) wide-place).1 ∙ rw (odd, c.if-not-wide.false)
+    ap (λ both. get_or both 1 0) c.to_be_bytes-2.ensures ∙ (wide-bytes a.codes.now (a.i / 2) wide-place).1 ∙ rw (odd, c.if-not-wide.false)

@@ -1,4 +1,4 @@
-use Prim.Native.Nat.{ℕ, ◌≤◌, ◌-◌}
+use Prim.Native.Nat.{ℕ}
 use mathlib.Core.Path.{◌≡◌}
 use mathlib.Core.Bool.{Bool}
 use lib.Dec.{leb}
@@ -13,7 +13,4 @@ abbrev pub within : ℕ → ℕ → Bool
 within m c = leb c m
 
 abbrev pub invariant-loop-i : goal.invariant-loop-i
-invariant-loop-i l = (l.i ≤ length l.codes) × (length (run (within l.m) l.codes) ≡ run_end (within l.m) l.codes l.i)
-
-abbrev pub decreases-loop-i : goal.decreases-loop-i
-decreases-loop-i l = length l.codes - l.i
+invariant-loop-i l = length (run (within l.m) l.codes) ≡ run_end (within l.m) l.codes l.i

@@ -31,26 +31,26 @@ returns-in_default c =
 pub slice_bounds-put_line-end : goal.slice_bounds-put_line-end
 slice_bounds-put_line-end c =
     let h = here c.loop-start.invariant c.fill_rows-run.ensures c.cursor_past-c.ensures in
-    (step_line c.args.file.now c.cursor_past-c.result h.standing _ _ _ _ (sym c.in-Line.ensures)).inside
+    (step_line c.args.file.now c.cursor_past-c.result h.standing _ (sym c.in-Some.ensures)).inside
 
 pub put_line-at-requires-clause-line_keeps : goal.put_line-at-requires-clause-line_keeps
 put_line-at-requires-clause-line_keeps c =
     let h = here c.loop-start.invariant c.fill_rows-run.ensures c.cursor_past-c.ensures in
-    line-keeps h (step_line c.args.file.now c.cursor_past-c.result h.standing _ _ _ _ (sym c.in-Line.ensures))
+    line-keeps h (step_line c.args.file.now c.cursor_past-c.result h.standing _ (sym c.in-Some.ensures))
 
 pub put_line-at-requires-clause-l_in_bounds : goal.put_line-at-requires-clause-l_in_bounds
 put_line-at-requires-clause-l_in_bounds c =
     let h = here c.loop-start.invariant c.fill_rows-run.ensures c.cursor_past-c.ensures in
-    fits h (step_line c.args.file.now c.cursor_past-c.result h.standing _ _ _ _ (sym c.in-Line.ensures))
+    fits h (step_line c.args.file.now c.cursor_past-c.result h.standing _ (sym c.in-Some.ensures))
 
 pub loop-start-smaller : goal.loop-start-smaller
 loop-start-smaller c =
     let h = here c.loop-start.invariant c.fill_rows-run.ensures c.cursor_past-c.ensures in
-    let found = step_line c.args.file.now c.cursor_past-c.result h.standing _ _ _ _ (sym c.in-Line.ensures) in
+    let found = step_line c.args.file.now c.cursor_past-c.result h.standing _ (sym c.in-Some.ensures) in
     omega (arith, run-forward c.fill_rows-run.ensures.passed, ap (λ (c : Cursor). c.at) c.cursor_past-c.ensures, found.here, found.order, found.inside, found.place)
 
 pub loop-start-preserved : goal.loop-start-preserved
 loop-start-preserved c =
     let h = here c.loop-start.invariant c.fill_rows-run.ensures c.cursor_past-c.ensures in
-    let found = step_line c.args.file.now c.cursor_past-c.result h.standing _ _ _ _ (sym c.in-Line.ensures) in
+    let found = step_line c.args.file.now c.cursor_past-c.result h.standing _ (sym c.in-Some.ensures) in
     goes-on h found _ _ c.put_line-at.ensures.next c.put_line-at.ensures.puts

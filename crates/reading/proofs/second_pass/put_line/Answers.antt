@@ -24,21 +24,21 @@ returns-in_default-row_on-clause-puts c =
     rw (wrong-samples c.args.l.now _ (sym c.in-Data.ensures) c.row_on.ensures _ c.in_default-row_on.is) (sym (splice-none c.args.table.now c.args.at))
 
 pub bounds-table-at : goal.bounds-table-at
-bounds-table-at c = omega (arith, ap length (row-samples c.args.l.now _ (sym c.in-Data.ensures) c.row_on.ensures _ c.in-ARow.is))
+bounds-table-at c = omega (arith, ap length (row-samples c.args.l.now _ (sym c.in-Data.ensures) c.row_on.ensures _ c.in-Ok.is))
 
 pub bounds-table-at-2 : goal.bounds-table-at-2
-bounds-table-at-2 c = simp length-set (omega (arith, ap length (row-samples c.args.l.now _ (sym c.in-Data.ensures) c.row_on.ensures _ c.in-ARow.is)))
+bounds-table-at-2 c = simp length-set (omega (arith, ap length (row-samples c.args.l.now _ (sym c.in-Data.ensures) c.row_on.ensures _ c.in-Ok.is)))
 
 pub bounds-table-at-3 : goal.bounds-table-at-3
-bounds-table-at-3 c = simp length-set (omega (arith, ap length (row-samples c.args.l.now _ (sym c.in-Data.ensures) c.row_on.ensures _ c.in-ARow.is)))
+bounds-table-at-3 c = simp length-set (omega (arith, ap length (row-samples c.args.l.now _ (sym c.in-Data.ensures) c.row_on.ensures _ c.in-Ok.is)))
 
 pub returns-clause-next : goal.returns-clause-next
-returns-clause-next c = rw (row-samples c.args.l.now _ (sym c.in-Data.ensures) c.row_on.ensures _ c.in-ARow.is)
+returns-clause-next c = rw (row-samples c.args.l.now _ (sym c.in-Data.ensures) c.row_on.ensures _ c.in-Ok.is)
 
 pub returns-clause-puts : goal.returns-clause-puts
 returns-clause-puts c =
-    let row = c.in-ARow.row in
-    let samples = row-samples c.args.l.now _ (sym c.in-Data.ensures) c.row_on.ensures _ c.in-ARow.is in
+    let row = c.in-Ok.row in
+    let samples = row-samples c.args.l.now _ (sym c.in-Data.ensures) c.row_on.ensures _ c.in-Ok.is in
     let room : c.args.at + 3 ≤ length c.args.table.now = omega (arith, ap length samples) in
     let red : to_z w64 (of_z w64 row.red.0) ≡ row.red.0 = search rules in
     let green : to_z w64 (of_z w64 row.green.0) ≡ row.green.0 = search rules in

@@ -1,5 +1,6 @@
-use Rattle.text.proofs.SameBytes.{is_same}
+use mathlib.Core.Path.{◌∙◌}
+use Rattle.text.proofs.SameBytes.{bytewise}
 use Rattle.text.proofs.keywords.is_named.Goals as goal
 
 pub returns : goal.returns
-returns c = is_same _ _ _ c.same.ensures.0 c.same.ensures.1
+returns c = c.eq.ensures ∙ bytewise c.args.w.now c.args.name.now

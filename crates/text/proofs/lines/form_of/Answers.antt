@@ -24,9 +24,9 @@ returns-in_default c =
     rw (form-first _ w.before.before.before.before.before.before.if-l-eq0.false, ne_eqb _ 35 w.before.before.before.before.if-l-eq35.false, words-none _ 0 (sym w.next_word.ensures ∙ c.in_default.is))
 
 pub slice_bounds-word_form-end : goal.slice_bounds-word_form-end
-slice_bounds-word_form-end c = omega (arith, (words-next c.args.l.now 0 c.in-At.start c.in-At.end (omega arith) (sym c.in-At.ensures)).inside)
+slice_bounds-word_form-end c = omega (arith, (words-next c.args.l.now 0 c.in-Some.word (omega arith) (sym c.in-Some.ensures)).inside)
 
 pub returns : goal.returns
 unfolding word_form
 returns c =
-    rw (form-first _ c.if-l-eq0.false, ne_eqb _ 35 c.if-l-eq35.false, (words-next c.args.l.now 0 c.in-At.start c.in-At.end (omega arith) (sym c.in-At.ensures)).words) c.word_form.ensures
+    rw (form-first _ c.if-l-eq0.false, ne_eqb _ 35 c.if-l-eq35.false, (words-next c.args.l.now 0 c.in-Some.word (omega arith) (sym c.in-Some.ensures)).words) c.word_form.ensures

@@ -6,10 +6,10 @@ pub returns-then-starts_number : goal.returns-then-starts_number
 unfolding word_form
 returns-then-starts_number c = rw (sym c.before.starts_number.ensures ∙ c.if-starts_number.true)
 
-pub returns-in-Known : goal.returns-in-Known
+pub returns-in-Some : goal.returns-in-Some
 unfolding word_form
-returns-in-Known c = rw (sym c.starts_number.ensures ∙ c.if-starts_number.false, sym c.in-Known.ensures)
+returns-in-Some c = rw (sym c.starts_number.ensures ∙ c.if-starts_number.false, sym c.in-Some.ensures)
 
-pub returns-in-Unknown : goal.returns-in-Unknown
+pub returns-in-None : goal.returns-in-None
 unfolding word_form
-returns-in-Unknown c = rw (sym c.starts_number.ensures ∙ c.if-starts_number.false, sym c.in-Unknown.ensures)
+returns-in-None c = rw (sym c.starts_number.ensures ∙ c.if-starts_number.false, sym c.in-None.ensures)

@@ -3,7 +3,7 @@ use borrow.Author.Rules.{rules}
 use mir.Syntax.{w64}
 use mir.Val.{to_z, of_z}
 use mir.ValLaws.{to_z-of_z}
-use Rattle.lettering.proofs.Texts.{puts-both}
+use Rattle.lettering.proofs.Pens.{adds-both}
 use Rattle.writing.proofs.lines.put_number.Goals as goal
 
 -- The number, and the byte that ends it.
@@ -11,4 +11,4 @@ use Rattle.writing.proofs.lines.put_number.Goals as goal
 pub returns : goal.returns
 returns c =
     let same : let z = c.args.n.0 in to_z w64 (of_z w64 z) ≡ z = to_z-of_z w64 _ (search rules) in
-    puts-both (rw same at c.put_decimals-after_number.ensures) c.put_byte.ensures
+    adds-both (rw same at c.put_decimals.ensures) c.put_byte.ensures

@@ -4,10 +4,10 @@ use Rattle.reading.specs.View.{view}
 use Rattle.reading.proofs.state.State.with_item.Goals as goal
 
 -- What that method adds is what the item adds.
-pub returns-in-Nothing-clause-added : goal.returns-in-Nothing-clause-added
+pub returns-in-Nothing : goal.returns-in-Nothing
 unfolding add
-returns-in-Nothing-clause-added c = rw c.in-Nothing.is
+returns-in-Nothing c = rw c.in-Nothing.is
 
-pub returns-in-OfRow-clause-added : goal.returns-in-OfRow-clause-added
+pub returns-in-OfRow : goal.returns-in-OfRow
 unfolding add
-returns-in-OfRow-clause-added c = c.with_rows.ensures.added ∙ ap (add (view c.args.self)) (sym c.in-OfRow.is)
+returns-in-OfRow c = c.with_rows.ensures ∙ ap (add (view c.args.self)) (sym c.in-OfRow.is)

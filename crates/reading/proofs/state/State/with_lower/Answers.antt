@@ -1,9 +1,8 @@
 use mathlib.Core.Path.{refl}
 use Rattle.rules.specs.Reading.Judge.{add}
-use Rattle.reading.proofs.Fits.{fit-lower}
 use Rattle.reading.proofs.state.State.with_lower.Goals as goal
 
 -- The view with one more thing given is what the rules add.
 pub returns : goal.returns
 unfolding add
-returns c = record { added = refl; fit = fit-lower c.requires.fit_2 c.args.lower c.requires.bounds_within }
+returns c = refl
