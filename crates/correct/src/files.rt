@@ -1,5 +1,5 @@
 // From the file IN to the file OUT. The output is written beside OUT, under a name of its own, and takes OUT's name when it is whole.
-ghost use Rattle.std.specs.Prelude.{◌≡◌, false, ◌+◌, ◌<◌, ◌≤◌, IfSome, length};
+ghost use Rattle.std.specs.Prelude.{◌≡◌, false, ◌+◌, ◌<◌, ◌≤◌, IfOk, length};
 ghost use Rattle.io.specs.Counts.{IsPrefixLen};
 ghost use Rattle.lettering.specs.Putting.{Room, Puts};
 ghost use Rattle.desk.specs.Outcomes.{EndsAs};
@@ -11,81 +11,68 @@ use crate::outcomes::{Story, outcome_of};
 use crate::pictures::pass_pictures;
 use crate::space::{Space, Table};
 use crate::words;
+use crate::words::Trouble;
 use desk::{
-    Host, Input, Last, Outcome, Output, create_output, is_link, is_missing, is_no_file, is_taken,
-    open_input, open_update, remove, rename, word_at,
+    Host, Input, Last, Outcome, Output, is_link, is_missing, is_no_file, is_taken, say_error,
+    word_at,
 };
 use lettering::Pen;
+use std::io::Error;
 
 // The longest name that the system takes.
 const LAST: usize = 4095;
 
-// How many part names are tried, and how much longer than OUT's they are.
-const PARTS: u8 = 100;
+// The last part name that is tried, and how much longer than OUT's they are.
+const LAST_PART: u8 = 99;
 
 const PART_BYTES: usize = 8;
 
+const CANNOT_WRITE: &str = "cannot write OUT";
+
 // ---- names
 
-// The name that an argument gives, put at the start of `path`, and how many bytes it has; or nothing, once it was said why it is none.
-fn name_at(host: &mut Host, place: usize, what: &[u8], path: &mut [u8]) -> Option<usize>
-    ensures counts { IfSome result (λ n. IsPrefixLen n path.new) }
-    ensures within { IfSome result (λ n. n ≤ most_name) }
+// The name that an argument gives, put at the start of `path`, and how many bytes it has.
+fn name_at(host: &Host, place: usize, what: &'static str, path: &mut [u8]) -> Result<usize, Trouble>
+    ensures counts { IfOk result (λ n. IsPrefixLen n path.new) }
+    ensures within { IfOk result (λ n. n ≤ most_name) }
 {
     let Some(n) = word_at(host, place, &mut *path) else {
-        words::say_long(host, what);
-        return None;
+        return Err(Trouble::LongName(what));
     };
     if n > LAST {
-        words::say_long(host, what);
-        return None;
+        return Err(Trouble::LongName(what));
     }
     if n == 0 {
-        words::say_empty_name(host, what);
-        return None;
+        return Err(Trouble::EmptyName(what));
     }
-    Some(n)
+    Ok(n)
 }
 
 // ---- OUT, as it is found
 
-// Whether what is open is a file that can be replaced, and not a device or a pipe; if not, that is said.
-fn is_file(host: &mut Host, file: &mut Output) -> bool {
-    if file.sync() {
-        return true;
+// Why OUT cannot be written, by what the system says: it may be a device or a pipe, and not a file that can be replaced.
+fn unwritable(error: Error) -> Trouble {
+    if is_no_file(Some(error)) {
+        return Trouble::NoFile;
     }
-    if is_no_file(file.failure()) {
-        words::say_no_file(host);
-        return false;
-    }
-    words::say_unkept(host, b"cannot write OUT", file);
-    false
+    Trouble::System(CANNOT_WRITE, error)
 }
 
-// Whether a name that could not be opened is new; if not, what it is instead is said.
-fn is_new(host: &mut Host) -> bool {
-    if is_missing(host.failure()) {
-        return true;
-    }
-    if is_no_file(host.failure()) {
-        words::say_no_file(host);
-        return false;
-    }
-    words::say_failure(host, b"cannot write OUT");
-    false
-}
-
-// Whether the output can take this name, which is new or that of a file; if not, that is said. A file stays as it is. What is written by renaming would
-// take a link's place and not that of the file that it leads to.
-fn is_fit(host: &mut Host, path: &[u8]) -> bool {
+// Whether the output can take this name, which is new or that of a file. A file stays as it is. What is written by renaming would take a link's place and not
+// that of the file that it leads to.
+fn check_out(host: &Host, path: &[u8]) -> Result<(), Trouble> {
     if is_link(host, path) {
-        words::say_link(host);
-        return false;
+        return Err(Trouble::Link);
     }
-    let Some(mut file) = open_update(host, path) else {
-        return is_new(host);
-    };
-    is_file(host, &mut file)
+    match host.open_to_update(path) {
+        Ok(file) => file.sync_all().map_err(|error| unwritable(error)),
+        Err(error) => {
+            if is_missing(Some(error)) {
+                return Ok(());
+            }
+            Err(unwritable(error))
+        }
+    }
 }
 
 // ---- the part
@@ -103,42 +90,33 @@ fn put_part_name(part: &mut [u8], path: &[u8], number: u8) -> usize
     pen.at
 }
 
-// Makes the first part whose name is not taken, and answers it, open to write, or nothing.
-fn make_part(host: &mut Host, path: &[u8], part: &mut [u8]) -> Option<Output>
+// Makes the first part whose name is not taken, open to write.
+fn make_part(host: &Host, path: &[u8], part: &mut [u8]) -> Result<Output, Error>
     requires { length path.now + 8 ≤ length part.old }
 {
-    for number in 0..PARTS {
+    for number in 0..LAST_PART {
         let n = put_part_name(&mut *part, path, number);
-        let made = create_output(host, &part[..n]);
-        if made.is_some() {
+        let made = host.create(&part[..n]);
+        if !matches!(made, Err(error) if is_taken(Some(error))) {
             return made;
         }
-        if !is_taken(host.failure()) {
-            return None;
-        }
     }
-    None
+    let n = put_part_name(&mut *part, path, LAST_PART);
+    host.create(&part[..n])
 }
 
-// All pictures are written: the part is brought to the disk and takes OUT's name. Where that fails, it is said.
-fn finish(host: &mut Host, mut to: Output, part: &[u8], path: &[u8]) -> bool {
-    if !to.sync() {
-        words::say_unkept(host, b"cannot write OUT", &to);
-        return false;
-    }
-    if !rename(host, part, path) {
-        words::say_failure(host, b"cannot write OUT");
-        return false;
-    }
-    true
+// All pictures are written: the part is brought to the disk and takes OUT's name.
+fn finish(host: &Host, to: Output, part: &[u8], path: &[u8]) -> Result<(), Error> {
+    to.sync_all()?;
+    host.rename(part, path)
 }
 
 // Takes the part away. Where it cannot, that is said, and the work has failed.
 fn drop_part(host: &mut Host, outcome: Outcome, part: &[u8]) -> Outcome
     ensures { EndsAs outcome result }
 {
-    if !remove(host, part) {
-        words::say_failure(host, b"cannot take away the file beside OUT");
+    if let Err(error) = host.remove(part) {
+        say_error(host, "cannot take away the file beside OUT", error);
         return Outcome::Failed;
     }
     outcome
@@ -150,9 +128,10 @@ fn settle(host: &mut Host, story: Story, to: Output, part: &[u8], path: &[u8]) -
 {
     let outcome = outcome_of(false, story);
     if let Outcome::Done = outcome {
-        if finish(host, to, part, path) {
+        let Err(error) = finish(host, to, part, path) else {
             return outcome;
-        }
+        };
+        say_error(host, CANNOT_WRITE, error);
         return drop_part(host, Outcome::Failed, part);
     }
     drop_part(host, outcome, part)
@@ -160,15 +139,11 @@ fn settle(host: &mut Host, story: Story, to: Output, part: &[u8], path: &[u8]) -
 
 // ---- the work
 
-// The file IN, open; or nothing, once it was said why.
-fn open_in(host: &mut Host) -> Option<Input> {
+fn open_in(host: &mut Host) -> Result<Input, Trouble> {
     let mut path = io::buffer();
-    let n = name_at(host, 3, b"IN", &mut path)?;
-    let from = open_input(host, &path[..n]);
-    if from.is_none() {
-        words::say_failure(host, b"cannot open IN");
-    }
-    from
+    let n = name_at(host, 3, "IN", &mut path)?;
+    host.open(&path[..n])
+        .map_err(|error| Trouble::System("cannot open IN", error))
 }
 
 // From an open file to the one of this name, by way of a part.
@@ -179,39 +154,50 @@ fn correct_to(
     table: Table<'_>,
     wanted: Last,
     space: &mut Space<'_>,
-) -> Outcome
+) -> Result<Outcome, Trouble>
     requires path_len_bound { length path.now ≤ most_name }
 {
     let mut part = [0u8; 4104];
-    let Some(to) = make_part(host, path, &mut part) else {
-        words::say_failure(host, b"cannot make a file beside OUT");
-        return Outcome::Failed;
-    };
+    let to = make_part(host, path, &mut part).map_err(|error| Trouble::System(
+        "cannot make a file beside OUT",
+        error,
+    ))?;
     let mut ends = Ends {
         from,
         to,
         named: true,
     };
     let story = pass_pictures(host, &mut ends, table, wanted, space);
-    settle(host, story, ends.to, &part[..path.len() + PART_BYTES], path)
+    let part = &part[..path.len() + PART_BYTES];
+    Ok(settle(host, story, ends.to, part, path))
 }
 
-// The pictures in the file IN, to the file OUT.
+// The pictures in the file IN, to the file OUT, where both can be had.
+fn correct_named(
+    host: &mut Host,
+    table: Table<'_>,
+    wanted: Last,
+    space: &mut Space<'_>,
+) -> Result<Outcome, Trouble> {
+    let mut path = io::buffer();
+    let n = name_at(host, 4, "OUT", &mut path)?;
+    check_out(host, &path[..n])?;
+    let from = open_in(host)?;
+    correct_to(host, from, &path[..n], table, wanted, space)
+}
+
+// The same, and where one cannot be had that is said.
 pub fn correct_files(
     host: &mut Host,
     table: Table<'_>,
     wanted: Last,
     space: &mut Space<'_>,
 ) -> Outcome {
-    let mut path = io::buffer();
-    let Some(n) = name_at(host, 4, b"OUT", &mut path) else {
-        return Outcome::Failed;
-    };
-    if !is_fit(host, &path[..n]) {
-        return Outcome::Failed;
+    match correct_named(host, table, wanted, space) {
+        Ok(outcome) => outcome,
+        Err(trouble) => {
+            words::say_trouble(host, trouble);
+            Outcome::Failed
+        }
     }
-    let Some(from) = open_in(host) else {
-        return Outcome::Failed;
-    };
-    correct_to(host, from, &path[..n], table, wanted, space)
 }

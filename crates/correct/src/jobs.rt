@@ -13,6 +13,7 @@ pub struct Scales {
     pub corrected: Scale,
 }
 
+// Stays: that a job agrees with its maxvals is a clause and no ghost field, since job_of of the specs makes one of any frame.
 #[derive(Clone, Copy, Debug, PartialEq, Eq)]
 pub struct Job {
     pub frame: Frame,

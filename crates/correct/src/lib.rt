@@ -14,7 +14,7 @@ mod space;
 mod words;
 
 use call::{Call, asked_for};
-use desk::{Host, Input, Last, Loaded, Outcome, Output, load_argument, write};
+use desk::{Host, Input, Last, Loaded, Outcome, Output, load_argument};
 use ends::Ends;
 use files::correct_files;
 use outcomes::outcome_on_output;
@@ -85,15 +85,13 @@ pub fn correct(
     raw: &mut [u16],
     corrected: &mut [u16],
 ) -> Outcome {
+    host.program = "erythmoda correct";
     let Some(call) = asked_for(host) else {
-        help(&mut host.err);
+        let _ = help(&mut host.err);
         return Outcome::Failed;
     };
     if !has_room(bytes.len(), raw.len(), corrected.len()) {
-        write(
-            &mut host.err,
-            b"erythmoda correct: too little memory was lent for the pixels\n",
-        );
+        words::say_line(host, "too little memory was lent for the pixels");
         return Outcome::Failed;
     }
     let mut space = Space {

@@ -44,6 +44,7 @@ pub fn has_room(bytes: usize, raw: usize, corrected: usize) -> bool
 }
 
 // Corrects the pixels that the first n bytes are, up to the first that has a code above the greatest, into the same bytes.
+// Stays: plan, table and scales are no struct, since what is promised here holds of every description that the plan is of, and a value has one.
 // Nothing is judged here but the codes: the table was judged when it was read, and its plan is made once for the picture.
 fn correct_piece(
     plan: Plan,
@@ -157,6 +158,7 @@ pub fn pass_all(
 {
     let pixels = pixels(job.frame);
     let mut left = pixels;
+    // Stays: `for first in (0..pixels).step_by(PIECE_PIXELS)` would work out what is left all the same, at every turn.
     while left > 0 {
         let want = next_piece(left);
         pass_piece(ends, plan, table, job.scales, pixels - left, want, space)?;

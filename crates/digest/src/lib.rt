@@ -16,6 +16,7 @@ use padding::{count_last_blocks, last_bytes};
 pub use text::put_digest;
 
 // Eight words: H0 to H7 of a checksum, which are a to h while a block is worked in.
+// Stays: FIPS 180-4 calls them a to h, and so do the definitions of specs/Sha256; of `words: [u32; 8]`, e would be `words[4]`.
 #[derive(Clone, Copy)]
 pub struct Digest {
     pub a: u32,

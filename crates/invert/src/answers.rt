@@ -90,8 +90,7 @@ fn untried(reason: Refusal) -> Said
 fn beyond_said(d: Description, table: &[i64], bits: Bits) -> Said
     ensures { (corrected : ℕ → ℕ) (aim : Aim) → 65_535 < aim.wanted → result ≡ said_by corrected aim.wanted (inverse d table.now bits aim) }
 {
-    let kind = d.kind;
-    let Kind::OneD = kind else {
+    let Kind::OneD = d.kind else {
         return untried(Refusal::CouldNotBeRead);
     };
     if !could_be_read(d, table) {

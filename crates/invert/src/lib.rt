@@ -11,7 +11,7 @@ ghost use Rattle.invert.specs.Saying.{said_of, end_of};
 
 use answers::find;
 use desk::{Host, Loaded, Outcome, load_argument};
-use question::{Asked, Question, read_arguments};
+use question::{Question, read_arguments};
 use rules::Description;
 use show::{PROGRAM, show_said};
 pub use words::help;
@@ -37,16 +37,14 @@ fn answer_by(host: &mut Host, file: &mut [u8], table: &mut [i64], question: Ques
 
 // Whether the arguments ask a question, for which a table is then loaded.
 pub fn is_understood(host: &Host) -> bool {
-    match read_arguments(host) {
-        Asked::Plainly(_) => true,
-        Asked::Unclear => false,
-    }
+    read_arguments(host).is_some()
 }
 
 // The question that the arguments ask, answered with lent space for the file and the table.
 pub fn invert(host: &mut Host, file: &mut [u8], table: &mut [i64]) -> Outcome {
-    let Asked::Plainly(question) = read_arguments(host) else {
-        help(&mut host.err);
+    host.program = "erythmoda invert";
+    let Some(question) = read_arguments(host) else {
+        let _ = help(&mut host.err);
         return Outcome::Failed;
     };
     answer_by(host, file, table, question)

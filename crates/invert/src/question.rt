@@ -12,49 +12,35 @@ pub struct Question {
     pub tolerance: u32,
 }
 
-// What the arguments ask, or nothing that can be understood.
-#[derive(Clone, Copy)]
-pub enum Asked {
-    Plainly(Question),
-    Unclear,
-}
-
-#[derive(Clone, Copy)]
-enum ColourGiven {
-    Named(Colour),
-    Unclear,
-}
-
-fn colour_at(host: &Host, place: usize) -> ColourGiven {
+fn colour_at(host: &Host, place: usize) -> Option<Colour> {
     if is_word_at(host, place, b"red") {
-        return ColourGiven::Named(Colour::Red);
+        return Some(Colour::Red);
     }
     if is_word_at(host, place, b"green") {
-        return ColourGiven::Named(Colour::Green);
+        return Some(Colour::Green);
     }
     if is_word_at(host, place, b"blue") {
-        return ColourGiven::Named(Colour::Blue);
+        return Some(Colour::Blue);
     }
-    ColourGiven::Unclear
+    None
 }
 
-pub fn read_arguments(host: &Host) -> Asked {
+// What the arguments ask, where they can be understood.
+pub fn read_arguments(host: &Host) -> Option<Question> {
     let Given::Value(raw) = value_at(host, 3, MOST) else {
-        return Asked::Unclear;
+        return None;
     };
-    let ColourGiven::Named(colour) = colour_at(host, 4) else {
-        return Asked::Unclear;
-    };
+    let colour = colour_at(host, 4)?;
     let Given::Value(wanted) = value_at(host, 5, MOST) else {
-        return Asked::Unclear;
+        return None;
     };
     let Given::Value(tolerance) = value_at(host, 6, MOST) else {
-        return Asked::Unclear;
+        return None;
     };
     let Given::Value(corrected) = corrected_width(host, 7, raw) else {
-        return Asked::Unclear;
+        return None;
     };
-    Asked::Plainly(Question {
+    Some(Question {
         bits: Bits { raw, corrected },
         colour,
         wanted,

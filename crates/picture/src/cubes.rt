@@ -79,8 +79,7 @@ fn correct_blocks<const NEAR: bool>(
     requires starts_len { length starts.old ≡ 192 }
     ensures { (q : Cubed cube table.now) → Within q src.now → dst.new ≡ each_pixel (correct_by q) src.now ++ drop (length src.now) dst.old }
 {
-    let axis = cube.axis;
-    let den = axis.den as u32;
+    let den = cube.axis.den as u32;
     for at in (0..src.len()).step_by(BLOCK) {
         let end = block_end(at, src.len());
         find_spots(
@@ -109,8 +108,7 @@ pub fn correct_cube<const NEAR: bool>(cube: Cube, table: &[i64], src: &[u16], ds
     let mut strides: [u64; 192] = [1; 192];
     let mut keys: [u64; 192] = [1; 192];
     let mut starts: [u64; 192] = [1; 192];
-    let lanes = cube.lanes;
-    lay_lanes(lanes, &mut times, &mut from, &mut strides);
+    lay_lanes(cube.lanes, &mut times, &mut from, &mut strides);
     correct_blocks::<NEAR>(
         cube,
         table,

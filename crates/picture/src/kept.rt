@@ -20,10 +20,7 @@ const KEPT: usize = 4096;
 pub fn worth_keeping(count: usize, pixels: usize) -> bool
     ensures { result ≡ true → count ≤ 4096 }
 {
-    if count > KEPT {
-        return false;
-    }
-    count < pixels
+    count <= KEPT && count < pixels
 }
 
 // The corrected codes of the first raw codes.
@@ -45,13 +42,11 @@ fn kept_codes(reds: &[u16], greens: &[u16], blues: &[u16], pixel: Codes) -> Code
     requires blue_in_bounds { pixel.blue < length blues.now }
     ensures { result ≡ kept_pixel reds.now greens.now blues.now pixel }
 {
-    let red_at = pixel.red as usize;
-    let green_at = pixel.green as usize;
-    let blue_at = pixel.blue as usize;
-    let red = reds[red_at];
-    let green = greens[green_at];
-    let blue = blues[blue_at];
-    Codes { red, green, blue }
+    Codes {
+        red: reds[pixel.red as usize],
+        green: greens[pixel.green as usize],
+        blue: blues[pixel.blue as usize],
+    }
 }
 
 // Pixel by pixel.

@@ -68,8 +68,7 @@ pub fn correct_all(plan: Plan, depths: Depths, table: &[i64], src: &[u16], dst: 
     requires fillable { Fillable src.now (length dst.old) }
     ensures { (p : Planned plan table.now) → p.depths ≡ depths → dst.new ≡ each_pixel (correct p.d table.now depths) src.now ++ drop (length src.now) dst.old }
 {
-    let kind = plan.kind;
-    let Kind::ThreeD = kind else {
+    let Kind::ThreeD = plan.kind else {
         correct_lines(plan, depths, table, src, dst);
         return;
     };
@@ -93,14 +92,13 @@ pub fn picture(d: Description, table: &[i64], bits: Bits, src: &[u16], dst: &mut
     let DepthsFound::Both(depths) = Depths::of(bits) else {
         return Picture::Refused(Refusal::DepthUnknown);
     };
-    let raw = depths.raw;
     if src.len() % 3 != 0 {
         return Picture::Refused(Refusal::PictureNotPixels);
     }
     if dst.len() < src.len() {
         return Picture::Refused(Refusal::OutputTooShort);
     }
-    if raw.greatest() < greatest(src) {
+    if depths.raw.greatest() < greatest(src) {
         return Picture::Refused(Refusal::CodeTooGreat);
     }
     correct_all(plan_of(d, depths), depths, table, src, dst);

@@ -112,17 +112,14 @@ fn correct_colour(line: Line, depths: Depths, table: &[i64], src: &[u16], dst: &
     requires src_in_bounds { length src.now ≤ length dst.old }
     ensures { (l : Lined line table.now) → l.planned.depths ≡ depths → Passed (line_code l.planned.d table.now depths line.colour) (colour_place line.colour) src.now dst.old dst.new }
 {
-    let raw = depths.raw;
-    let corrected = depths.corrected;
-    let c = line.colour;
     correct_line(
         line,
-        raw.greatest(),
-        corrected.greatest(),
+        depths.raw.greatest(),
+        depths.corrected.greatest(),
         table,
         src,
         dst,
-        colour_place(c),
+        colour_place(line.colour),
     );
 }
 
@@ -145,8 +142,7 @@ pub fn correct_lines(plan: Plan, depths: Depths, table: &[i64], src: &[u16], dst
     requires fillable { Fillable src.now (length dst.old) }
     ensures { (p : Planned plan table.now) → p.depths ≡ depths → dst.new ≡ each_pixel (correct p.d table.now depths) src.now ++ drop (length src.now) dst.old }
 {
-    let raw = depths.raw;
-    let count = raw.greatest() as usize + 1;
+    let count = depths.raw.greatest() as usize + 1;
     if worth_keeping(count, src.len() / 3) {
         correct_kept(plan, count, table, src, dst);
         return;

@@ -11,10 +11,11 @@ pub fn pixel_from(codes: &[u16], at: usize) -> Codes
     requires { at + 2 < length codes.now }
     ensures { result ≡ pixel_from codes.now at }
 {
-    let red = codes[at];
-    let green = codes[at + 1];
-    let blue = codes[at + 2];
-    Codes { red, green, blue }
+    Codes {
+        red: codes[at],
+        green: codes[at + 1],
+        blue: codes[at + 2],
+    }
 }
 
 // Writes a pixel's codes from a place on: red, green, blue.
@@ -22,10 +23,7 @@ pub fn write_pixel(dst: &mut [u16], at: usize, pixel: Codes)
     requires { at + 2 < length dst.old }
     ensures { dst.new ≡ spliced dst.old at (codes_of pixel) }
 {
-    let red = pixel.red;
-    let green = pixel.green;
-    let blue = pixel.blue;
-    dst[at] = red;
-    dst[at + 1] = green;
-    dst[at + 2] = blue;
+    dst[at] = pixel.red;
+    dst[at + 1] = pixel.green;
+    dst[at + 2] = pixel.blue;
 }

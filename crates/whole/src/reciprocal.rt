@@ -78,6 +78,7 @@ impl Reciprocal {
 }
 
 // A number above 2^23, and 2^87 over it, rounded down, and 1: the upper half of one product, without its last 23 bits, is the quotient.
+// Stays: it is no `Reciprocal<87>`, as 2^87 does not fit the numbers that 2^64 is rounded with, so both are made, asked and divided by in ways of their own.
 #[derive(Clone, Copy)]
 pub struct WideReciprocal {
     pub by: u64,

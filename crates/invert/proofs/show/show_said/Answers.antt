@@ -1,6 +1,7 @@
 -- By what is to be said.
 use mathlib.Core.Path.{sym, subst}
 use mathlib.Core.Logic.{inl}
+use Rattle.std.specs.Prelude.{is_ok}
 use Rattle.desk.specs.Outcomes.{EndsAs}
 use Rattle.desk.specs.declared.outcomes.Outcome.TheVariants.{Done}
 use Rattle.desk.proofs.Ends.{ends_as}
@@ -9,11 +10,11 @@ use Rattle.invert.proofs.show.show_said.Goals as goal
 
 pub returns-in-Hit : goal.returns-in-Hit
 unfolding end_of
-returns-in-Hit c = subst (λ s. EndsAs (end_of s) c.done_if.result) (sym c.in-Hit.is) (ends_as c.show_hit-shown.result Done _ c.done_if.ensures)
+returns-in-Hit c = subst (λ s. EndsAs (end_of s) c.when_written.result) (sym c.in-Hit.is) (ends_as (is_ok c.show_hit-shown.result) Done _ c.when_written.ensures)
 
 pub returns-in-Near : goal.returns-in-Near
 unfolding end_of
-returns-in-Near c = subst (λ s. EndsAs (end_of s) c.done_if-in-Near.result) (sym c.in-Near.is) (ends_as c.show_near-shown.result Done _ c.done_if-in-Near.ensures)
+returns-in-Near c = subst (λ s. EndsAs (end_of s) c.when_written-in-Near.result) (sym c.in-Near.is) (ends_as (is_ok c.show_near-shown.result) Done _ c.when_written-in-Near.ensures)
 
 pub returns-in-Refused : goal.returns-in-Refused
 unfolding end_of

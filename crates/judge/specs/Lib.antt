@@ -1,1 +1,0 @@
--- What only the code needs: nothing here has to be believed.
