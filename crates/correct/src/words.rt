@@ -7,73 +7,32 @@ use crate::pieces::Stop;
 use desk::{Host, Output, say_failed, write, write_count};
 use ppm::{Excess, Fault, Frame, Kind, Part};
 use rules::Colour;
+use std::io;
+use std::io::Write;
 
 // ---- help
 
-fn help_on_work(out: &mut Output) -> bool {
-    write(
-        out,
-        b"Corrects pictures by a .cube table: each code becomes the one nearest to the table's exact value.\n",
-    ) && write(
-        out,
-        b"Pictures are binary PPM (P6) with maxval 255, 1023, 4095 or 65535. Any number of them may follow one another, each of any\n",
-    ) && write(
-        out,
-        b"length; comments in their headers are left out. They come from the file IN and go to the file OUT, or from standard input to\n",
-    ) && write(
-        out,
-        b"standard output. OUT is written beside itself and takes its name when it is whole: where the work stops, no part of it is\n",
-    ) && write(
-        out,
-        b"left, and an OUT that was there stays as it was. On standard output the pixels before the one where a picture stops are\n",
-    ) && write(
-        out,
-        b"written. A line on standard error says what is wrong, and where.\n",
-    )
-}
+const HELP: &str = "\
+usage: erythmoda correct TABLE [IN OUT] [--maxval MAXVAL]
+Corrects pictures by a .cube table: each code becomes the one nearest to the table's exact value.
+Pictures are binary PPM (P6) with maxval 255, 1023, 4095 or 65535. Any number of them may follow one another, each of any
+length; comments in their headers are left out. They come from the file IN and go to the file OUT, or from standard input to
+standard output. OUT is written beside itself and takes its name when it is whole: where the work stops, no part of it is
+left, and an OUT that was there stays as it was. On standard output the pixels before the one where a picture stops are
+written. A line on standard error says what is wrong, and where.
+  TABLE            the name of a .cube file
+  IN               the name of a file of pictures
+  OUT              the name of the file to write; it may be IN, and is no link, device or pipe
+  --maxval MAXVAL  the maxval of every picture in the output, if it is another one: its codes are then of that depth
+status: 0 all pictures are corrected; 1 the table or a picture is refused, and nothing is left of an output; 2 a wrong call, the
+system could not read or write, or a picture is wrong where part of the output was on standard output already
+example: erythmoda correct look.cube in.ppm out.ppm
+example: erythmoda correct look.cube in.ppm deep.ppm --maxval 65535
+example: ffmpeg -i film.mov -f image2pipe -c:v ppm - | erythmoda correct look.cube > frames.ppm
+";
 
-fn help_on_arguments(out: &mut Output) -> bool {
-    write(out, b"  TABLE            the name of a .cube file\n")
-        && write(out, b"  IN               the name of a file of pictures\n")
-        && write(
-            out,
-            b"  OUT              the name of the file to write; it may be IN, and is no link, device or pipe\n",
-        )
-        && write(
-            out,
-            b"  --maxval MAXVAL  the maxval of every picture in the output, if it is another one: its codes are then of that depth\n",
-        )
-}
-
-fn help_on_statuses(out: &mut Output) -> bool {
-    write(
-        out,
-        b"status: 0 all pictures are corrected; 1 the table or a picture is refused, and nothing is left of an output; 2 a wrong call, the\n",
-    ) && write(
-        out,
-        b"system could not read or write, or a picture is wrong where part of the output was on standard output already\n",
-    )
-}
-
-pub fn help(out: &mut Output) -> bool {
-    write(
-        out,
-        b"usage: erythmoda correct TABLE [IN OUT] [--maxval MAXVAL]\n",
-    ) && help_on_work(out)
-        && help_on_arguments(out)
-        && help_on_statuses(out)
-        && write(
-            out,
-            b"example: erythmoda correct look.cube in.ppm out.ppm\n",
-        )
-        && write(
-            out,
-            b"example: erythmoda correct look.cube in.ppm deep.ppm --maxval 65535\n",
-        )
-        && write(
-            out,
-            b"example: ffmpeg -i film.mov -f image2pipe -c:v ppm - | erythmoda correct look.cube > frames.ppm\n",
-        )
+pub fn help(out: &mut Output) -> io::Result<()> {
+    write!(out, "{HELP}")
 }
 
 // ---- how a line starts

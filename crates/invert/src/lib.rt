@@ -10,10 +10,10 @@ ghost use Rattle.desk.specs.Outcomes.{EndsAs};
 ghost use Rattle.invert.specs.Saying.{said_of, end_of};
 
 use answers::find;
-use desk::{Host, Loaded, Outcome, load_argument};
+use desk::{Host, Outcome, load_argument};
 use question::{Asked, Question, read_arguments};
 use rules::Description;
-use show::{PROGRAM, show_said};
+use show::show_said;
 pub use words::help;
 
 // A question, answered by a table that was loaded.
@@ -25,13 +25,9 @@ fn answer(host: &mut Host, d: Description, table: &[i64], question: Question) ->
 
 // By the table that the argument after the verb names.
 fn answer_by(host: &mut Host, file: &mut [u8], table: &mut [i64], question: Question) -> Outcome {
-    match load_argument(host, &PROGRAM, 2, file, &mut *table) {
-        Loaded::Table {
-            description,
-            bytes: _,
-        } => answer(host, description, table, question),
-        Loaded::Refused => Outcome::Refused,
-        Loaded::Unread => Outcome::Failed,
+    match load_argument(host, 2, file, &mut *table) {
+        Ok(loaded) => answer(host, loaded.description, table, question),
+        Err(why) => Outcome::from(why),
     }
 }
 
@@ -45,8 +41,9 @@ pub fn is_understood(host: &Host) -> bool {
 
 // The question that the arguments ask, answered with lent space for the file and the table.
 pub fn invert(host: &mut Host, file: &mut [u8], table: &mut [i64]) -> Outcome {
+    host.program = "erythmoda invert";
     let Asked::Plainly(question) = read_arguments(host) else {
-        help(&mut host.err);
+        let _ = help(&mut host.err);
         return Outcome::Failed;
     };
     answer_by(host, file, table, question)

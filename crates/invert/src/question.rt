@@ -1,6 +1,6 @@
 // The arguments after the verb and the table: a depth, a colour, a wanted code and a tolerance; then perhaps an option.
 use desk::{Host, is_word_at};
-use given::{Given, MOST, corrected_width, value_at};
+use given::{MOST, corrected_width, value_at};
 use rules::{Bits, Colour};
 
 // Which raw code gives the wanted one. A code past 65,535 is one that no depth has, and a tolerance past it allows every code.
@@ -39,19 +39,19 @@ fn colour_at(host: &Host, place: usize) -> ColourGiven {
 }
 
 pub fn read_arguments(host: &Host) -> Asked {
-    let Given::Value(raw) = value_at(host, 3, MOST) else {
+    let Some(raw) = value_at(host, 3, MOST) else {
         return Asked::Unclear;
     };
     let ColourGiven::Named(colour) = colour_at(host, 4) else {
         return Asked::Unclear;
     };
-    let Given::Value(wanted) = value_at(host, 5, MOST) else {
+    let Some(wanted) = value_at(host, 5, MOST) else {
         return Asked::Unclear;
     };
-    let Given::Value(tolerance) = value_at(host, 6, MOST) else {
+    let Some(tolerance) = value_at(host, 6, MOST) else {
         return Asked::Unclear;
     };
-    let Given::Value(corrected) = corrected_width(host, 7, raw) else {
+    let Some(corrected) = corrected_width(host, 7, raw) else {
         return Asked::Unclear;
     };
     Asked::Plainly(Question {
