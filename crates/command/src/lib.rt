@@ -9,7 +9,7 @@ ghost use Rattle.command.specs.Statuses.{Ends};
 
 use checking::check_files;
 use correct::correct;
-use desk::{Host, Outcome, argument, argument_count, report_input, say_failed};
+use desk::{Host, Outcome, argument, argument_count, report_input, say_error};
 use explain::answer;
 use invert::invert;
 use rewrite::rewrite;
@@ -43,31 +43,30 @@ fn show_help(host: &mut Host, verb: Verb) -> Outcome {
         Verb::Rewrite => rewrite::help(&mut host.out),
         Verb::Invert => invert::help(&mut host.out).is_ok(),
         Verb::Check => checking::help(&mut host.out),
-        Verb::Help => words::help(&mut host.out),
-        Verb::Version => words::help(&mut host.out),
-        Verb::Unknown => words::help(&mut host.out),
+        Verb::Help | Verb::Version | Verb::Unknown => words::help(&mut host.out),
     };
-    Outcome::Done.if_written(host, written, b"erythmoda")
+    Outcome::Done.when_written(host, written)
 }
 
 fn show_version(host: &mut Host) -> Outcome {
     let written = words::version(&mut host.out);
-    Outcome::Done.if_written(host, written, b"erythmoda")
+    Outcome::Done.when_written(host, written)
 }
 
 // A call that is not understood.
 fn refuse_call(host: &mut Host) -> Outcome {
-    words::help(&mut host.err);
+    let _ = words::help(&mut host.err);
     Outcome::Failed
 }
 
 // It takes no argument.
 fn report(host: &mut Host) -> Outcome {
+    host.program = "erythmoda report";
     if argument_count(host) != 2 {
-        words::report_help(&mut host.err);
+        let _ = words::report_help(&mut host.err);
         return Outcome::Failed;
     }
-    report_input(host, b"erythmoda report")
+    report_input(host)
 }
 
 // The verb's work.
@@ -106,6 +105,7 @@ pub fn erythmoda_command(
 ) -> u32
     ensures { Ends result }
 {
+    host.program = "erythmoda";
     let verb = verb_named(host);
     if help_wanted(host) {
         return show_help(host, verb).status();
@@ -130,7 +130,7 @@ pub fn run(host: &mut Host) -> u32
         ),
         Err(_) => {
             let failure = Error::from_raw_os_error(NO_MEMORY);
-            say_failed(host, b"erythmoda: no memory", Some(failure));
+            say_error(host, "no memory", failure);
             Outcome::Failed.status()
         }
     }

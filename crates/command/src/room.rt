@@ -22,7 +22,7 @@ const TEXT_BYTES: usize = 333;
 const ROW_BYTES: usize = 39;
 
 // Bytes of a file, rows of a table, pixels of a piece, and bytes of a text.
-#[derive(Clone, Copy)]
+#[derive(Clone, Copy, Default)]
 pub(crate) struct Room {
     file: usize,
     rows: usize,
@@ -42,25 +42,14 @@ pub(crate) struct Lent {
 
 // Room for a file and one byte, to tell it from a longer one.
 fn file_room(length: usize) -> usize {
-    if length < MOST_FILE {
-        length + 1
-    } else {
-        MOST_FILE
-    }
+    length.saturating_add(1).min(MOST_FILE)
 }
 
 // How many rows the size line of a file asks for.
 fn rows_asked(file: &[u8]) -> usize {
     match size_in(file) {
-        Some(size) => {
-            let kind = size.kind;
-            if in_range(kind, size.n) {
-                count_rows(kind, size.n)
-            } else {
-                0
-            }
-        }
-        None => 0,
+        Some(size) if in_range(size.kind, size.n) => count_rows(size.kind, size.n),
+        _ => 0,
     }
 }
 
@@ -71,11 +60,7 @@ fn loads_table(host: &Host, verb: Verb) -> bool {
         Verb::Correct => correct::is_understood(host),
         Verb::Rewrite => rewrite::is_understood(host),
         Verb::Invert => invert::is_understood(host),
-        Verb::Report => false,
-        Verb::Check => false,
-        Verb::Help => false,
-        Verb::Version => false,
-        Verb::Unknown => false,
+        Verb::Report | Verb::Check | Verb::Help | Verb::Version | Verb::Unknown => false,
     }
 }
 
@@ -88,8 +73,7 @@ fn table_room(host: &mut Host) -> Room {
     Room {
         file: file_room(file.len()),
         rows: rows_asked(file),
-        pixels: 0,
-        text: 0,
+        ..Room::default()
     }
 }
 
@@ -107,26 +91,21 @@ fn named_room(host: &Host, place: usize) -> usize {
 fn files_room(host: &Host) -> Room {
     let mut most = LEAST_FILE;
     for place in 2..argument_count(host) {
-        let one = named_room(host, place);
-        if one > most {
-            most = one;
-        }
+        most = most.max(named_room(host, place));
     }
     Room {
         file: most,
-        rows: 0,
-        pixels: 0,
-        text: 0,
+        ..Room::default()
     }
 }
 
 // Room for what a verb does, whose table is there.
 fn verb_room(host: &mut Host, verb: Verb) -> Room {
     let mut room = table_room(host);
-    if let Verb::Correct = verb {
+    if verb == Verb::Correct {
         room.pixels = PIECE_PIXELS;
     }
-    if let Verb::Rewrite = verb {
+    if verb == Verb::Rewrite {
         room.text = room
             .rows
             .saturating_mul(ROW_BYTES)
@@ -136,21 +115,15 @@ fn verb_room(host: &mut Host, verb: Verb) -> Room {
 }
 
 pub(crate) fn room_for(host: &mut Host) -> Room {
-    let none = Room {
-        file: 0,
-        rows: 0,
-        pixels: 0,
-        text: 0,
-    };
     if help_wanted(host) {
-        return none;
+        return Room::default();
     }
     let verb = verb_named(host);
-    if let Verb::Check = verb {
+    if verb == Verb::Check {
         return files_room(host);
     }
     if !loads_table(host, verb) {
-        return none;
+        return Room::default();
     }
     verb_room(host, verb)
 }

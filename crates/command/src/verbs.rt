@@ -4,7 +4,7 @@ ghost use Rattle.command.specs.Verbs.{verb_of, asks_help};
 
 use text::is_named;
 
-#[derive(Clone, Copy)]
+#[derive(Clone, Copy, Debug, PartialEq, Eq)]
 pub enum Verb {
     Report,
     Explain,

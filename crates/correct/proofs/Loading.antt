@@ -8,8 +8,7 @@ use Rattle.rules.specs.Descriptions.{could_be_read}
 use Rattle.rules.specs.declared.Description.{Description}
 use Rattle.rules.proofs.Reading.Bridge.{reads-bridge}
 use Rattle.desk.specs.Loads.{Loads}
-use Rattle.desk.specs.declared.loading.Loaded.TheVariants.{Table}
-use Rattle.desk.proofs.WhatIsLoaded.{first-bytes}
+use Rattle.desk.proofs.WhatIsLoaded.{first-bytes, table_of}
 
-pub loaded-could : (file : List ℕ) (old : List ℤ) (d : Description) (n : ℕ) (table : List ℤ) → Loads file old (Table d n) table → could_be_read d table ≡ true
+pub loaded-could : (file : List ℕ) (old : List ℤ) (d : Description) (n : ℕ) (table : List ℤ) → Loads file old (table_of d n) table → could_be_read d table ≡ true
 loaded-could file old d n table h = reads-bridge (first-bytes h).reads

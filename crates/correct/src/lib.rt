@@ -14,7 +14,7 @@ mod space;
 mod words;
 
 use call::{Call, asked_for};
-use desk::{Host, Input, Last, Loaded, Outcome, Output, load_argument};
+use desk::{Host, Input, Last, Outcome, Output, load_argument};
 use ends::Ends;
 use files::correct_files;
 use outcomes::outcome_on_output;
@@ -55,19 +55,15 @@ fn correct_by(
     call: Call,
     space: &mut Space<'_>,
 ) -> Outcome {
-    match load_argument(host, b"erythmoda correct", 2, file, &mut *places) {
-        Loaded::Table {
-            description,
-            bytes: _,
-        } => {
+    match load_argument(host, 2, file, &mut *places) {
+        Ok(loaded) => {
             let table = Table {
-                description,
+                description: loaded.description,
                 places,
             };
             correct_with(host, table, call, space)
         }
-        Loaded::Refused => Outcome::Refused,
-        Loaded::Unread => Outcome::Failed,
+        Err(why) => Outcome::from(why),
     }
 }
 

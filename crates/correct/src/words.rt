@@ -11,74 +11,27 @@ use std::{fmt, io};
 
 // ---- help
 
-fn help_on_work(out: &mut Output) -> io::Result<()> {
-    writeln!(
-        out,
-        "Corrects pictures by a .cube table: each code becomes the one nearest to the table's exact value."
-    )?;
-    writeln!(
-        out,
-        "Pictures are binary PPM (P6) with maxval 255, 1023, 4095 or 65535. Any number of them may follow one another, each of any"
-    )?;
-    writeln!(
-        out,
-        "length; comments in their headers are left out. They come from the file IN and go to the file OUT, or from standard input to"
-    )?;
-    writeln!(
-        out,
-        "standard output. OUT is written beside itself and takes its name when it is whole: where the work stops, no part of it is"
-    )?;
-    writeln!(
-        out,
-        "left, and an OUT that was there stays as it was. On standard output the pixels before the one where a picture stops are"
-    )?;
-    writeln!(
-        out,
-        "written. A line on standard error says what is wrong, and where."
-    )
-}
-
-fn help_on_arguments(out: &mut Output) -> io::Result<()> {
-    writeln!(out, "  TABLE            the name of a .cube file")?;
-    writeln!(out, "  IN               the name of a file of pictures")?;
-    writeln!(
-        out,
-        "  OUT              the name of the file to write; it may be IN, and is no link, device or pipe"
-    )?;
-    writeln!(
-        out,
-        "  --maxval MAXVAL  the maxval of every picture in the output, if it is another one: its codes are then of that depth"
-    )
-}
-
-fn help_on_statuses(out: &mut Output) -> io::Result<()> {
-    writeln!(
-        out,
-        "status: 0 all pictures are corrected; 1 the table or a picture is refused, and nothing is left of an output; 2 a wrong call, the"
-    )?;
-    writeln!(
-        out,
-        "system could not read or write, or a picture is wrong where part of the output was on standard output already"
-    )
-}
+const HELP: &str = "\
+usage: erythmoda correct TABLE [IN OUT] [--maxval MAXVAL]
+Corrects pictures by a .cube table: each code becomes the one nearest to the table's exact value.
+Pictures are binary PPM (P6) with maxval 255, 1023, 4095 or 65535. Any number of them may follow one another, each of any
+length; comments in their headers are left out. They come from the file IN and go to the file OUT, or from standard input to
+standard output. OUT is written beside itself and takes its name when it is whole: where the work stops, no part of it is
+left, and an OUT that was there stays as it was. On standard output the pixels before the one where a picture stops are
+written. A line on standard error says what is wrong, and where.
+  TABLE            the name of a .cube file
+  IN               the name of a file of pictures
+  OUT              the name of the file to write; it may be IN, and is no link, device or pipe
+  --maxval MAXVAL  the maxval of every picture in the output, if it is another one: its codes are then of that depth
+status: 0 all pictures are corrected; 1 the table or a picture is refused, and nothing is left of an output; 2 a wrong call, the
+system could not read or write, or a picture is wrong where part of the output was on standard output already
+example: erythmoda correct look.cube in.ppm out.ppm
+example: erythmoda correct look.cube in.ppm deep.ppm --maxval 65535
+example: ffmpeg -i film.mov -f image2pipe -c:v ppm - | erythmoda correct look.cube > frames.ppm
+";
 
 pub fn help(out: &mut Output) -> io::Result<()> {
-    writeln!(
-        out,
-        "usage: erythmoda correct TABLE [IN OUT] [--maxval MAXVAL]"
-    )?;
-    help_on_work(out)?;
-    help_on_arguments(out)?;
-    help_on_statuses(out)?;
-    writeln!(out, "example: erythmoda correct look.cube in.ppm out.ppm")?;
-    writeln!(
-        out,
-        "example: erythmoda correct look.cube in.ppm deep.ppm --maxval 65535"
-    )?;
-    writeln!(
-        out,
-        "example: ffmpeg -i film.mov -f image2pipe -c:v ppm - | erythmoda correct look.cube > frames.ppm"
-    )
+    write!(out, "{HELP}")
 }
 
 // ---- how a line starts

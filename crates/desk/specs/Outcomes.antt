@@ -2,6 +2,8 @@
 use Rattle.std.specs.Prelude.{ℕ, ◌≡◌, ◌⊎◌, cond, ltb}
 use Rattle.rules.specs.declared.Read.{Read}
 use Rattle.rules.specs.declared.Read.TheVariants as R
+use Rattle.desk.specs.declared.loading.NoTable.{NoTable}
+use Rattle.desk.specs.declared.loading.NoTable.TheVariants as N
 use Rattle.desk.specs.declared.outcomes.Outcome.{Outcome}
 use Rattle.desk.specs.declared.outcomes.Outcome.TheVariants.{Done, Refused, Failed}
 
@@ -19,6 +21,11 @@ worse_of a b = cond (ltb (status_of a) (status_of b)) b a
 unfoldable pub outcome_of : Read → Outcome
 outcome_of (R.Accepted d) = Done
 outcome_of (R.Refused r line) = Refused
+
+-- where there is no table, its file is refused or could not be read
+unfoldable pub ends_without : NoTable → Outcome
+ends_without N.Refused = Refused
+ends_without N.Unread = Failed
 
 -- work ends as it should, unless what it says could not be written
 abbrev pub EndsAs : Outcome → Outcome → Type 0

@@ -1,37 +1,36 @@
 // An argument as a number: digits alone, up to a limit; and an option with a number, last on the command line.
 ghost use Rattle.std.specs.Prelude.{◌≡◌, ◌≤◌};
 ghost use Rattle.numbers.specs.Cuts.{most_limit};
-ghost use Rattle.desk.specs.Arguments.{argument_of, UpTo, OptionUpTo};
+ghost use Rattle.desk.specs.Arguments.{argument_of, UpTo, OptionUpTo, LastUpTo};
 
 use crate::host::{Host, argument, argument_count};
 use numbers::{is_digits, spelt};
 use text::is_named;
 
-// What an argument says: a number up to the limit, a greater one, or none.
-#[derive(Clone, Copy)]
-pub enum Argument {
-    Number(u64),
+// Why an argument is no number up to the limit: it is a greater one, or not understood.
+#[derive(Clone, Copy, Debug, PartialEq, Eq)]
+pub enum Unfit {
     TooGreat,
-    NoNumber,
+    Unclear,
 }
 
 // The number that digits spell, where it is at most `most`.
-pub fn number_in(text: &[u8], most: u64) -> Argument
+pub fn number_in(text: &[u8], most: u64) -> Result<u64, Unfit>
     requires { most ≤ most_limit }
     ensures { result ≡ argument_of most text.now }
 {
     if !is_digits(text) {
-        return Argument::NoNumber;
+        return Err(Unfit::Unclear);
     }
     let n = spelt(text, 0, most);
     if n > most {
-        return Argument::TooGreat;
+        return Err(Unfit::TooGreat);
     }
-    Argument::Number(n)
+    Ok(n)
 }
 
 // The argument at a place of the command line; one that is missing, empty or longer than a path is no number.
-fn number_at(host: &Host, place: usize, most: u64) -> Argument
+fn number_at(host: &Host, place: usize, most: u64) -> Result<u64, Unfit>
     requires { most ≤ most_limit }
     ensures { UpTo most result }
 {
@@ -47,6 +46,27 @@ pub fn is_word_at(host: &Host, place: usize, word: &[u8]) -> bool {
     is_named(&text[..n], word)
 }
 
+// What stands from a place on: nothing, or the option of this name and its number up to the limit, and nothing more.
+pub fn optional_number(
+    host: &Host,
+    place: usize,
+    name: &[u8],
+    most: u64,
+) -> Result<Option<u64>, Unfit>
+    requires { most ≤ most_limit }
+    ensures { OptionUpTo most result }
+{
+    let count = argument_count(host);
+    if count == place {
+        return Ok(None);
+    }
+    if count < place || count - place != 2 || !is_word_at(host, place, name) {
+        return Err(Unfit::Unclear);
+    }
+    let n = number_at(host, place + 1, most)?;
+    Ok(Some(n))
+}
+
 // What stands last on the command line: nothing more, an option's number up to the limit or a greater one, or what is not understood.
 #[derive(Clone, Copy)]
 pub enum Last {
@@ -56,27 +76,15 @@ pub enum Last {
     Unclear,
 }
 
-// From a place on: nothing, or the option of this name and its number.
+// The same in one answer.
 pub fn option_at(host: &Host, place: usize, name: &[u8], most: u64) -> Last
     requires { most ≤ most_limit }
-    ensures { OptionUpTo most result }
+    ensures { LastUpTo most result }
 {
-    let count = argument_count(host);
-    if count < place {
-        return Last::Unclear;
-    }
-    if count == place {
-        return Last::Nothing;
-    }
-    if count - place != 2 {
-        return Last::Unclear;
-    }
-    if !is_word_at(host, place, name) {
-        return Last::Unclear;
-    }
-    match number_at(host, place + 1, most) {
-        Argument::Number(n) => Last::Number(n),
-        Argument::TooGreat => Last::TooGreat,
-        Argument::NoNumber => Last::Unclear,
+    match optional_number(host, place, name, most) {
+        Ok(None) => Last::Nothing,
+        Ok(Some(n)) => Last::Number(n),
+        Err(Unfit::TooGreat) => Last::TooGreat,
+        Err(Unfit::Unclear) => Last::Unclear,
     }
 }

@@ -143,7 +143,7 @@ impl Output {
         }
     }
 
-    fn succeeds(&mut self, done: io::Result<()>) -> bool {
+    pub(crate) fn succeeds(&mut self, done: io::Result<()>) -> bool {
         match done {
             Ok(()) => true,
             Err(error) => {

@@ -1,38 +1,40 @@
 // A table loaded from a file by its name: opened, read whole, judged. Each failure prints one line on standard error.
+ghost use Rattle.std.specs.Prelude.{◌≤◌, length, IfOk, IfSome};
 ghost use Rattle.desk.specs.Loads.{Fills, Fetches, Loads, LoadsAll, LoadsOf};
 
-use crate::failures::{say_failure, say_unread_from};
-use crate::host::{Host, Input, open_input};
-use crate::names::{Name, name_at};
-use crate::printing::{write, write_count};
+use crate::failures::say_error_of;
+use crate::host::{Host, Input};
+use crate::names::name_at;
 use crate::refusals::write_refused;
 use reading::read;
-use rules::{Description, Read, Refusal};
+use rules::{Description, Refusal};
+use std::io::{Read, Result as Written, Write};
 
-// The description of the table and how many bytes its file has; or, once it was said why on standard error, that the file is refused, or that none
-// could be read.
+// The description of a table that was loaded, and how many bytes its file has.
 #[derive(Clone, Copy)]
-pub enum Loaded {
-    Table {
-        description: Description,
-        bytes: usize,
-    },
+pub struct Table {
+    pub description: Description,
+    pub bytes: usize,
+}
+
+// Why there is no table, once that was said on standard error: its file is refused, or none could be read.
+#[derive(Clone, Copy, Debug, PartialEq, Eq)]
+pub enum NoTable {
     Refused,
     Unread,
+}
+
+// Why there is nothing of a file, once that was said on standard error: it is longer than the space, or the system could not open or read it.
+#[derive(Clone, Copy, Debug, PartialEq, Eq)]
+pub enum Unfetched {
+    TooLong,
+    Failed,
 }
 
 // What came of reading an input until the space is full or the input ends.
 #[derive(Clone, Copy)]
 pub enum Filled {
     Bytes(usize),
-    Failed,
-}
-
-// What came of reading a file, or an input, to its end.
-#[derive(Clone, Copy)]
-pub enum Fetched {
-    Bytes(usize),
-    TooLong,
     Failed,
 }
 
@@ -49,100 +51,97 @@ pub fn fill(from: &mut Input, space: &mut [u8]) -> Filled
     }
 }
 
-// All that an input has, if it fits.
-fn fetch(from: &mut Input, file: &mut [u8]) -> Fetched
-    ensures { Fetches file.new result }
+// How many bytes an input has, all of which are in the space now; or none, where it has more than fit.
+fn fetch(from: &mut Input, file: &mut [u8]) -> Written<Option<usize>>
+    ensures { IfOk result (λ found. IfSome found (λ n. n ≤ length file.new)) }
 {
-    let Filled::Bytes(n) = fill(&mut *from, &mut *file) else {
-        return Fetched::Failed;
-    };
+    let n = from.fill(&mut *file)?;
     if n < file.len() {
-        return Fetched::Bytes(n);
+        return Ok(Some(n));
     }
     let mut one = [0u8; 1];
-    let Filled::Bytes(past) = fill(&mut *from, &mut one) else {
-        return Fetched::Failed;
-    };
+    let past = from.read(&mut one)?;
     if past > 0 {
-        return Fetched::TooLong;
+        return Ok(None);
     }
-    Fetched::Bytes(n)
+    Ok(Some(n))
 }
 
-fn say_too_long(host: &mut Host, program: &[u8], path: &[u8], most: usize) {
-    write(&mut host.err, program);
-    write(&mut host.err, b": ");
-    write(&mut host.err, path);
-    write(&mut host.err, b": longer than ");
-    write_count(&mut host.err, most as u64);
-    write(&mut host.err, b" bytes\n");
+fn write_too_long(host: &mut Host, path: &[u8], most: usize) -> Written<()> {
+    let program = host.program;
+    write!(host.err, "{program}: ")?;
+    host.err.write_all(path)?;
+    writeln!(host.err, ": longer than {most} bytes")
 }
 
 // The same, and where there is nothing to judge it is said.
 fn fetch_or_say(
     host: &mut Host,
-    program: &[u8],
     path: &[u8],
     from: &mut Input,
     file: &mut [u8],
-) -> Fetched
+) -> Result<usize, Unfetched>
     ensures { Fetches file.new result }
 {
-    let fetched = fetch(&mut *from, &mut *file);
-    match fetched {
-        Fetched::Bytes(_) => {}
-        Fetched::TooLong => say_too_long(host, program, path, file.len()),
-        Fetched::Failed => say_unread_from(host, program, path, from),
+    match fetch(from, &mut *file) {
+        Ok(Some(n)) => Ok(n),
+        Ok(None) => {
+            let _ = write_too_long(host, path, file.len());
+            Err(Unfetched::TooLong)
+        }
+        Err(error) => {
+            say_error_of(host, "cannot read", path, error);
+            Err(Unfetched::Failed)
+        }
     }
-    fetched
 }
 
-// The bytes of the file with this name, and where there are none to judge it is said. The file is closed on every way out.
-pub fn fetch_file(host: &mut Host, program: &[u8], path: &[u8], file: &mut [u8]) -> Fetched
+// How many bytes the file with this name has, and where there are none to judge it is said. The file is closed on every way out.
+pub fn fetch_file(host: &mut Host, path: &[u8], file: &mut [u8]) -> Result<usize, Unfetched>
     ensures { Fetches file.new result }
 {
-    let Some(mut from) = open_input(host, path) else {
-        say_failure(host, program, b": cannot open ", path);
-        return Fetched::Failed;
-    };
-    fetch_or_say(host, program, path, &mut from, file)
+    match host.open(path) {
+        Ok(mut from) => fetch_or_say(host, path, &mut from, file),
+        Err(error) => {
+            say_error_of(host, "cannot open", path, error);
+            Err(Unfetched::Failed)
+        }
+    }
 }
 
 // As `explain: a.cube: refused 5 on line 3: keyword repeated: "TITLE" is there a second time`.
-fn say_refused(
+fn write_refused_file(
     host: &mut Host,
-    program: &[u8],
     path: &[u8],
     file: &[u8],
     reason: Refusal,
     line: usize,
-) {
-    write(&mut host.err, program);
-    write(&mut host.err, b": ");
-    write(&mut host.err, path);
-    write(&mut host.err, b": ");
-    write_refused(&mut host.err, file, reason, line);
-    write(&mut host.err, b"\n");
+) -> Written<()> {
+    let program = host.program;
+    write!(host.err, "{program}: ")?;
+    host.err.write_all(path)?;
+    write!(host.err, ": ")?;
+    write_refused(&mut host.err, file, reason, line)?;
+    writeln!(host.err)
 }
 
 // The table of a file that was read whole.
 fn load_bytes(
     host: &mut Host,
-    program: &[u8],
     path: &[u8],
     file: &[u8],
     table: &mut [i64],
-) -> Loaded
+) -> Result<Table, NoTable>
     ensures { LoadsAll file.now table.old result table.new }
 {
     match read(file, table) {
-        Read::Accepted(description) => Loaded::Table {
+        rules::Read::Accepted(description) => Ok(Table {
             description,
             bytes: file.len(),
-        },
-        Read::Refused { reason, line } => {
-            say_refused(host, program, path, file, reason, line);
-            Loaded::Refused
+        }),
+        rules::Read::Refused { reason, line } => {
+            let _ = write_refused_file(host, path, file, reason, line);
+            Err(NoTable::Refused)
         }
     }
 }
@@ -150,42 +149,40 @@ fn load_bytes(
 // The table of what was fetched.
 fn load_fetched(
     host: &mut Host,
-    program: &[u8],
     path: &[u8],
-    fetched: Fetched,
+    fetched: Result<usize, Unfetched>,
     file: &[u8],
     table: &mut [i64],
-) -> Loaded
+) -> Result<Table, NoTable>
     requires { Fetches file.now fetched }
     ensures { LoadsOf fetched file.now table.old result table.new }
 {
     match fetched {
-        Fetched::Bytes(bytes) => load_bytes(host, program, path, &file[..bytes], table),
-        Fetched::TooLong => Loaded::Unread,
-        Fetched::Failed => Loaded::Unread,
+        Ok(bytes) => load_bytes(host, path, &file[..bytes], table),
+        Err(_) => Err(NoTable::Unread),
     }
 }
 
-fn load(host: &mut Host, program: &[u8], path: &[u8], file: &mut [u8], table: &mut [i64]) -> Loaded
+fn load(host: &mut Host, path: &[u8], file: &mut [u8], table: &mut [i64]) -> Result<Table, NoTable>
     ensures { Loads file.new table.old result table.new }
 {
-    let fetched = fetch_file(host, program, path, &mut *file);
-    load_fetched(host, program, path, fetched, file, table)
+    let fetched = fetch_file(host, path, &mut *file);
+    load_fetched(host, path, fetched, file, table)
 }
 
 // The table that an argument names.
+#[tactic(auto, using(crate::proofs::WhatIsLoaded::unread))]
 pub fn load_argument(
     host: &mut Host,
-    program: &[u8],
     place: usize,
     file: &mut [u8],
     table: &mut [i64],
-) -> Loaded
+) -> Result<Table, NoTable>
     ensures { Loads file.new table.old result table.new }
 {
     let mut path = io::buffer();
-    let Name::Bytes(n) = name_at(host, program, b"the table", place, &mut path) else {
-        return Loaded::Unread;
+    let Some(n) = name_at(host, "the table", place, &mut path) else {
+        return Err(NoTable::Unread);
     };
-    load(host, program, &path[..n], file, table)
+    load(host, &path[..n], file, table)
 }

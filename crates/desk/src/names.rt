@@ -2,37 +2,30 @@
 ghost use Rattle.desk.specs.Loads.{NameWithin};
 
 use crate::host::{Host, word_at};
-use crate::printing::write;
-
-// How many bytes of the lent space a name has; or, once that was said on standard error, that there is none that a file can have.
-#[derive(Clone, Copy)]
-pub enum Name {
-    Bytes(usize),
-    Unusable,
-}
+use std::io::Write;
 
 // The longest name that the system takes.
 const LONGEST: usize = 4095;
 
 // As `erythmoda explain: the name of the table is longer than 4,095 bytes`.
-fn say_too_long(host: &mut Host, program: &[u8], what: &[u8]) {
-    write(&mut host.err, program);
-    write(&mut host.err, b": the name of ");
-    write(&mut host.err, what);
-    write(&mut host.err, b" is longer than 4,095 bytes\n");
+fn say_too_long(host: &mut Host, what: &str) {
+    let program = host.program;
+    let _ = writeln!(
+        host.err,
+        "{program}: the name of {what} is longer than 4,095 bytes",
+    );
 }
 
-// The argument at a place, which is there, as the name of what is to be read or written.
-pub fn name_at(host: &mut Host, program: &[u8], what: &[u8], place: usize, path: &mut [u8]) -> Name
+// The argument at a place, which is there, as the name of what is to be read or written: how many bytes of the lent space it has. Or nothing, once it was
+// said on standard error that no file can have it.
+pub fn name_at(host: &mut Host, what: &str, place: usize, path: &mut [u8]) -> Option<usize>
     ensures { NameWithin path.new result }
 {
-    let Some(n) = word_at(host, place, &mut *path) else {
-        say_too_long(host, program, what);
-        return Name::Unusable;
-    };
-    if n > LONGEST {
-        say_too_long(host, program, what);
-        return Name::Unusable;
+    match word_at(host, place, &mut *path) {
+        Some(n) if n <= LONGEST => Some(n),
+        _ => {
+            say_too_long(host, what);
+            None
+        }
     }
-    Name::Bytes(n)
 }

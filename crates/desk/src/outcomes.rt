@@ -1,14 +1,16 @@
 // How a program's work ended.
 ghost use Rattle.std.specs.Prelude.{◌≡◌, cond, is_ok};
-ghost use Rattle.desk.specs.Outcomes.{status_of, worse_of};
+ghost use Rattle.desk.specs.Outcomes.{status_of, worse_of, ends_without};
 ghost use Rattle.desk.specs.declared.outcomes.Outcome.TheVariants.{Failed};
 
-use crate::failures::{say_error, say_unwritten};
-use crate::host::Host;
+use crate::failures::say_error;
+use crate::host::{Host, say_failed};
+use crate::loading::NoTable;
+use crate::printing::write;
 use std::io;
 
-// Done; refused, for what the file or the picture says; or failed, by a call that is not understood or by the system.
-#[derive(Clone, Copy)]
+// Done; refused, for what the file or the picture says; or failed, by a call that is not understood or by the system. The later the worse.
+#[derive(Clone, Copy, Debug, PartialEq, Eq)]
 pub enum Outcome {
     Done,
     Refused,
@@ -57,7 +59,22 @@ impl Outcome {
         if written {
             return self;
         }
-        say_unwritten(host, program);
+        write(&mut host.err, program);
+        let failure = host.out.failure();
+        say_failed(host, b": cannot write standard output", failure);
         Outcome::Failed
+    }
+}
+
+// Where there is no table: its file is refused, or could not be read.
+impl From<NoTable> for Outcome {
+    ghost from_gives = { λ why end. end ≡ ends_without why };
+
+    #[tactic(auto, unfolding(crate::specs::Outcomes::ends_without))]
+    fn from(why: NoTable) -> Outcome {
+        match why {
+            NoTable::Refused => Outcome::Refused,
+            NoTable::Unread => Outcome::Failed,
+        }
     }
 }

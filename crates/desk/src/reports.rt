@@ -3,13 +3,12 @@ ghost use Rattle.std.specs.Prelude.{◌≡◌};
 ghost use Rattle.rules.specs.Reporting.{report};
 ghost use Rattle.desk.specs.Outcomes.{outcome_of, EndsAs};
 
-use crate::failures::say_unread;
+use crate::failures::say_error;
 use crate::host::{Host, Input};
-use crate::loading::{Filled, fill};
 use crate::outcomes::Outcome;
-use crate::printing::say;
 use reporting::{answer_to, put_answer};
 use rules::Read;
+use std::io::Write;
 
 // Accepted is done.
 pub fn outcome_of(answer: Read) -> Outcome
@@ -22,23 +21,25 @@ pub fn outcome_of(answer: Read) -> Outcome
 }
 
 // The report on an input that was read whole, or as far as one byte past the longest.
-fn report_on(host: &mut Host, program: &[u8], input: &[u8]) -> Outcome
+fn report_on(host: &mut Host, input: &[u8]) -> Outcome
     ensures { EndsAs (outcome_of (report input.now)) result }
 {
     let answer = answer_to(input);
     let mut text = [0u8; 512];
     let count = put_answer(input, answer, &mut text);
-    let written = say(host, &text[..count]);
-    outcome_of(answer).if_written(host, written, program)
+    let written = host.out.write_all(&text[..count]);
+    outcome_of(answer).when_written(host, written)
 }
 
 // The buffer has one byte more than the longest input, to tell that from a longer one. Input that cannot be read gets no verdict.
-pub fn report_input(host: &mut Host, program: &[u8]) -> Outcome {
+pub fn report_input(host: &mut Host) -> Outcome {
     let mut input = [0u8; 65537];
     let mut from = Input::standard(host);
-    let Filled::Bytes(n) = fill(&mut from, &mut input) else {
-        say_unread(host, program, &from);
-        return Outcome::Failed;
-    };
-    report_on(host, program, &input[..n])
+    match from.fill(&mut input) {
+        Ok(n) => report_on(host, &input[..n]),
+        Err(error) => {
+            say_error(host, "cannot read standard input", error);
+            Outcome::Failed
+        }
+    }
 }

@@ -19,8 +19,7 @@ use Rattle.desk.specs.declared.outcomes.Outcome.{Outcome}
 use Rattle.desk.specs.declared.outcomes.Outcome.TheVariants.{Done, Refused, Failed}
 use Rattle.desk.proofs.Ends.{ends_as}
 use Rattle.explain.specs.Questions.{looked_as, given_as, held_as, asked_as}
-use Rattle.explain.specs.declared.question.Pixel.{Pixel}
-use Rattle.explain.specs.declared.question.Pixel.TheVariants.{Held, Beyond}
+use Rattle.std.specs.Prelude.{Option, Some, None}
 use Rattle.explain.specs.declared.question.Question.{Question}
 
 -- ---- by an answer that is the one which is due, of a look or of a half
@@ -51,12 +50,12 @@ module _ (d : Description) (table : List ℤ) (bits : Bits) {r : Outcome} (refus
 
 -- ---- a pixel that is held, and one that no depth has
 
-module _ (ends : Codes → Outcome) {p : Pixel} (r : Outcome) where
-  pub ends_held : (raw : Codes) → p ≡ Held raw → EndsAs (ends raw) r → EndsAs (held_as ends p) r
+module _ (ends : Codes → Outcome) {p : Option Codes} (r : Outcome) where
+  pub ends_held : (raw : Codes) → p ≡ Some raw → EndsAs (ends raw) r → EndsAs (held_as ends p) r
   unfolding held_as
   ends_held raw e h = subst (λ x. EndsAs (held_as ends x) r) (sym e) h
 
-  pub ends-beyond : p ≡ Beyond → r ≡ Refused → EndsAs (held_as ends p) r
+  pub ends-beyond : p ≡ None → r ≡ Refused → EndsAs (held_as ends p) r
   unfolding held_as
   ends-beyond e h = subst (λ x. EndsAs (held_as ends x) r) (sym e) (inl h)
 

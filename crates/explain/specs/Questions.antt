@@ -1,5 +1,5 @@
 -- What a question asks about, and how its answer ends.
-use Rattle.std.specs.Prelude.{ℕ, cond, ◌&&◌, List, leb, ℤ}
+use Rattle.std.specs.Prelude.{ℕ, cond, ◌&&◌, List, leb, ℤ, Option, Some, None}
 use Rattle.rules.specs.Looking.{first_half, second_half, look}
 use Rattle.rules.specs.declared.Codes.{Codes}
 use Rattle.rules.specs.declared.Description.{Description}
@@ -11,15 +11,13 @@ use Rattle.rules.specs.declared.SecondHalf.{SecondHalf}
 use Rattle.rules.specs.declared.SecondHalf.TheVariants as S
 use Rattle.desk.specs.declared.outcomes.Outcome.{Outcome}
 use Rattle.desk.specs.declared.outcomes.Outcome.TheVariants.{Done, Refused}
-use Rattle.explain.specs.declared.question.Pixel.{Pixel}
-use Rattle.explain.specs.declared.question.Pixel.TheVariants.{Held, Beyond}
 use Rattle.explain.specs.declared.question.Question.{Question}
 use Rattle.explain.specs.declared.question.Question.TheVariants as Q
 
 -- three codes that 16 bits hold, or one that they do not
-abbrev pub pixel_asked : ℕ → ℕ → ℕ → Pixel
+abbrev pub pixel_asked : ℕ → ℕ → ℕ → Option Codes
 pixel_asked red green blue =
-    cond (leb red 65_535 && (leb green 65_535 && leb blue 65_535)) (Held (record { red = red; green = green; blue = blue })) Beyond
+    cond (leb red 65_535 && (leb green 65_535 && leb blue 65_535)) (Some (record { red = red; green = green; blue = blue })) None
 
 -- a look that is accepted is done with
 unfoldable pub looked_as : Look → Outcome
@@ -36,9 +34,9 @@ given_as (S.Accepted codes) = Done
 given_as (S.Refused r) = Refused
 
 -- a code that no depth has is refused
-unfoldable pub held_as : (Codes → Outcome) → Pixel → Outcome
-held_as ends (Held raw) = ends raw
-held_as ends Beyond = Refused
+unfoldable pub held_as : (Codes → Outcome) → Option Codes → Outcome
+held_as ends (Some raw) = ends raw
+held_as ends None = Refused
 
 unfoldable pub asked_as : Description → List ℤ → Question → Outcome
 asked_as d table (Q.Pixel bits pixel) = held_as (λ raw. looked_as (look d table bits raw)) pixel

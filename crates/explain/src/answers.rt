@@ -1,5 +1,5 @@
 // The answer to each question, of a table that was loaded.
-ghost use Rattle.std.specs.Prelude.{◌≡◌, cond};
+ghost use Rattle.std.specs.Prelude.{◌≡◌, cond, is_ok};
 ghost use Rattle.rules.specs.Looking.{first_half, second_half, look};
 ghost use Rattle.rules.specs.declared.Refusal.TheVariants.{RowsOrWeightsWrong};
 ghost use Rattle.colour.specs.Plans.{Readable};
@@ -8,27 +8,22 @@ ghost use Rattle.desk.specs.declared.outcomes.Outcome.TheVariants.{Done, Refused
 ghost use Rattle.explain.specs.Questions.{looked_as, kept_as, given_as, held_as, asked_as};
 
 use crate::kept::show_line;
-use crate::question::{Pixel, Question};
-use crate::show::{show_look, show_pixel};
-use desk::{Host, Outcome, say_refusal, write};
+use crate::question::Question;
+use crate::show::{show_look, show_pixel_look};
+use desk::{Host, Outcome, refuse};
 use halves::{first_half, judged_shares, look, second_half};
 use rules::{
     Bits, Codes, Depths, DepthsFound, Description, FirstHalf, Judged, Look, Refusal, SecondHalf,
     Shares,
 };
-
-fn refuse(host: &mut Host, reason: Refusal) -> Outcome
-    ensures { result ≡ Refused }
-{
-    say_refusal(host, b"erythmoda explain", reason);
-    Outcome::Refused
-}
+use std::io;
+use std::io::Write;
 
 // What is shown is done with, unless it could not be written.
-fn done_if(host: &mut Host, written: bool) -> Outcome
-    ensures { result ≡ cond written Done Failed }
+fn done_if(host: &mut Host, written: io::Result<()>) -> Outcome
+    ensures { result ≡ cond (is_ok written) Done Failed }
 {
-    Outcome::Done.if_written(host, written, b"erythmoda explain")
+    Outcome::Done.when_written(host, written)
 }
 
 // A code that no depth has: 20 comes before 23.
@@ -60,8 +55,10 @@ fn explain_held(
     match look(d, table, bits, raw) {
         Look::Refused(reason) => refuse(host, reason),
         Look::Accepted { codes, shares } => {
-            let written = show_pixel(host, raw, bits.raw)
-                && show_look(host, d, file, table, depths, codes, shares);
+            let out = &mut host.out;
+            let written = show_pixel_look(
+                out, raw, bits.raw, d, file, table, depths, codes, shares,
+            );
             done_if(host, written)
         }
     }
@@ -73,13 +70,13 @@ fn explain_pixel(
     file: &[u8],
     table: &[i64],
     bits: Bits,
-    pixel: Pixel,
+    pixel: Option<Codes>,
 ) -> Outcome
     ensures { EndsAs (held_as (λ raw. looked_as (look d table.now bits raw)) pixel) result }
 {
     match pixel {
-        Pixel::Held(raw) => explain_held(host, d, file, table, bits, raw),
-        Pixel::Beyond => refuse_beyond(host, bits),
+        Some(raw) => explain_held(host, d, file, table, bits, raw),
+        None => refuse_beyond(host, bits),
     }
 }
 
@@ -92,18 +89,24 @@ fn keep_held(host: &mut Host, d: Description, table: &[i64], raw: u32, codes: Co
     match first_half(d, table, raw, codes) {
         FirstHalf::Refused(reason) => refuse(host, reason),
         FirstHalf::Accepted(shares) => {
-            let written = show_line(host, raw, shares);
+            let written = show_line(&mut host.out, raw, shares);
             done_if(host, written)
         }
     }
 }
 
-fn keep_pixel(host: &mut Host, d: Description, table: &[i64], raw: u32, pixel: Pixel) -> Outcome
+fn keep_pixel(
+    host: &mut Host,
+    d: Description,
+    table: &[i64],
+    raw: u32,
+    pixel: Option<Codes>,
+) -> Outcome
     ensures { EndsAs (held_as (λ codes. kept_as (first_half d table.now raw codes)) pixel) result }
 {
     match pixel {
-        Pixel::Held(codes) => keep_held(host, d, table, raw, codes),
-        Pixel::Beyond => refuse_beyond(
+        Some(codes) => keep_held(host, d, table, raw, codes),
+        None => refuse_beyond(
             host,
             Bits {
                 raw,
@@ -115,19 +118,18 @@ fn keep_pixel(host: &mut Host, d: Description, table: &[i64], raw: u32, pixel: P
 
 // ---- the codes of a line
 
-fn say_more(host: &mut Host, words: &[u8]) {
-    write(&mut host.err, b"erythmoda explain: ");
-    write(&mut host.err, words);
-    write(&mut host.err, b"\n");
+fn say_more(host: &mut Host, words: &str) {
+    let program = host.program;
+    let _ = writeln!(host.err, "{program}: {words}");
 }
 
 // Which of the conditions of 26 was found first.
 fn say_found(host: &mut Host, found: Judged) {
     match found {
         Judged::Fit => {}
-        Judged::RowBeyond => say_more(host, b"a row number is not below the table's count of rows"),
-        Judged::NegativeWeight => say_more(host, b"a weight is negative"),
-        Judged::WrongSum => say_more(host, b"weights do not add up to their denominator"),
+        Judged::RowBeyond => say_more(host, "a row number is not below the table's count of rows"),
+        Judged::NegativeWeight => say_more(host, "a weight is negative"),
+        Judged::WrongSum => say_more(host, "weights do not add up to their denominator"),
     }
 }
 
@@ -168,7 +170,7 @@ fn explain_line(
     match second_half(d, table, bits, shares) {
         SecondHalf::Refused(reason) => refuse_line(host, d, depths, shares, reason),
         SecondHalf::Accepted(codes) => {
-            let written = show_look(host, d, file, table, depths, codes, shares);
+            let written = show_look(&mut host.out, d, file, table, depths, codes, shares);
             done_if(host, written)
         }
     }

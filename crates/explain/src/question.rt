@@ -3,58 +3,26 @@ ghost use Rattle.std.specs.Prelude.{◌≡◌};
 ghost use Rattle.explain.specs.Questions.{pixel_asked};
 
 use desk::{Host, argument_count, is_word_at};
-use given::{Given, MOST, MOST_ROW, Weight, corrected_width, value_at, weight_at};
+use given::{MOST, MOST_ROW, corrected_width, value_at, weight_at};
 use rules::{Bits, Codes, Share, Shares};
 
-// A pixel, or that one of the codes is greater than any depth has.
-#[derive(Clone, Copy)]
-pub enum Pixel {
-    Held(Codes),
-    Beyond,
-}
-
-// What made a pixel's codes; the line of a pixel, with its rows and weights; or what codes such a line gives.
+// What made a pixel's codes; the line of a pixel, with its rows and weights; or what codes such a line gives. There is no pixel where a code is greater than
+// any depth has.
 #[derive(Clone, Copy)]
 pub enum Question {
-    Pixel { bits: Bits, pixel: Pixel },
-    LineOf { raw: u32, pixel: Pixel },
+    Pixel { bits: Bits, pixel: Option<Codes> },
+    LineOf { raw: u32, pixel: Option<Codes> },
     Line { bits: Bits, shares: Shares },
 }
 
-// What the arguments ask, or nothing that can be understood.
-#[derive(Clone, Copy)]
-pub enum Asked {
-    Plainly(Question),
-    Unclear,
-}
-
-// What two arguments give, and what twelve do.
-#[derive(Clone, Copy)]
-enum ShareGiven {
-    Both(Share),
-    Unclear,
-}
-
-#[derive(Clone, Copy)]
-enum SharesGiven {
-    All(Shares),
-    Unclear,
-}
-
-// The pixel, where a code of 16 bits holds each.
-fn pixel_of(red: u32, green: u32, blue: u32) -> Pixel
+// The pixel, where a code of 16 bits holds each; none where one is greater than any depth has.
+fn pixel_of(red: u32, green: u32, blue: u32) -> Option<Codes>
     ensures { result ≡ pixel_asked red green blue }
 {
-    if red > MOST {
-        return Pixel::Beyond;
+    if red > MOST || green > MOST || blue > MOST {
+        return None;
     }
-    if green > MOST {
-        return Pixel::Beyond;
-    }
-    if blue > MOST {
-        return Pixel::Beyond;
-    }
-    Pixel::Held(Codes {
+    Some(Codes {
         red: red as u16,
         green: green as u16,
         blue: blue as u16,
@@ -67,65 +35,39 @@ fn line_wanted(host: &Host) -> bool {
 }
 
 // Four numbers; then perhaps an option.
-fn read_pixel(host: &Host) -> Asked {
-    let Given::Value(raw) = value_at(host, 3, MOST) else {
-        return Asked::Unclear;
-    };
-    let Given::Value(red) = value_at(host, 4, MOST) else {
-        return Asked::Unclear;
-    };
-    let Given::Value(green) = value_at(host, 5, MOST) else {
-        return Asked::Unclear;
-    };
-    let Given::Value(blue) = value_at(host, 6, MOST) else {
-        return Asked::Unclear;
-    };
+fn read_pixel(host: &Host) -> Option<Question> {
+    let raw = value_at(host, 3, MOST)?;
+    let red = value_at(host, 4, MOST)?;
+    let green = value_at(host, 5, MOST)?;
+    let blue = value_at(host, 6, MOST)?;
     let pixel = pixel_of(red, green, blue);
     if line_wanted(host) {
-        return Asked::Plainly(Question::LineOf { raw, pixel });
+        return Some(Question::LineOf { raw, pixel });
     }
-    let Given::Value(corrected) = corrected_width(host, 7, raw) else {
-        return Asked::Unclear;
-    };
+    let corrected = corrected_width(host, 7, raw)?;
     let bits = Bits { raw, corrected };
-    Asked::Plainly(Question::Pixel { bits, pixel })
+    Some(Question::Pixel { bits, pixel })
 }
 
 // A row and its weight, each at its place.
-fn share_at(host: &Host, row_place: usize, weight_place: usize) -> ShareGiven {
-    let Given::Value(row) = value_at(host, row_place, MOST_ROW) else {
-        return ShareGiven::Unclear;
-    };
-    let Weight::Value(weight) = weight_at(host, weight_place) else {
-        return ShareGiven::Unclear;
-    };
-    ShareGiven::Both(Share {
+fn share_at(host: &Host, row_place: usize, weight_place: usize) -> Option<Share> {
+    let row = value_at(host, row_place, MOST_ROW)?;
+    let weight = weight_at(host, weight_place)?;
+    Some(Share {
         row: row as usize,
         weight,
     })
 }
 
 // Six rows, then their weights in the same order.
-fn shares_given(host: &Host) -> SharesGiven {
-    let ShareGiven::Both(first) = share_at(host, 5, 11) else {
-        return SharesGiven::Unclear;
-    };
-    let ShareGiven::Both(second) = share_at(host, 6, 12) else {
-        return SharesGiven::Unclear;
-    };
-    let ShareGiven::Both(third) = share_at(host, 7, 13) else {
-        return SharesGiven::Unclear;
-    };
-    let ShareGiven::Both(fourth) = share_at(host, 8, 14) else {
-        return SharesGiven::Unclear;
-    };
-    let ShareGiven::Both(fifth) = share_at(host, 9, 15) else {
-        return SharesGiven::Unclear;
-    };
-    let ShareGiven::Both(sixth) = share_at(host, 10, 16) else {
-        return SharesGiven::Unclear;
-    };
-    SharesGiven::All(Shares {
+fn shares_given(host: &Host) -> Option<Shares> {
+    let first = share_at(host, 5, 11)?;
+    let second = share_at(host, 6, 12)?;
+    let third = share_at(host, 7, 13)?;
+    let fourth = share_at(host, 8, 14)?;
+    let fifth = share_at(host, 9, 15)?;
+    let sixth = share_at(host, 10, 16)?;
+    Some(Shares {
         first,
         second,
         third,
@@ -136,21 +78,16 @@ fn shares_given(host: &Host) -> SharesGiven {
 }
 
 // The thirteen numbers of a line, behind the word that announces it; then perhaps the option.
-fn read_line(host: &Host) -> Asked {
-    let Given::Value(raw) = value_at(host, 4, MOST) else {
-        return Asked::Unclear;
-    };
-    let SharesGiven::All(shares) = shares_given(host) else {
-        return Asked::Unclear;
-    };
-    let Given::Value(corrected) = corrected_width(host, 17, raw) else {
-        return Asked::Unclear;
-    };
+fn read_line(host: &Host) -> Option<Question> {
+    let raw = value_at(host, 4, MOST)?;
+    let shares = shares_given(host)?;
+    let corrected = corrected_width(host, 17, raw)?;
     let bits = Bits { raw, corrected };
-    Asked::Plainly(Question::Line { bits, shares })
+    Some(Question::Line { bits, shares })
 }
 
-pub fn read_arguments(host: &Host) -> Asked {
+// What the arguments ask, or nothing that can be understood.
+pub fn read_arguments(host: &Host) -> Option<Question> {
     if is_word_at(host, 3, b"--line") {
         return read_line(host);
     }

@@ -39,10 +39,9 @@ use Rattle.colour.specs.Limits.{den_limit}
 use Rattle.colour.proofs.Plans.{den-most}
 use Rattle.colour.proofs.Weighing.{carried-is}
 use Rattle.desk.specs.Arguments.{argument_of}
-use Rattle.desk.specs.declared.arguments.Argument.TheVariants as A
+use Rattle.std.specs.Prelude.{Some, Ok, Err}
+use Rattle.desk.specs.declared.arguments.Unfit.TheVariants.{TooGreat}
 use Rattle.given.specs.Written.{value_by, weight_by, weight_read, share_read, shares_read}
-use Rattle.given.specs.declared.Given.TheVariants as G
-use Rattle.given.specs.declared.Weight.TheVariants as W
 
 -- ---- one number
 
@@ -85,21 +84,21 @@ great-capped true zero h = absurd (omega arith)
 great-capped true (suc n) h = ap negsuc (omega arith)
 
 module _ (text : List ℕ) (d : digits text ≡ true) where
-  pub value_read : (most : ℕ) → value_by most (argument_of most text) ≡ G.Value (min (spell 0 text) (suc most))
+  pub value_read : (most : ℕ) → value_by most (argument_of most text) ≡ Some (min (spell 0 text) (suc most))
   unfolding argument_of
   value_read most = rw d (by (leb (spell 0 text) most) refl)
     where
-      by : (t : Bool) → leb (spell 0 text) most ≡ t → value_by most (cond t (A.Number (spell 0 text)) A.TooGreat) ≡ G.Value (min (spell 0 text) (suc most))
-      by true e = ap G.Value (omega (arith, leb-true (spell 0 text) most e))
-      by false e = ap G.Value (omega (arith, leb-false (spell 0 text) most e))
+      by : (t : Bool) → leb (spell 0 text) most ≡ t → value_by most (cond t (Ok (spell 0 text)) (Err TooGreat)) ≡ Some (min (spell 0 text) (suc most))
+      by true e = ap Some (omega (arith, leb-true (spell 0 text) most e))
+      by false e = ap Some (omega (arith, leb-false (spell 0 text) most e))
 
-  pub weight-read : (negative : Bool) → weight_by negative (argument_of den_limit text) ≡ W.Value (weight_read (signed negative (spell 0 text)))
+  pub weight-read : (negative : Bool) → weight_by negative (argument_of den_limit text) ≡ Some (weight_read (signed negative (spell 0 text)))
   unfolding argument_of
   weight-read negative = rw d (by (leb (spell 0 text) den_limit) refl)
     where
-      by : (t : Bool) → leb (spell 0 text) den_limit ≡ t → weight_by negative (cond t (A.Number (spell 0 text)) A.TooGreat) ≡ W.Value (weight_read (signed negative (spell 0 text)))
-      by true e = ap W.Value (small-kept negative (spell 0 text) (leb-true _ _ e))
-      by false e = ap W.Value (great-capped negative (spell 0 text) (leb-false _ _ e))
+      by : (t : Bool) → leb (spell 0 text) den_limit ≡ t → weight_by negative (cond t (Ok (spell 0 text)) (Err TooGreat)) ≡ Some (weight_read (signed negative (spell 0 text)))
+      by true e = ap Some (small-kept negative (spell 0 text) (leb-true _ _ e))
+      by false e = ap Some (great-capped negative (spell 0 text) (leb-false _ _ e))
 
 -- ---- what is found of each row and weight
 

@@ -10,9 +10,9 @@ use native.Mathlib.Omega.{arith}
 use Rattle.colour.specs.Limits.{den_limit}
 use Rattle.desk.specs.Arguments.{argument_of}
 use Rattle.given.specs.Written.{weight_by, weight_of}
-use Rattle.given.specs.declared.Weight.TheVariants.{NoNumber}
+use Rattle.std.specs.Prelude.{None}
 
-pub no_text : (text : List ℕ) → length text ≡ 0 → weight_of text ≡ NoNumber
+pub no_text : (text : List ℕ) → length text ≡ 0 → weight_of text ≡ None
 unfolding weight_of
 no_text [] e = refl
 no_text (b ∷ digits) e = absurd (omega (arith, e))

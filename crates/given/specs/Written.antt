@@ -1,32 +1,28 @@
 -- A number as it is written: digits, and for a weight perhaps a minus before them.
-use Rattle.std.specs.Prelude.{ℕ, suc, min, Bool, true, false, cond, List, [], ◌∷◌, eqb, ℤ, pos, negsuc}
+use Rattle.std.specs.Prelude.{ℕ, suc, min, Bool, true, false, cond, List, [], ◌∷◌, eqb, ℤ, pos, negsuc, Option, Some, None, Result, Ok, Err}
 use Rattle.rules.specs.Reading.Numerals.{signed}
 use Rattle.rules.specs.Units.{row_limit}
 use Rattle.rules.specs.declared.Share.{Share}
 use Rattle.rules.specs.declared.Shares.{Shares}
 use Rattle.colour.specs.Limits.{den_limit}
 use Rattle.desk.specs.Arguments.{argument_of}
-use Rattle.desk.specs.declared.arguments.Argument.{Argument}
-use Rattle.desk.specs.declared.arguments.Argument.TheVariants as A
-use Rattle.given.specs.declared.Given.{Given}
-use Rattle.given.specs.declared.Given.TheVariants as G
-use Rattle.given.specs.declared.Weight.{Weight}
-use Rattle.given.specs.declared.Weight.TheVariants.{Value, NoNumber}
+use Rattle.desk.specs.declared.arguments.Unfit.{Unfit}
+use Rattle.desk.specs.declared.arguments.Unfit.TheVariants.{TooGreat, Unclear}
 
 -- what digits say, up to a limit; past it every number counts as the next one
-abbrev pub value_by : ℕ → Argument → Given
-value_by most (A.Number n) = G.Value n
-value_by most A.TooGreat = G.Value (suc most)
-value_by most A.NoNumber = G.NoNumber
+abbrev pub value_by : ℕ → Result ℕ Unfit → Option ℕ
+value_by most (Ok n) = Some n
+value_by most (Err TooGreat) = Some (suc most)
+value_by most (Err Unclear) = None
 
 -- the limit of a weight is the greatest D
-abbrev pub weight_by : Bool → Argument → Weight
-weight_by negative (A.Number n) = Value (signed negative n)
-weight_by negative A.TooGreat = Value (signed negative (suc den_limit))
-weight_by negative A.NoNumber = NoNumber
+abbrev pub weight_by : Bool → Result ℕ Unfit → Option ℤ
+weight_by negative (Ok n) = Some (signed negative n)
+weight_by negative (Err TooGreat) = Some (signed negative (suc den_limit))
+weight_by negative (Err Unclear) = None
 
-unfoldable pub weight_of : List ℕ → Weight
-weight_of [] = NoNumber
+unfoldable pub weight_of : List ℕ → Option ℤ
+weight_of [] = None
 weight_of (b ∷ digits) = cond (eqb b 45) (weight_by true (argument_of den_limit digits)) (weight_by false (argument_of den_limit (b ∷ digits)))
 
 -- ---- the rows and weights of a line, as they are read whatever was written

@@ -10,10 +10,10 @@ ghost use Rattle.desk.specs.Outcomes.{EndsAs};
 ghost use Rattle.invert.specs.Saying.{said_of, end_of};
 
 use answers::find;
-use desk::{Host, Loaded, Outcome, load_argument};
+use desk::{Host, Outcome, load_argument};
 use question::{Question, read_arguments};
 use rules::Description;
-use show::{PROGRAM, show_said};
+use show::show_said;
 pub use words::help;
 
 // A question, answered by a table that was loaded.
@@ -25,13 +25,9 @@ fn answer(host: &mut Host, d: Description, table: &[i64], question: Question) ->
 
 // By the table that the argument after the verb names.
 fn answer_by(host: &mut Host, file: &mut [u8], table: &mut [i64], question: Question) -> Outcome {
-    match load_argument(host, &PROGRAM, 2, file, &mut *table) {
-        Loaded::Table {
-            description,
-            bytes: _,
-        } => answer(host, description, table, question),
-        Loaded::Refused => Outcome::Refused,
-        Loaded::Unread => Outcome::Failed,
+    match load_argument(host, 2, file, &mut *table) {
+        Ok(loaded) => answer(host, loaded.description, table, question),
+        Err(why) => Outcome::from(why),
     }
 }
 

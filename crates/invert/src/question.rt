@@ -1,6 +1,6 @@
 // The arguments after the verb and the table: a depth, a colour, a wanted code and a tolerance; then perhaps an option.
 use desk::{Host, is_word_at};
-use given::{Given, MOST, corrected_width, value_at};
+use given::{MOST, corrected_width, value_at};
 use rules::{Bits, Colour};
 
 // Which raw code gives the wanted one. A code past 65,535 is one that no depth has, and a tolerance past it allows every code.
@@ -27,19 +27,11 @@ fn colour_at(host: &Host, place: usize) -> Option<Colour> {
 
 // What the arguments ask, where they can be understood.
 pub fn read_arguments(host: &Host) -> Option<Question> {
-    let Given::Value(raw) = value_at(host, 3, MOST) else {
-        return None;
-    };
+    let raw = value_at(host, 3, MOST)?;
     let colour = colour_at(host, 4)?;
-    let Given::Value(wanted) = value_at(host, 5, MOST) else {
-        return None;
-    };
-    let Given::Value(tolerance) = value_at(host, 6, MOST) else {
-        return None;
-    };
-    let Given::Value(corrected) = corrected_width(host, 7, raw) else {
-        return None;
-    };
+    let wanted = value_at(host, 5, MOST)?;
+    let tolerance = value_at(host, 6, MOST)?;
+    let corrected = corrected_width(host, 7, raw)?;
     Some(Question {
         bits: Bits { raw, corrected },
         colour,

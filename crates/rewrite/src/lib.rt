@@ -7,13 +7,12 @@ mod words;
 ghost use Rattle.rules.specs.Writing.{title_bytes};
 ghost use Rattle.rewrite.specs.Anew.{Rewrites, TitleWithin, Printable};
 
-use desk::{Host, Loaded, Outcome, load_argument, say, say_refusal, word_at};
+use desk::{Host, Outcome, load_argument, refuse, word_at};
 use rules::{Description, Refusal, Write};
+use std::io::Write as _;
 use titles::{Wanted, marked, title_wanted};
 pub use words::help;
 use writing::write;
-
-const PROGRAM: [u8; 17] = *b"erythmoda rewrite";
 
 // The text on standard output; or why there is none, on standard error.
 fn print(host: &mut Host, answer: Write, text: &[u8]) -> Outcome
@@ -21,13 +20,10 @@ fn print(host: &mut Host, answer: Write, text: &[u8]) -> Outcome
 {
     match answer {
         Write::Accepted(length) => {
-            let written = say(host, &text[..length]);
-            Outcome::Done.if_written(host, written, &PROGRAM)
+            let written = host.out.write_all(&text[..length]);
+            Outcome::Done.when_written(host, written)
         }
-        Write::Refused(reason) => {
-            say_refusal(host, &PROGRAM, reason);
-            Outcome::Refused
-        }
+        Write::Refused(reason) => refuse(host, reason),
     }
 }
 
@@ -66,8 +62,7 @@ fn keep_title(
 fn new_title(host: &mut Host, d: Description, table: &[i64], text: &mut [u8]) -> Outcome {
     let mut title = io::buffer();
     let Some(n) = word_at(host, 4, &mut title) else {
-        say_refusal(host, &PROGRAM, Refusal::TitleNotPlain);
-        return Outcome::Refused;
+        return refuse(host, Refusal::TitleNotPlain);
     };
     write_anew(host, marked(d, true), table, &title[..n], text)
 }
@@ -98,28 +93,29 @@ fn rewrite_by(
     wanted: Wanted,
     text: &mut [u8],
 ) -> Outcome {
-    match load_argument(host, &PROGRAM, 2, &mut *file, &mut *table) {
-        Loaded::Table { description, bytes } => {
-            retitle(host, description, &file[..bytes], table, wanted, text)
-        }
-        Loaded::Refused => Outcome::Refused,
-        Loaded::Unread => Outcome::Failed,
+    match load_argument(host, 2, &mut *file, &mut *table) {
+        Ok(loaded) => retitle(
+            host,
+            loaded.description,
+            &file[..loaded.bytes],
+            table,
+            wanted,
+            text,
+        ),
+        Err(why) => Outcome::from(why),
     }
 }
 
 // Whether the arguments ask for a table to be written anew, which is then loaded.
 pub fn is_understood(host: &Host) -> bool {
-    match title_wanted(host) {
-        titles::Asked::For(_) => true,
-        titles::Asked::Unclear => false,
-    }
+    title_wanted(host).is_some()
 }
 
 // What the arguments ask for, in lent space for the file, the table and the text.
 pub fn rewrite(host: &mut Host, file: &mut [u8], table: &mut [i64], text: &mut [u8]) -> Outcome {
-    let asked = title_wanted(host);
-    let titles::Asked::For(wanted) = asked else {
-        help(&mut host.err);
+    host.program = "erythmoda rewrite";
+    let Some(wanted) = title_wanted(host) else {
+        let _ = help(&mut host.err);
         return Outcome::Failed;
     };
     rewrite_by(host, file, table, wanted, text)

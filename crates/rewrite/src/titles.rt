@@ -13,45 +13,31 @@ pub enum Wanted {
     Nothing,
 }
 
-#[derive(Clone, Copy)]
-pub enum Asked {
-    For(Wanted),
-    Unclear,
-}
-
-// By what stands after the table's name.
-pub fn title_wanted(host: &Host) -> Asked {
+// By what stands after the table's name; nothing, where that is not understood.
+pub fn title_wanted(host: &Host) -> Option<Wanted> {
     let count = argument_count(host);
     if count == 3 {
-        return Asked::For(Wanted::Kept);
+        return Some(Wanted::Kept);
     }
     if count == 4 && is_word_at(host, 3, b"--no-title") {
-        return Asked::For(Wanted::Nothing);
+        return Some(Wanted::Nothing);
     }
     if count == 5 && is_word_at(host, 3, b"--title") {
-        return Asked::For(Wanted::New);
+        return Some(Wanted::New);
     }
-    Asked::Unclear
+    None
 }
 
 // A description with the mark of a title, or without it.
 pub fn marked(d: Description, there: bool) -> Description
     ensures { result ≡ marked d there }
 {
-    let kind = d.kind;
-    let red = d.red;
-    let green = d.green;
-    let blue = d.blue;
     Description {
-        kind,
-        n: d.n,
-        red,
-        green,
-        blue,
         title: Title {
             there,
             place: 0,
             length: 0,
         },
+        ..d
     }
 }

@@ -7,5 +7,5 @@ use Rattle.given.proofs.value_in.Goals as goal
 
 pub overflow_cast-result : goal.overflow_cast-result
 overflow_cast-result c =
-    let small : c.in-Number.n ≤ c.args.most = subst (UpTo c.args.most) (sym c.number_in.ensures ∙ c.in-Number.is) (up_to c.args.most _) in
+    let small : c.in-Ok.n ≤ c.args.most = subst (UpTo c.args.most) (sym c.number_in.ensures ∙ c.in-Ok.is) (up_to c.args.most _) in
     record { fits = omega (arith, small, c.requires) }

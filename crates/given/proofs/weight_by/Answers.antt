@@ -8,5 +8,5 @@ use Rattle.given.proofs.weight_by.Goals as goal
 
 pub signed_weight-requires : goal.signed_weight-requires
 signed_weight-requires c =
-    let small : c.in-Number.n ≤ den_limit = subst (UpTo den_limit) (sym c.number_in.ensures ∙ c.in-Number.is) (up_to den_limit _) in
+    let small : c.in-Ok.n ≤ den_limit = subst (UpTo den_limit) (sym c.number_in.ensures ∙ c.in-Ok.is) (up_to den_limit _) in
     omega (arith, small)

@@ -4,4 +4,4 @@ use Rattle.rewrite.proofs.Rewritten.{within}
 use Rattle.rewrite.proofs.rewrite_by.Goals as goal
 
 pub retitle-requires : goal.retitle-requires
-retitle-requires c = within (first-bytes c.in-Table.ensures).reads
+retitle-requires c = within (first-bytes c.in-Ok.ensures).reads

@@ -1,3 +1,4 @@
+use Rattle.std.specs.Prelude.{is_ok}
 use mathlib.Core.Path.{sym, ap, ◌∙◌}
 use Rattle.rules.proofs.Answers.{looks-is}
 use Rattle.explain.specs.Questions.{looked_as}
@@ -9,8 +10,8 @@ pub returns-in_default : goal.returns-in_default
 returns-in_default c =
     look-unknown _ _ _ c.refuse.ensures (sym c.of.ensures ∙ c.in_default.is) _
 
-pub show_look-written-requires : goal.show_look-written-requires
-show_look-written-requires c =
+pub show_pixel_look-written-requires : goal.show_pixel_look-written-requires
+show_pixel_look-written-requires c =
     seen c.look.ensures c.in-Accepted.is c.in-Both.depths (sym c.of.ensures ∙ c.in-Both.is)
 
 pub returns-in-Refused : goal.returns-in-Refused
@@ -18,7 +19,7 @@ unfolding looked_as
 returns-in-Refused c =
     ends-refused looked_as (looks-is c.look.ensures) c.refuse-in-Refused.ensures (ap looked_as c.in-Refused.is)
 
-pub returns-after-show_pixel : goal.returns-after-show_pixel
+pub returns-in-Accepted : goal.returns-in-Accepted
 unfolding looked_as
-returns-after-show_pixel c =
-    ends-shown looked_as (looks-is c.look.ensures) c.if-show_pixel.written c.done_if.result c.done_if.ensures (ap looked_as c.in-Accepted.is)
+returns-in-Accepted c =
+    ends-shown looked_as (looks-is c.look.ensures) (is_ok c.show_pixel_look-written.result) c.done_if.result c.done_if.ensures (ap looked_as c.in-Accepted.is)

@@ -1,3 +1,4 @@
+use Rattle.std.specs.Prelude.{is_ok}
 use mathlib.Core.Path.{sym, ap, ◌∙◌}
 use Rattle.rules.specs.declared.SecondHalf.TheVariants.{Refused}
 use Rattle.rules.proofs.Answers.{gives-is}
@@ -26,4 +27,4 @@ returns-in-Refused c =
 pub returns-in-Accepted : goal.returns-in-Accepted
 unfolding given_as
 returns-in-Accepted c =
-    ends-shown given_as (gives-is c.second_half.ensures) c.show_look-written.result c.done_if.result c.done_if.ensures (ap given_as c.in-Accepted.is)
+    ends-shown given_as (gives-is c.second_half.ensures) (is_ok c.show_look-written.result) c.done_if.result c.done_if.ensures (ap given_as c.in-Accepted.is)

@@ -1,8 +1,8 @@
 use Rattle.explain.proofs.Ends.{ends_held, ends-beyond}
 use Rattle.explain.proofs.answers.explain_pixel.Goals as goal
 
-pub returns-in-Held : goal.returns-in-Held
-returns-in-Held c = ends_held _ c.explain_held.result c.in-Held.raw c.in-Held.is c.explain_held.ensures
+pub returns-in-Some : goal.returns-in-Some
+returns-in-Some c = ends_held _ c.explain_held.result c.in-Some.raw c.in-Some.is c.explain_held.ensures
 
-pub returns-in-Beyond : goal.returns-in-Beyond
-returns-in-Beyond c = ends-beyond _ c.refuse_beyond.result c.in-Beyond.is c.refuse_beyond.ensures
+pub returns-in-None : goal.returns-in-None
+returns-in-None c = ends-beyond _ c.refuse_beyond.result c.in-None.is c.refuse_beyond.ensures

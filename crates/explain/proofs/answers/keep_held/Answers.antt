@@ -1,3 +1,4 @@
+use Rattle.std.specs.Prelude.{is_ok}
 use mathlib.Core.Path.{ap}
 use Rattle.rules.proofs.Answers.{finds-is}
 use Rattle.explain.specs.Questions.{kept_as}
@@ -12,4 +13,4 @@ returns-in-Refused c =
 pub returns-in-Accepted : goal.returns-in-Accepted
 unfolding kept_as
 returns-in-Accepted c =
-    ends-shown kept_as (finds-is c.first_half.ensures) c.show_line-written.result c.done_if.result c.done_if.ensures (ap kept_as c.in-Accepted.is)
+    ends-shown kept_as (finds-is c.first_half.ensures) (is_ok c.show_line-written.result) c.done_if.result c.done_if.ensures (ap kept_as c.in-Accepted.is)

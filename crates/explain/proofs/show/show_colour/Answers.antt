@@ -13,17 +13,17 @@ show_row-requires c =
     let stands : let a = c.args in Each (λ s. RowAt a.table.now (3 * s.row)) (listed c.four_of-four.result) = listed-stand c.requires c.args.c c.four_of-four.result c.four_of-four.ensures in
     stands.0
 
-pub show_row-requires-then-show_row : goal.show_row-requires-then-show_row
-show_row-requires-then-show_row c =
+pub show_row-requires-2 : goal.show_row-requires-2
+show_row-requires-2 c =
     let stands : let a = c.args in Each (λ s. RowAt a.table.now (3 * s.row)) (listed c.four_of-four.result) = listed-stand c.requires c.args.c c.four_of-four.result c.four_of-four.ensures in
     stands.1.0
 
-pub show_row-requires-then-show_row-2 : goal.show_row-requires-then-show_row-2
-show_row-requires-then-show_row-2 c =
+pub show_row-requires-3 : goal.show_row-requires-3
+show_row-requires-3 c =
     let stands : let a = c.args in Each (λ s. RowAt a.table.now (3 * s.row)) (listed c.four_of-four.result) = listed-stand c.requires c.args.c c.four_of-four.result c.four_of-four.ensures in
     stands.1.1.0
 
-pub show_row-requires-then-show_row-3 : goal.show_row-requires-then-show_row-3
-show_row-requires-then-show_row-3 c =
+pub show_row-requires-4 : goal.show_row-requires-4
+show_row-requires-4 c =
     let stands : let a = c.args in Each (λ s. RowAt a.table.now (3 * s.row)) (listed c.four_of-four.result) = listed-stand c.requires c.args.c c.four_of-four.result c.four_of-four.ensures in
     stands.1.1.1.0
