@@ -7,32 +7,32 @@ use Rattle.rules.specs.Reading.{read, check}
 use Rattle.rules.specs.Answers.{read_number, read_description}
 use Rattle.rules.specs.Promises.{Checks}
 use Rattle.rules.specs.declared.Description.{Description}
-use Rattle.rules.specs.declared.Read.{Read}
-use Rattle.rules.specs.declared.Read.TheVariants.{Accepted, Refused}
 use Rattle.rules.proofs.Answers.{refused-not-0}
 use Rattle.rules.proofs.Reading.Bridge.{accepted-in-range}
 use Rattle.rules.proofs.Reporting.Lengths.{title-inside}
 use Rattle.reporting.specs.Telling.{Tellable}
 use Rattle.desk.specs.Outcomes.{outcome_of}
+use Rattle.std.specs.Prelude.{Err, Ok}
+use Rattle.rules.specs.Results.{Read}
 
 -- an answer with the number and the description of an accepted one is that one
-same-accepted : (a : Read) (d : Description) → 0 ≡ read_number a → d ≡ read_description a → a ≡ Accepted d
-same-accepted (Accepted e) d number described = ap Accepted (sym described)
-same-accepted (Refused r n) d number described = absurd (refused-not-0 r (sym number))
+same-accepted : (a : Read) (d : Description) → 0 ≡ read_number a → d ≡ read_description a → a ≡ Ok d
+same-accepted (Ok e) d number described = ap Ok (sym described)
+same-accepted (Err x) d number described = absurd (refused-not-0 x.reason (sym number))
 
 -- answers with one number end alike
 same_end : (a b : Read) → read_number a ≡ read_number b → outcome_of a ≡ outcome_of b
 unfolding outcome_of
-same_end (Accepted d) (Accepted e) number = refl
-same_end (Accepted d) (Refused r n) number = absurd (refused-not-0 r (sym number))
-same_end (Refused r n) (Accepted d) number = absurd (refused-not-0 r number)
-same_end (Refused r n) (Refused s m) number = refl
+same_end (Ok d) (Ok e) number = refl
+same_end (Ok d) (Err x) number = absurd (refused-not-0 x.reason (sym number))
+same_end (Err x) (Ok d) number = absurd (refused-not-0 x.reason number)
+same_end (Err x) (Err u) number = refl
 
 module _ (file : List ℕ) where
-  pub tellable : {d : Description} → Checks file (Accepted d) → Tellable file d
+  pub tellable : {d : Description} → Checks file (Ok d) → Tellable file d
   unfolding check
   tellable {d} c =
-      let accepted : read file place_limit ≡ Accepted d = same-accepted (read file place_limit) d c.number c.description in
+      let accepted : read file place_limit ≡ Ok d = same-accepted (read file place_limit) d c.number c.description in
       record {
         range = accepted-in-range file place_limit d accepted;
         title = record { within = title-inside file place_limit d accepted };

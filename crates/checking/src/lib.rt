@@ -15,7 +15,7 @@ use desk::{
     write_domains, write_refused, write_size, write_title,
 };
 use reading::check;
-use rules::{Description, Read};
+use rules::{Description, Refused};
 use std::io::{Result as Written, Write};
 pub use words::help;
 
@@ -31,17 +31,22 @@ fn write_accepted(out: &mut Output, file: &[u8], d: Description) -> Written<()>
     write_title(out, file, d.title)
 }
 
-fn write_answer(out: &mut Output, file: &[u8], answer: Read) -> Written<()>
+fn write_answer(out: &mut Output, file: &[u8], answer: Result<Description, Refused>) -> Written<()>
     requires { Checks file.now answer }
 {
     match answer {
-        Read::Accepted(d) => write_accepted(out, file, d),
-        Read::Refused { reason, line } => write_refused(out, file, reason, line),
+        Ok(d) => write_accepted(out, file, d),
+        Err(refused) => write_refused(out, file, refused),
     }
 }
 
 // The line of a file: its name and what checking it answers.
-fn write_line(out: &mut Output, path: &[u8], file: &[u8], answer: Read) -> Written<()>
+fn write_line(
+    out: &mut Output,
+    path: &[u8],
+    file: &[u8],
+    answer: Result<Description, Refused>,
+) -> Written<()>
     requires { Checks file.now answer }
 {
     out.write_all(path)?;

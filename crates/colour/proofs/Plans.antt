@@ -19,7 +19,6 @@ use Rattle.rules.specs.declared.Codes.{Codes}
 use Rattle.rules.specs.declared.Colour.{Colour}
 use Rattle.rules.specs.declared.Colour.TheVariants.{Red, Green, Blue}
 use Rattle.rules.specs.declared.Depths.{Depths}
-use Rattle.rules.specs.declared.DepthsFound.TheVariants.{Both}
 use Rattle.rules.specs.declared.Description.{Description}
 use Rattle.rules.specs.declared.Domain.{Domain}
 use Rattle.rules.specs.declared.Kind.{Kind}
@@ -40,6 +39,7 @@ use Rattle.colour.specs.declared.shares.Steps.{Steps}
 use Rattle.colour.proofs.Orders.{along-path}
 use Rattle.colour.proofs.Placing.{position_on, position-is, place_is}
 use Rattle.colour.proofs.Ratios.{ratio-known, crossed, all-fits}
+use Rattle.std.specs.Prelude.{Some}
 
 -- ---- a description that could have been read
 
@@ -71,7 +71,7 @@ times-m-most m z most h = NatL.mul-le-mul {n₂ = 65535} {m₂ = sample_limit} (
 -- ---- the plan of a call
 
 abbrev pub planned : (d : Description) {table : List ℤ} (bits : Bits) {depths : Depths} {plan : Plan} → could_be_read d table ≡ true
-    → depths_of bits ≡ Both depths → plan ≡ plan_of d depths → Planned plan table
+    → depths_of bits ≡ Some depths → plan ≡ plan_of d depths → Planned plan table
 planned d bits {depths = depths} could known is =
     let (raw, corrected) = depths-bounds bits depths known in
     record {

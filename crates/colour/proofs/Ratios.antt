@@ -12,12 +12,12 @@ use Rattle.rules.specs.Units.{of_bits, depths_of, raw_m, corrected_m}
 use Rattle.rules.specs.declared.Bits.{Bits}
 use Rattle.rules.specs.declared.Depth.{Depth}
 use Rattle.rules.specs.declared.Depths.{Depths}
-use Rattle.rules.specs.declared.DepthsFound.TheVariants.{Both}
 use Rattle.rules.proofs.KnownDepths.{four, of-sixteen}
 use Rattle.rules.proofs.Tests.{and_both}
 use Rattle.colour.specs.Limits.{bottom_limit, product_limit}
 use Rattle.colour.specs.Ratios.{ratio_of, InTerms}
 use Rattle.colour.specs.declared.ratio.Ratio.{Ratio}
+use Rattle.std.specs.Prelude.{Some}
 
 -- ---- the sixteen pairs
 
@@ -66,7 +66,7 @@ pub sixteen-ratios : (from_raw 8 255 ∷ from_raw 10 1023 ∷ from_raw 12 4095 �
 unfolding ratio_of euclid
 sixteen-ratios = refl
 
-module _ (bits : Bits) (depths : Depths) (known : depths_of bits ≡ Both depths) where
+module _ (bits : Bits) (depths : Depths) (known : depths_of bits ≡ Some depths) where
   pub ratio-known : InTerms (ratio_of depths) depths
   ratio-known =
       let (some, most) = and_both _ _ (of-sixteen small all_small bits depths known) in

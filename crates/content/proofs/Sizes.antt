@@ -10,7 +10,6 @@ use lib.Dec.{leb}
 use Rattle.rules.specs.Units.{greatest_n, in_range}
 use Rattle.rules.specs.Reading.Numerals.{digits, spell}
 use Rattle.rules.specs.Reading.Contents.{size_of}
-use Rattle.rules.specs.declared.Content.TheVariants.{Says, Wrong}
 use Rattle.rules.specs.declared.Item.TheVariants.{OfSize}
 use Rattle.rules.specs.declared.Kind.{Kind}
 use Rattle.rules.specs.declared.Kind.TheVariants.{OneD}
@@ -18,9 +17,10 @@ use Rattle.rules.specs.declared.Refusal.TheVariants.{ParametersWrong, SizeOutOfR
 use Rattle.rules.proofs.Sound.{greatest-most}
 use Rattle.rules.proofs.Tests.{and_both}
 use Rattle.numbers.specs.Cuts.{kept}
+use Rattle.std.specs.Prelude.{Err, Ok}
 
 module _ (k : Kind) (w : List ℕ) where
-  pub no-digits : digits w ≡ false → size_of k (w ∷ []) ≡ Wrong ParametersWrong
+  pub no-digits : digits w ≡ false → size_of k (w ∷ []) ≡ Err ParametersWrong
   unfolding size_of
   no-digits d = rw d
 
@@ -34,11 +34,11 @@ module _ (k : Kind) (w : List ℕ) where
         by (no h) =
             rw (lt-leb n (greatest_n k) (omega (arith, greatest-most k)), lt-leb (spell 0 w) (greatest_n k) (omega (arith, greatest-most k)), and-false, and-false)
 
-    pub out_of_range : in_range k n ≡ false → size_of k (w ∷ []) ≡ Wrong SizeOutOfRange
+    pub out_of_range : in_range k n ≡ false → size_of k (w ∷ []) ≡ Err SizeOutOfRange
     unfolding size_of
     out_of_range h = rw (d, sym same-range ∙ h)
 
-    pub in-range : in_range k n ≡ true → size_of k (w ∷ []) ≡ Says (OfSize (record { kind = k; n = n }))
+    pub in-range : in_range k n ≡ true → size_of k (w ∷ []) ≡ Ok (OfSize (record { kind = k; n = n }))
     unfolding size_of
     in-range h =
         let most = leb-true n (greatest_n k) (and_both (leb 2 n) (leb n (greatest_n k)) h).1 in

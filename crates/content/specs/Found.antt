@@ -2,10 +2,8 @@
 use Rattle.std.specs.Prelude.{ℕ, ◌≤◌, ◌≡◌, List, [], ◌∷◌, length, drop, Option, None, Some, Result, Ok, Err}
 use Rattle.rules.specs.Reading.Lines.{words_of}
 use Rattle.rules.specs.Reading.Numbers.{number_of}
-use Rattle.rules.specs.declared.Content.{Content}
-use Rattle.rules.specs.declared.Content.TheVariants.{Wrong}
-use Rattle.rules.specs.declared.Number.{Number}
 use Rattle.rules.specs.declared.Refusal.{Refusal}
+use Rattle.rules.specs.Results.{Content, Number}
 
 -- the first word from a place on is a number, and the other words are those from its end on
 pub record NumberFrom (places limit : ℕ) (l : List ℕ) (from : ℕ) (number : Number) (end : ℕ) : Type 0 where
@@ -22,4 +20,4 @@ NextFrom places limit l from (Some found) = NumberFrom places limit l from found
 -- what a value found says, or its refusal
 abbrev pub said : {A : Type 0} → Result A Refusal → (A → Content) → Content
 said (Ok a) next = next a
-said (Err r) next = Wrong r
+said (Err r) next = Err r

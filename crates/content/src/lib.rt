@@ -1,25 +1,23 @@
 // What a line says by itself, whatever stands before it: three numbers, a size, a title, by the line's form.
 #![tactic(auto)]
 
-ghost use Rattle.std.specs.Prelude.{◌≡◌, cond, ◌&&◌, [], ◌∷◌, ◌+◌, ◌≤◌, ℤ, length, drop};
-ghost use Rattle.std.proofs.Math.Option.{none, some};
+ghost use Rattle.std.specs.Prelude.{◌≡◌, cond, ◌&&◌, [], ◌∷◌, ◌+◌, ◌≤◌, ℤ, length, drop, None, Ok, Some};
 ghost use Rattle.numbers.specs.Cuts.{most_limit, most_places};
 ghost use Rattle.rules.specs.Reading.Lines.{line_limit, words_of};
 ghost use Rattle.rules.specs.Reading.Contents.{formed, three_of, valued, values, bounds_of, samples_on, size_of, parameters, content_by};
 ghost use Rattle.rules.specs.declared.Bounds.{Bounds};
-ghost use Rattle.rules.specs.declared.Content.{Content};
-ghost use Rattle.rules.specs.declared.Content.TheVariants.{Says};
 ghost use Rattle.rules.specs.declared.Form.TheVariants.{Keyed};
 ghost use Rattle.rules.specs.declared.Item.{Item};
 ghost use Rattle.rules.specs.declared.Item.TheVariants.{OfRow, OfSize};
 ghost use Rattle.text.specs.Answers.{told};
 ghost use Rattle.content.specs.Found.{NextFrom, said};
+ghost use Rattle.rules.specs.Results.{Content};
 
 use judge::in_range;
 use numbers::{is_digits, number_of, spelt};
 use rules::{
-    Bounds, Content, Form, Item, Keyword, Kind, Number, Refusal, Row, Size, TenMillionths,
-    Thousandths, Three,
+    Bounds, Form, Item, Keyword, Kind, NumberFault, Refusal, Row, Size, TenMillionths, Thousandths,
+    Three,
 };
 use text::{next_word, title_of};
 
@@ -38,15 +36,19 @@ struct Asked {
 }
 
 // Whether a word has the form of a number.
-fn is_formed(n: Number) -> bool
+fn is_formed(n: Result<i64, NumberFault>) -> bool
     ensures { result ≡ formed n }
 {
-    !matches!(n, Number::Malformed)
+    !matches!(n, Err(NumberFault::Malformed))
 }
 
 // Three numbers, where each has the form of one.
-fn three_formed(first: Number, second: Number, third: Number) -> Option<Three>
-    ensures { told result ≡ cond (formed first && (formed second && formed third)) (some (record { first = first; second = second; third = third })) none }
+fn three_formed(
+    first: Result<i64, NumberFault>,
+    second: Result<i64, NumberFault>,
+    third: Result<i64, NumberFault>,
+) -> Option<Three>
+    ensures { told result ≡ cond (formed first && (formed second && formed third)) (Some (record { first = first; second = second; third = third })) None }
 {
     if !(is_formed(first) && is_formed(second) && is_formed(third)) {
         return None;
@@ -59,7 +61,7 @@ fn three_formed(first: Number, second: Number, third: Number) -> Option<Three>
 }
 
 // The first word from a place on as a number, and where the word ends.
-fn next_number(l: &[u8], from: usize, asked: Asked) -> Option<(Number, usize)>
+fn next_number(l: &[u8], from: usize, asked: Asked) -> Option<(Result<i64, NumberFault>, usize)>
     requires { (length l.now ≤ line_limit) × (from ≤ length l.now) }
     ensures { NextFrom asked.places asked.limit l.now from result }
 {
@@ -93,14 +95,14 @@ struct Triple {
 }
 
 // The value of a number, or why it is refused.
-fn value_of(n: Number, asked: Asked) -> Result<i64, Refusal>
+fn value_of(n: Result<i64, NumberFault>, asked: Asked) -> Result<i64, Refusal>
     ensures { (next : ℤ → Content) → said result next ≡ valued asked.unformed asked.beyond asked.finer n next }
 {
     match n {
-        Number::Value(v) => Ok(v),
-        Number::Malformed => Err(asked.unformed),
-        Number::Beyond => Err(asked.beyond),
-        Number::Finer => Err(asked.finer),
+        Ok(v) => Ok(v),
+        Err(NumberFault::Malformed) => Err(asked.unformed),
+        Err(NumberFault::Beyond) => Err(asked.beyond),
+        Err(NumberFault::Finer) => Err(asked.finer),
     }
 }
 
@@ -121,7 +123,7 @@ fn values_on(l: &[u8], from: usize, asked: Asked) -> Result<Triple, Refusal>
 // The three bounds that stand from a place on.
 fn bounds_on(l: &[u8], from: usize) -> Result<Bounds, Refusal>
     requires { (length l.now ≤ line_limit) × (from ≤ length l.now) }
-    ensures { (side : Bounds → Item) → said result (λ b. Says (side b)) ≡ bounds_of side (words_of (drop from l.now)) }
+    ensures { (side : Bounds → Item) → said result (λ b. Ok (side b)) ≡ bounds_of side (words_of (drop from l.now)) }
 {
     let asked = Asked {
         places: Thousandths::PLACES,
@@ -141,7 +143,7 @@ fn bounds_on(l: &[u8], from: usize) -> Result<Bounds, Refusal>
 // The row of a data line.
 pub fn row_on(l: &[u8]) -> Result<Row, Refusal>
     requires { length l.now ≤ line_limit }
-    ensures { said result (λ r. Says (OfRow r)) ≡ samples_on (words_of l.now) }
+    ensures { said result (λ r. Ok (OfRow r)) ≡ samples_on (words_of l.now) }
 {
     let asked = Asked {
         places: TenMillionths::PLACES,
@@ -163,7 +165,7 @@ pub fn row_on(l: &[u8]) -> Result<Row, Refusal>
 // The size that a word gives: digits alone, in range. Digits of any length are kept at one past the greatest N of either kind, which is as far out of
 // range as they are.
 fn size_in(kind: Kind, w: &[u8]) -> Result<Size, Refusal>
-    ensures { said result (λ s. Says (OfSize s)) ≡ size_of kind (w.now ∷ []) }
+    ensures { said result (λ s. Ok (OfSize s)) ≡ size_of kind (w.now ∷ []) }
 {
     if !is_digits(w) {
         return Err(Refusal::ParametersWrong);
@@ -178,7 +180,7 @@ fn size_in(kind: Kind, w: &[u8]) -> Result<Size, Refusal>
 // The size that stands from a place on: one word.
 fn size_on(kind: Kind, l: &[u8], from: usize) -> Result<Size, Refusal>
     requires { from ≤ length l.now }
-    ensures { said result (λ s. Says (OfSize s)) ≡ size_of kind (words_of (drop from l.now)) }
+    ensures { said result (λ s. Ok (OfSize s)) ≡ size_of kind (words_of (drop from l.now)) }
 {
     let Some(word) = next_word(l, from) else {
         return Err(Refusal::ParametersWrong);
@@ -203,17 +205,17 @@ fn after_first_word(l: &[u8]) -> usize
 }
 
 // What an item says, or its refusal.
-fn content_of(found: Result<Item, Refusal>) -> Content
-    ensures { result ≡ said found Says }
+fn content_of(found: Result<Item, Refusal>) -> Result<Item, Refusal>
+    ensures { result ≡ said found Ok }
 {
     match found {
-        Ok(item) => Content::Says(item),
-        Err(reason) => Content::Wrong(reason),
+        Ok(item) => Ok(item),
+        Err(reason) => Err(reason),
     }
 }
 
 // What a keyword's line says; it begins at a place of the file.
-fn keyed_content(keyword: Keyword, l: &[u8], place: usize) -> Content
+fn keyed_content(keyword: Keyword, l: &[u8], place: usize) -> Result<Item, Refusal>
     requires { (length l.now ≤ line_limit) × (place + length l.now ≤ 18_446_744_073_709_551_615) }
     ensures { result ≡ content_by (Keyed keyword) place l.now }
 {
@@ -227,14 +229,14 @@ fn keyed_content(keyword: Keyword, l: &[u8], place: usize) -> Content
 }
 
 // What a line says by itself, by its form; it begins at a place of the file.
-pub fn content_by(form: Form, l: &[u8], place: usize) -> Content
+pub fn content_by(form: Form, l: &[u8], place: usize) -> Result<Item, Refusal>
     requires { (length l.now ≤ line_limit) × (place + length l.now ≤ 18_446_744_073_709_551_615) }
     ensures { result ≡ content_by form place l.now }
 {
     match form {
-        Form::Idle => Content::Says(Item::Nothing),
+        Form::Idle => Ok(Item::Nothing),
         Form::Keyed(keyword) => keyed_content(keyword, l, place),
         Form::Data => content_of(row_on(l).map(Item::OfRow)),
-        Form::Neither => Content::Wrong(Refusal::NeitherDataNorKeyword),
+        Form::Neither => Err(Refusal::NeitherDataNorKeyword),
     }
 }

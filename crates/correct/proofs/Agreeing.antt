@@ -7,7 +7,6 @@ use lib.ListN.{length, length-append}
 use Rattle.std.specs.Prelude.{Option, Some, None, Result, Ok, Err}
 use Rattle.rules.specs.Decimals.{decimal}
 use Rattle.rules.specs.Units.{depths_of, together}
-use Rattle.rules.specs.declared.DepthsFound.TheVariants.{Both}
 use Rattle.rules.proofs.Decimals.{decimal-within}
 use Rattle.rules.proofs.KnownDepths.{depth-bounds}
 use Rattle.ppm.specs.Header.{SizedFrame, most_size, most_maxval}
@@ -71,7 +70,7 @@ module _ {job : Job} (agrees : Agrees job) where
   raw-greatest = of_raw.greatest
 
   -- both depths are known
-  pub agrees-known : depths_of (bits_in job.scales) ≡ Both (depths_in job.scales)
+  pub agrees-known : depths_of (bits_in job.scales) ≡ Some (depths_in job.scales)
   agrees-known = ap₂ together of_raw.depth of_corrected.depth
 
   -- the header that is written is no longer than the longest

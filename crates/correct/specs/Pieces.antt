@@ -3,7 +3,6 @@ use Rattle.std.specs.Prelude.{ℕ, ◌+◌, ◌*◌, ◌/◌, ◌≤◌, ◌<◌
 use Rattle.rules.specs.Descriptions.{could_be_read}
 use Rattle.rules.specs.Picturing.{corrected}
 use Rattle.rules.specs.Units.{depths_of}
-use Rattle.rules.specs.declared.DepthsFound.TheVariants.{Both}
 use Rattle.rules.specs.declared.Description.{Description}
 use Rattle.colour.specs.Plans.{plan_of}
 use Rattle.colour.specs.declared.plan.Plan.{Plan}
@@ -25,7 +24,7 @@ pixel_bytes true = 6
 -- a table that was read, at known depths, and the plan of both
 pub record Readable (d : Description) (table : List ℤ) (s : Scales) (plan : Plan) : Type 0 where
   pub could : could_be_read d table ≡ true
-  pub known : depths_of (bits_in s) ≡ Both (depths_in s)
+  pub known : depths_of (bits_in s) ≡ Some (depths_in s)
   pub planned : plan ≡ plan_of d (depths_in s)
 
 -- room for the codes that n bytes are, raw and corrected, and for the bytes that those are

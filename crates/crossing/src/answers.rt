@@ -7,27 +7,27 @@ ghost use Rattle.crossing.specs.Layout.{Countable};
 
 use judge::count_rows;
 use rules::{
-    Codes, Description, Domain, FirstHalf, Inverse, Kind, Look, Picture, Read, SecondHalf, Share,
-    Shares, Thousandths, Title, Write,
+    Codes, Description, Domain, Inverted, Kind, Looked, NotInverted, Refusal, Refused, Share,
+    Shares, Thousandths, Title,
 };
 
 // ---- reading
 
-pub fn read_number(answer: Read) -> u32
+pub fn read_number(answer: Result<Description, Refused>) -> u32
     ensures { result ≡ read_number answer }
 {
     match answer {
-        Read::Accepted(_) => 0,
-        Read::Refused { reason, line: _ } => reason.number(),
+        Ok(_) => 0,
+        Err(Refused { reason, line: _ }) => reason.number(),
     }
 }
 
-pub fn read_line(answer: Read) -> u64
+pub fn read_line(answer: Result<Description, Refused>) -> u64
     ensures { result ≡ read_line answer }
 {
     match answer {
-        Read::Accepted(_) => 0,
-        Read::Refused { reason: _, line } => line as u64,
+        Ok(_) => 0,
+        Err(Refused { reason: _, line }) => line as u64,
     }
 }
 
@@ -53,40 +53,42 @@ fn no_description() -> Description
     }
 }
 
-pub fn description_of(answer: Read) -> Description
+pub fn description_of(answer: Result<Description, Refused>) -> Description
     ensures { result ≡ read_description answer }
 {
     match answer {
-        Read::Accepted(d) => d,
-        Read::Refused { reason: _, line: _ } => no_description(),
+        Ok(d) => d,
+        Err(Refused { reason: _, line: _ }) => no_description(),
     }
 }
 
 // Three for each row, none of a file that is refused.
-pub fn places_needed(answer: Read) -> u64
+pub fn places_needed(answer: Result<Description, Refused>) -> u64
     requires { Countable answer }
     ensures { result ≡ places_needed answer }
 {
     match answer {
-        Read::Accepted(d) => {
+        Ok(d) => {
             let kind = d.kind;
             3 * count_rows(kind, d.n) as u64
         }
-        Read::Refused { reason: _, line: _ } => 0,
+        Err(Refused { reason: _, line: _ }) => 0,
     }
 }
 
 // ---- look
 
-pub fn look_number(answer: Look) -> u32
+pub fn look_number(answer: Result<Looked, Refusal>) -> u32
     ensures { result ≡ look_number answer }
 {
     match answer {
-        Look::Accepted {
-            codes: _,
-            shares: _,
-        } => 0,
-        Look::Refused(reason) => reason.number(),
+        Ok(
+            Looked {
+                codes: _,
+                shares: _,
+            },
+        ) => 0,
+        Err(reason) => reason.number(),
     }
 }
 
@@ -100,12 +102,12 @@ fn no_codes() -> Codes
     }
 }
 
-pub fn look_codes(answer: Look) -> Codes
+pub fn look_codes(answer: Result<Looked, Refusal>) -> Codes
     ensures { codes_of result ≡ look_codes answer }
 {
     match answer {
-        Look::Accepted { codes, shares: _ } => codes,
-        Look::Refused(_) => no_codes(),
+        Ok(Looked { codes, shares: _ }) => codes,
+        Err(_) => no_codes(),
     }
 }
 
@@ -124,112 +126,114 @@ fn no_shares() -> Shares
     }
 }
 
-pub fn look_shares(answer: Look) -> Shares
+pub fn look_shares(answer: Result<Looked, Refusal>) -> Shares
     ensures { shares_of result ≡ look_shares answer }
 {
     match answer {
-        Look::Accepted { codes: _, shares } => shares,
-        Look::Refused(_) => no_shares(),
+        Ok(Looked { codes: _, shares }) => shares,
+        Err(_) => no_shares(),
     }
 }
 
 // ---- the halves of a look
 
-pub fn first_number(answer: FirstHalf) -> u32
+pub fn first_number(answer: Result<Shares, Refusal>) -> u32
     ensures { result ≡ first_number answer }
 {
     match answer {
-        FirstHalf::Accepted(_) => 0,
-        FirstHalf::Refused(reason) => reason.number(),
+        Ok(_) => 0,
+        Err(reason) => reason.number(),
     }
 }
 
-pub fn first_shares(answer: FirstHalf) -> Shares
+pub fn first_shares(answer: Result<Shares, Refusal>) -> Shares
     ensures { shares_of result ≡ first_shares answer }
 {
     match answer {
-        FirstHalf::Accepted(shares) => shares,
-        FirstHalf::Refused(_) => no_shares(),
+        Ok(shares) => shares,
+        Err(_) => no_shares(),
     }
 }
 
-pub fn second_number(answer: SecondHalf) -> u32
+pub fn second_number(answer: Result<Codes, Refusal>) -> u32
     ensures { result ≡ second_number answer }
 {
     match answer {
-        SecondHalf::Accepted(_) => 0,
-        SecondHalf::Refused(reason) => reason.number(),
+        Ok(_) => 0,
+        Err(reason) => reason.number(),
     }
 }
 
-pub fn second_codes(answer: SecondHalf) -> Codes
+pub fn second_codes(answer: Result<Codes, Refusal>) -> Codes
     ensures { codes_of result ≡ second_codes answer }
 {
     match answer {
-        SecondHalf::Accepted(codes) => codes,
-        SecondHalf::Refused(_) => no_codes(),
+        Ok(codes) => codes,
+        Err(_) => no_codes(),
     }
 }
 
 // ---- picture
 
-pub fn picture_number(answer: Picture) -> u32
+pub fn picture_number(answer: Result<(), Refusal>) -> u32
     ensures { result ≡ picture_number answer }
 {
     match answer {
-        Picture::Accepted => 0,
-        Picture::Refused(reason) => reason.number(),
+        Ok(()) => 0,
+        Err(reason) => reason.number(),
     }
 }
 
 // ---- writing
 
-pub fn write_number(answer: Write) -> u32
+pub fn write_number(answer: Result<usize, Refusal>) -> u32
     ensures { result ≡ write_number answer }
 {
     match answer {
-        Write::Accepted(_) => 0,
-        Write::Refused(reason) => reason.number(),
+        Ok(_) => 0,
+        Err(reason) => reason.number(),
     }
 }
 
-pub fn written_length(answer: Write) -> u64
+pub fn written_length(answer: Result<usize, Refusal>) -> u64
     ensures { result ≡ written_length answer }
 {
     match answer {
-        Write::Accepted(length) => length as u64,
-        Write::Refused(_) => 0,
+        Ok(length) => length as u64,
+        Err(_) => 0,
     }
 }
 
 // ---- the inverse
 
-pub fn inverse_number(answer: Inverse) -> u32
+pub fn inverse_number(answer: Result<Inverted, NotInverted>) -> u32
     ensures { result ≡ inverse_number answer }
 {
     match answer {
-        Inverse::Accepted { code: _, count: _ } => 0,
-        Inverse::Refused { reason, count: _ } => reason.number(),
+        Ok(Inverted { code: _, count: _ }) => 0,
+        Err(NotInverted { reason, count: _ }) => reason.number(),
     }
 }
 
-pub fn inverse_code(answer: Inverse) -> u16
+pub fn inverse_code(answer: Result<Inverted, NotInverted>) -> u16
     ensures { result ≡ inverse_code answer }
 {
     match answer {
-        Inverse::Accepted { code, count: _ } => code,
-        Inverse::Refused {
-            reason: _,
-            count: _,
-        } => 0,
+        Ok(Inverted { code, count: _ }) => code,
+        Err(
+            NotInverted {
+                reason: _,
+                count: _,
+            },
+        ) => 0,
     }
 }
 
-pub fn inverse_count(answer: Inverse) -> u64
+pub fn inverse_count(answer: Result<Inverted, NotInverted>) -> u64
     ensures { result ≡ inverse_count answer }
 {
     match answer {
-        Inverse::Accepted { code: _, count } => count,
-        Inverse::Refused { reason: _, count } => count,
+        Ok(Inverted { code: _, count }) => count,
+        Err(NotInverted { reason: _, count }) => count,
     }
 }

@@ -9,8 +9,6 @@ use lib.Seq.{length-take-le}
 use Rattle.rules.specs.Answers.{read_number, read_description}
 use Rattle.rules.specs.Promises.{Reads}
 use Rattle.rules.specs.declared.Description.{Description}
-use Rattle.rules.specs.declared.Read.{Read}
-use Rattle.rules.specs.declared.Read.TheVariants as R
 use Rattle.rules.proofs.Answers.{refused-not-0}
 use Rattle.desk.specs.Loads.{Fetches, Loads, LoadsAll, LoadsOf, loaded_as}
 use Rattle.std.specs.Prelude.{Result, Ok, Err}
@@ -19,6 +17,7 @@ use Rattle.desk.specs.declared.loading.NoTable.{NoTable}
 use Rattle.desk.specs.declared.loading.NoTable.TheVariants.{Unread}
 use Rattle.desk.specs.declared.loading.Unfetched.{Unfetched}
 use Rattle.desk.specs.declared.loading.Unfetched.TheVariants.{Failed}
+use Rattle.rules.specs.Results.{Read}
 
 -- ---- what was fetched, by its case
 
@@ -42,20 +41,20 @@ table_of d n = Ok (record { description = d; bytes = n })
 -- the count of bytes is one of the space's, and the table is what reading them gives
 pub record OfFirstBytes (file : List ℕ) (old : List ℤ) (d : Description) (n : ℕ) (table : List ℤ) : Type 0 where
   pub within : n ≤ length file
-  pub reads : Reads (take n file) old (R.Accepted d) table
+  pub reads : Reads (take n file) old (Ok d) table
 
 module _ {file : List ℕ} {old table : List ℤ} {d : Description} {n : ℕ} where
   of_bytes : (k : ℕ) → k ≤ length file → LoadsAll (take k file) old (table_of d n) table → OfFirstBytes file old d n table
   of_bytes k h l = by l.answer l.reads l.loaded
     where
       by : (a : Read) → Reads (take k file) old a table → table_of d n ≡ loaded_as (length (take k file)) a → OfFirstBytes file old d n table
-      by (R.Accepted e) reads loaded =
+      by (Ok e) reads loaded =
           let one : ◌≡◌ {A = Table} (record { description = d; bytes = n }) (record { description = e; bytes = length (take k file) }) = cc in
           let same : d ≡ e = ap (λ x. x.description) one in
           let count : n ≡ length (take k file) = ap (λ x. x.bytes) one in
           let all : n ≡ k = count ∙ length-take-le k file h in
-          record { within = omega arith; reads = subst (λ m. Reads (take m file) old (R.Accepted d) table) (sym all) (subst (λ x. Reads (take k file) old (R.Accepted x) table) (sym same) reads) }
-      by (R.Refused r line) reads loaded = let z : ◌≡◌ {A = ℕ} 0 1 = cc in absurd (omega arith)
+          record { within = omega arith; reads = subst (λ m. Reads (take m file) old (Ok d) table) (sym all) (subst (λ x. Reads (take k file) old (Ok x) table) (sym same) reads) }
+      by (Err x) reads loaded = let z : ◌≡◌ {A = ℕ} 0 1 = cc in absurd (omega arith)
 
   pub first-bytes : Loads file old (table_of d n) table → OfFirstBytes file old d n table
   first-bytes l = by l.fetched l.fetches l.loads
@@ -68,10 +67,10 @@ module _ {file : List ℕ} {old table : List ℤ} {d : Description} {n : ℕ} wh
 
 -- what is loaded goes by the number and the description of reading's answer
 same-loaded : (n : ℕ) (a b : Read) → read_number a ≡ read_number b → read_description a ≡ read_description b → loaded_as n a ≡ loaded_as n b
-same-loaded n (R.Accepted d) (R.Accepted e) number described = ap (λ x. table_of x n) described
-same-loaded n (R.Accepted d) (R.Refused r line) number described = absurd (refused-not-0 r (sym number))
-same-loaded n (R.Refused r line) (R.Accepted d) number described = absurd (refused-not-0 r number)
-same-loaded n (R.Refused r line) (R.Refused s other) number described = refl
+same-loaded n (Ok d) (Ok e) number described = ap (λ x. table_of x n) described
+same-loaded n (Ok d) (Err x) number described = absurd (refused-not-0 x.reason (sym number))
+same-loaded n (Err x) (Ok d) number described = absurd (refused-not-0 x.reason number)
+same-loaded n (Err x) (Err u) number described = refl
 
 module _ {file : List ℕ} {old table table' : List ℤ} {r s : Result Table NoTable} where
   -- of a file that is all there

@@ -1,14 +1,13 @@
 -- What is fetched from an input, and what loading a table leaves in the lent memory.
 use Rattle.std.specs.Prelude.{ℕ, ◌≤◌, ◌≡◌, List, ℤ, length, take, Option, Result, Ok, Err, IfOk, IfSome}
 use Rattle.rules.specs.Promises.{Reads}
-use Rattle.rules.specs.declared.Read.{Read}
-use Rattle.rules.specs.declared.Read.TheVariants as R
 use Rattle.desk.specs.declared.loading.Filled.{Filled}
 use Rattle.desk.specs.declared.loading.Filled.TheVariants as F
 use Rattle.desk.specs.declared.loading.Table.{Table}
 use Rattle.desk.specs.declared.loading.NoTable.{NoTable}
 use Rattle.desk.specs.declared.loading.NoTable.TheVariants.{Refused, Unread}
 use Rattle.desk.specs.declared.loading.Unfetched.{Unfetched}
+use Rattle.rules.specs.Results.{Read}
 
 -- a count of bytes is one of the space's
 abbrev pub Fills : List ℕ → Filled → Type 0
@@ -24,8 +23,8 @@ Fetches file r = IfOk r (λ n. n ≤ length file)
 
 -- what reading a file of n bytes answers, as it is loaded
 abbrev pub loaded_as : ℕ → Read → Result Table NoTable
-loaded_as n (R.Accepted d) = Ok (record { description = d; bytes = n })
-loaded_as n (R.Refused r line) = Err Refused
+loaded_as n (Ok d) = Ok (record { description = d; bytes = n })
+loaded_as n (Err x) = Err Refused
 
 -- the whole file was read into the table, and r is what reading answers
 pub record LoadsAll (file : List ℕ) (old : List ℤ) (r : Result Table NoTable) (table : List ℤ) : Type 0 where

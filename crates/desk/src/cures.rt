@@ -5,7 +5,7 @@ use crate::host::Output;
 use judge::{count_rows, in_range};
 use numbers::number_of;
 use pointing::{line_spot, point_at, rows_in, size_in};
-use rules::{Form, Keyword, Number, Refusal, Size, TenMillionths};
+use rules::{Form, Keyword, NumberFault, Refusal, Size, TenMillionths};
 use std::io;
 use std::io::Write;
 use text::form_of;
@@ -135,8 +135,8 @@ fn is_number(w: &[u8]) -> bool {
         return false;
     }
     match number_of(w, TenMillionths::PLACES, TenMillionths::GREATEST as u64) {
-        Number::Malformed => false,
-        Number::Value(_) | Number::Beyond | Number::Finer => true,
+        Err(NumberFault::Malformed) => false,
+        Ok(_) | Err(NumberFault::Beyond) | Err(NumberFault::Finer) => true,
     }
 }
 

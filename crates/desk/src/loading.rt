@@ -7,7 +7,7 @@ use crate::host::{Host, Input};
 use crate::names::name_at;
 use crate::refusals::write_refused;
 use reading::read;
-use rules::{Description, Refusal};
+use rules::{Description, Refused};
 use std::io::{Read, Result as Written, Write};
 
 // The description of a table that was loaded, and how many bytes its file has.
@@ -110,18 +110,12 @@ pub fn fetch_file(host: &mut Host, path: &[u8], file: &mut [u8]) -> Result<usize
 }
 
 // As `explain: a.cube: refused 5 on line 3: keyword repeated: "TITLE" is there a second time`.
-fn write_refused_file(
-    host: &mut Host,
-    path: &[u8],
-    file: &[u8],
-    reason: Refusal,
-    line: usize,
-) -> Written<()> {
+fn write_refused_file(host: &mut Host, path: &[u8], file: &[u8], refused: Refused) -> Written<()> {
     let program = host.program;
     write!(host.err, "{program}: ")?;
     host.err.write_all(path)?;
     write!(host.err, ": ")?;
-    write_refused(&mut host.err, file, reason, line)?;
+    write_refused(&mut host.err, file, refused)?;
     writeln!(host.err)
 }
 
@@ -135,12 +129,12 @@ fn load_bytes(
     ensures { LoadsAll file.now table.old result table.new }
 {
     match read(file, table) {
-        rules::Read::Accepted(description) => Ok(Table {
+        Ok(description) => Ok(Table {
             description,
             bytes: file.len(),
         }),
-        rules::Read::Refused { reason, line } => {
-            let _ = write_refused_file(host, path, file, reason, line);
+        Err(refused) => {
+            let _ = write_refused_file(host, path, file, refused);
             Err(NoTable::Refused)
         }
     }

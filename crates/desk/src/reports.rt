@@ -7,16 +7,16 @@ use crate::failures::say_error;
 use crate::host::{Host, Input};
 use crate::outcomes::Outcome;
 use reporting::{answer_to, put_answer};
-use rules::Read;
+use rules::{Description, Refused};
 use std::io::Write;
 
 // Accepted is done.
-pub fn outcome_of(answer: Read) -> Outcome
+pub fn outcome_of(answer: Result<Description, Refused>) -> Outcome
     ensures { result ≡ outcome_of answer }
 {
     match answer {
-        Read::Accepted(_) => Outcome::Done,
-        Read::Refused { reason: _, line: _ } => Outcome::Refused,
+        Ok(_) => Outcome::Done,
+        Err(Refused { reason: _, line: _ }) => Outcome::Refused,
     }
 }
 

@@ -4,12 +4,8 @@ use Rattle.rules.specs.Answers.{look_number, look_codes, look_rows, look_weights
 use Rattle.rules.specs.Boundary.{look_in, first_in, second_in, write_in, bytes_in, inverse_in}
 use Rattle.rules.specs.declared.Bits.{Bits}
 use Rattle.rules.specs.declared.Codes.{Codes}
-use Rattle.rules.specs.declared.FirstHalf.{FirstHalf}
-use Rattle.rules.specs.declared.Inverse.{Inverse}
-use Rattle.rules.specs.declared.Look.{Look}
-use Rattle.rules.specs.declared.SecondHalf.{SecondHalf}
 use Rattle.rules.specs.declared.Shares.{Shares}
-use Rattle.rules.specs.declared.Write.{Write}
+use Rattle.rules.specs.Results.{FirstHalf, Inverse, Look, SecondHalf, Write}
 
 -- r answers as look of eleven numbers does
 pub record LooksIn (eleven table : List ℤ) (bits : Bits) (pixel : Codes) (r : Look) : Type 0 where

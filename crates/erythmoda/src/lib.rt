@@ -15,9 +15,7 @@ use halves::{first_half, look, second_half};
 use inverse::inverse;
 use picture::picture;
 use reading::{check, read};
-use rules::{
-    Aim, Bits, Codes, FirstHalf, Inverse, Look, Picture, Refusal, SecondHalf, Shares, Write,
-};
+use rules::{Aim, Bits, Codes, Inverted, Looked, NotInverted, Refusal, Shares};
 use writing::write;
 
 // Reads a file into the lent table; the description as eleven numbers, and the line of a refusal.
@@ -52,11 +50,16 @@ pub fn erythmoda_check(
 }
 
 // Look, of a description as eleven numbers.
-fn look_in(description: &[i64; 11], table: &[i64], bits: Bits, pixel: Codes) -> Look
+fn look_in(
+    description: &[i64; 11],
+    table: &[i64],
+    bits: Bits,
+    pixel: Codes,
+) -> Result<Looked, Refusal>
     ensures { LooksIn description.now table.now bits pixel result }
 {
     let Some(d) = described(description) else {
-        return Look::Refused(Refusal::CouldNotBeRead);
+        return Err(Refusal::CouldNotBeRead);
     };
     look(d, table, bits, pixel)
 }
@@ -84,11 +87,16 @@ pub fn erythmoda_look(
 }
 
 // The first half, of a description as eleven numbers.
-fn rows_in(description: &[i64; 11], table: &[i64], raw: u32, pixel: Codes) -> FirstHalf
+fn rows_in(
+    description: &[i64; 11],
+    table: &[i64],
+    raw: u32,
+    pixel: Codes,
+) -> Result<Shares, Refusal>
     ensures { FindsRowsIn description.now table.now raw pixel result }
 {
     let Some(d) = described(description) else {
-        return FirstHalf::Refused(Refusal::CouldNotBeRead);
+        return Err(Refusal::CouldNotBeRead);
     };
     first_half(d, table, raw, pixel)
 }
@@ -112,11 +120,16 @@ pub fn erythmoda_rows(
 }
 
 // The second half, of a description as eleven numbers.
-fn codes_in(description: &[i64; 11], table: &[i64], bits: Bits, shares: Shares) -> SecondHalf
+fn codes_in(
+    description: &[i64; 11],
+    table: &[i64],
+    bits: Bits,
+    shares: Shares,
+) -> Result<Codes, Refusal>
     ensures { GivesCodesIn description.now table.now bits shares result }
 {
     let Some(d) = described(description) else {
-        return SecondHalf::Refused(Refusal::CouldNotBeRead);
+        return Err(Refusal::CouldNotBeRead);
     };
     second_half(d, table, bits, shares)
 }
@@ -151,18 +164,23 @@ pub fn erythmoda_picture(
     ensures { PicturesC description.now table.now (bits_of raw corrected) src.now dst.old result dst.new }
 {
     let Some(d) = described(description) else {
-        return picture_number(Picture::Refused(Refusal::CouldNotBeRead));
+        return picture_number(Err(Refusal::CouldNotBeRead));
     };
     let bits = Bits { raw, corrected };
     picture_number(picture(d, table, bits, src, dst))
 }
 
 // Write, of a description as eleven numbers.
-fn write_in(description: &[i64; 11], table: &[i64], title: &[u8], out: &mut [u8]) -> Write
+fn write_in(
+    description: &[i64; 11],
+    table: &[i64],
+    title: &[u8],
+    out: &mut [u8],
+) -> Result<usize, Refusal>
     ensures { WritesIn description.now table.now title.now out.old result out.new }
 {
     let Some(d) = described(description) else {
-        return Write::Refused(Refusal::CouldNotBeRead);
+        return Err(Refusal::CouldNotBeRead);
     };
     write(d, table, title, out)
 }
@@ -190,13 +208,13 @@ fn inverse_in(
     colour: u32,
     wanted: u16,
     tolerance: u32,
-) -> Inverse
+) -> Result<Inverted, NotInverted>
     ensures { InvertsIn description.now table.now bits colour wanted tolerance result }
 {
-    let none = Inverse::Refused {
+    let none = Err(NotInverted {
         reason: Refusal::CouldNotBeRead,
         count: 0,
-    };
+    });
     let Some(d) = described(description) else {
         return none;
     };

@@ -18,10 +18,7 @@ use Rattle.rules.specs.declared.Bits.{Bits}
 use Rattle.rules.specs.declared.Codes.{Codes}
 use Rattle.rules.specs.declared.Colour.{Colour}
 use Rattle.rules.specs.declared.Depths.{Depths}
-use Rattle.rules.specs.declared.DepthsFound.TheVariants.{Both}
 use Rattle.rules.specs.declared.Description.{Description}
-use Rattle.rules.specs.declared.Look.{Look}
-use Rattle.rules.specs.declared.Look.TheVariants.{Accepted}
 use Rattle.rules.specs.declared.Share.{Share}
 use Rattle.rules.specs.declared.Shares.{Shares}
 use Rattle.rules.proofs.Looking.Checks.{look-passed}
@@ -29,6 +26,8 @@ use Rattle.rules.proofs.Looking.Demand3.{looks-right}
 use Rattle.rules.proofs.KnownDepths.{depths-bounds}
 use Rattle.explain.specs.Spans.{carries, widened, span_of, shown_span, Seen}
 use Rattle.explain.specs.declared.rows.Span.{Span}
+use Rattle.std.specs.Prelude.{Some}
+use Rattle.rules.specs.Results.{Look, look_of}
 
 -- ---- of any shares: what carries weight has its code within the span
 
@@ -83,7 +82,7 @@ right-same : {d : Description} {table : List ℤ} {depths depths' : Depths} {pix
 right-same p q s r = rw (← p, ← q, ← s) r
 
 module _ {d : Description} {table : List ℤ} {bits : Bits} {pixel : Codes} {r : Look} (l : Looks d table bits pixel r)
-    {codes : Codes} {shares : Shares} (e : r ≡ Accepted codes shares) (depths : Depths) (known : depths_of bits ≡ Both depths) where
+    {codes : Codes} {shares : Shares} (e : r ≡ look_of codes shares) (depths : Depths) (known : depths_of bits ≡ Some depths) where
   all : AllRight d table bits pixel r
   all = looks-right l (ap look_number e)
 

@@ -9,7 +9,6 @@ use Rattle.rules.specs.Looking.{second_half, look}
 use Rattle.rules.specs.Units.{depths_of}
 use Rattle.rules.specs.declared.Bits.{Bits}
 use Rattle.rules.specs.declared.Codes.{Codes}
-use Rattle.rules.specs.declared.DepthsFound.TheVariants.{NotBoth}
 use Rattle.rules.specs.declared.Description.{Description}
 use Rattle.rules.specs.declared.Shares.{Shares}
 use Rattle.rules.proofs.Looking.Checks.{look-20, look-24}
@@ -37,7 +36,7 @@ either : (b : Bool) {o : Outcome} → (b ≡ true → o ≡ Refused) → (b ≡ 
 either true could could-not = could refl
 either false could could-not = could-not refl
 
-module _ (d : Description) (table : List ℤ) (bits : Bits) {r : Outcome} (refused : r ≡ Refused) (unknown : depths_of bits ≡ NotBoth) where
+module _ (d : Description) (table : List ℤ) (bits : Bits) {r : Outcome} (refused : r ≡ Refused) (unknown : depths_of bits ≡ None) where
   pub look-unknown : (raw : Codes) → EndsAs (looked_as (look d table bits raw)) r
   unfolding looked_as
   look-unknown raw =

@@ -15,14 +15,9 @@ use Rattle.rules.specs.declared.Bits.{Bits}
 use Rattle.rules.specs.declared.Codes.{Codes}
 use Rattle.rules.specs.declared.Colour.{Colour}
 use Rattle.rules.specs.declared.Depths.{Depths}
-use Rattle.rules.specs.declared.DepthsFound.TheVariants.{Both}
 use Rattle.rules.specs.declared.Description.{Description}
-use Rattle.rules.specs.declared.Judged.{Judged}
-use Rattle.rules.specs.declared.Judged.TheVariants.{Fit, RowBeyond, NegativeWeight, WrongSum}
 use Rattle.rules.specs.declared.Refusal.{Refusal}
 use Rattle.rules.specs.declared.Refusal.TheVariants.{RowsOrWeightsWrong}
-use Rattle.rules.specs.declared.SecondHalf.{SecondHalf}
-use Rattle.rules.specs.declared.SecondHalf.TheVariants.{Accepted, Refused}
 use Rattle.rules.specs.declared.Shares.{Shares}
 use Rattle.rules.proofs.Answers.{refused-not-0, gives-is}
 use Rattle.rules.proofs.KnownDepths.{depths-bounds}
@@ -32,10 +27,13 @@ use Rattle.rules.proofs.Looking.Judging.{all-weighable}
 use Rattle.colour.specs.Plans.{Readable}
 use Rattle.explain.specs.Spans.{shown_span, Seen}
 use Rattle.explain.proofs.Between.{right-between}
+use Rattle.std.specs.Prelude.{Err, Ok, Some}
+use Rattle.rules.specs.declared.Misfit.TheVariants.{NegativeWeight, RowBeyond, WrongSum}
+use Rattle.rules.specs.Results.{Judged, SecondHalf}
 
 module _ {d : Description} {table : List ℤ} {bits : Bits} {shares : Shares} {r : SecondHalf} (g : GivesCodes d table bits shares r) where
   -- 26 comes after 24
-  pub refused-readable : r ≡ Refused RowsOrWeightsWrong → Readable d
+  pub refused-readable : r ≡ Err RowsOrWeightsWrong → Readable d
   unfolding refusal_number
   refused-readable e = by (could_be_read d table) refl
     where
@@ -45,8 +43,8 @@ module _ {d : Description} {table : List ℤ} {bits : Bits} {shares : Shares} {r
 
   -- ---- accepted
 
-  module _ {codes : Codes} (e : r ≡ Accepted codes) (depths : Depths) (known : depths_of bits ≡ Both depths) where
-    not-refused : {reason : Refusal} → second_half d table bits shares ≡ Refused reason → ⊥
+  module _ {codes : Codes} (e : r ≡ Ok codes) (depths : Depths) (known : depths_of bits ≡ Some depths) where
+    not-refused : {reason : Refusal} → second_half d table bits shares ≡ Err reason → ⊥
     not-refused {reason} h = refused-not-0 reason (sym (ap second_number h) ∙ ap second_number (sym (gives-is g) ∙ e))
 
     could : could_be_read d table ≡ true
@@ -56,17 +54,17 @@ module _ {d : Description} {table : List ℤ} {bits : Bits} {shares : Shares} {r
         by true e = e
         by false e = absurd (not-refused (second-24 d table bits shares e))
 
-    fit : judged_all d (raw_m depths) shares ≡ Fit
+    fit : judged_all d (raw_m depths) shares ≡ (Ok tt)
     fit = by (judged_all d (raw_m depths) shares) refl
       where
-        only : {j : Judged} → judged_all d (raw_m depths) shares ≡ j → (j ≡ Fit → ⊥) → ⊥
+        only : {j : Judged} → judged_all d (raw_m depths) shares ≡ j → (j ≡ (Ok tt) → ⊥) → ⊥
         only h not-fit = not-refused (second-26 d table bits shares depths could known (λ f. not-fit (sym h ∙ f)))
 
-        by : (j : Judged) → judged_all d (raw_m depths) shares ≡ j → judged_all d (raw_m depths) shares ≡ Fit
-        by Fit h = h
-        by RowBeyond h = absurd (only h (λ f. let z : ◌≡◌ {A = ℕ} 0 1 = cc in omega arith))
-        by NegativeWeight h = absurd (only h (λ f. let z : ◌≡◌ {A = ℕ} 0 1 = cc in omega arith))
-        by WrongSum h = absurd (only h (λ f. let z : ◌≡◌ {A = ℕ} 0 1 = cc in omega arith))
+        by : (j : Judged) → judged_all d (raw_m depths) shares ≡ j → judged_all d (raw_m depths) shares ≡ (Ok tt)
+        by (Ok _) h = h
+        by (Err RowBeyond) h = absurd (only h (λ f. let z : ◌≡◌ {A = ℕ} 0 1 = cc in omega arith))
+        by (Err NegativeWeight) h = absurd (only h (λ f. let z : ◌≡◌ {A = ℕ} 0 1 = cc in omega arith))
+        by (Err WrongSum) h = absurd (only h (λ f. let z : ◌≡◌ {A = ℕ} 0 1 = cc in omega arith))
 
     codes_same : codes ≡ codes_by d table depths shares
     codes_same = let q = sym e ∙ gives-is g ∙ second-0 d table bits shares depths could known fit in cc

@@ -1,18 +1,13 @@
 -- What a question asks about, and how its answer ends.
-use Rattle.std.specs.Prelude.{ℕ, cond, ◌&&◌, List, leb, ℤ, Option, Some, None}
+use Rattle.std.specs.Prelude.{ℕ, cond, ◌&&◌, List, leb, ℤ, Option, Some, None, Err, Ok}
 use Rattle.rules.specs.Looking.{first_half, second_half, look}
 use Rattle.rules.specs.declared.Codes.{Codes}
 use Rattle.rules.specs.declared.Description.{Description}
-use Rattle.rules.specs.declared.FirstHalf.{FirstHalf}
-use Rattle.rules.specs.declared.FirstHalf.TheVariants as F
-use Rattle.rules.specs.declared.Look.{Look}
-use Rattle.rules.specs.declared.Look.TheVariants as L
-use Rattle.rules.specs.declared.SecondHalf.{SecondHalf}
-use Rattle.rules.specs.declared.SecondHalf.TheVariants as S
 use Rattle.desk.specs.declared.outcomes.Outcome.{Outcome}
 use Rattle.desk.specs.declared.outcomes.Outcome.TheVariants.{Done, Refused}
 use Rattle.explain.specs.declared.question.Question.{Question}
 use Rattle.explain.specs.declared.question.Question.TheVariants as Q
+use Rattle.rules.specs.Results.{FirstHalf, Look, SecondHalf}
 
 -- three codes that 16 bits hold, or one that they do not
 abbrev pub pixel_asked : ℕ → ℕ → ℕ → Option Codes
@@ -21,17 +16,17 @@ pixel_asked red green blue =
 
 -- a look that is accepted is done with
 unfoldable pub looked_as : Look → Outcome
-looked_as (L.Accepted codes shares) = Done
-looked_as (L.Refused r) = Refused
+looked_as (Ok x) = Done
+looked_as (Err r) = Refused
 
 -- and so is a half of one: the first, whose rows and weights are kept, and the second, to which they are given
 unfoldable pub kept_as : FirstHalf → Outcome
-kept_as (F.Accepted shares) = Done
-kept_as (F.Refused r) = Refused
+kept_as (Ok shares) = Done
+kept_as (Err r) = Refused
 
 unfoldable pub given_as : SecondHalf → Outcome
-given_as (S.Accepted codes) = Done
-given_as (S.Refused r) = Refused
+given_as (Ok codes) = Done
+given_as (Err r) = Refused
 
 -- a code that no depth has is refused
 unfoldable pub held_as : (Codes → Outcome) → Option Codes → Outcome

@@ -12,10 +12,7 @@ use crate::question::Question;
 use crate::show::{show_look, show_pixel_look};
 use desk::{Host, Outcome, refuse};
 use halves::{first_half, judged_shares, look, second_half};
-use rules::{
-    Bits, Codes, Depths, DepthsFound, Description, FirstHalf, Judged, Look, Refusal, SecondHalf,
-    Shares,
-};
+use rules::{Bits, Codes, Depths, Description, Looked, Misfit, Refusal, Shares};
 use std::io;
 use std::io::Write;
 
@@ -31,8 +28,8 @@ fn refuse_beyond(host: &mut Host, bits: Bits) -> Outcome
     ensures { result ≡ Refused }
 {
     match Depths::of(bits) {
-        DepthsFound::Both(_) => refuse(host, Refusal::CodeTooGreat),
-        DepthsFound::NotBoth => refuse(host, Refusal::DepthUnknown),
+        Some(_) => refuse(host, Refusal::CodeTooGreat),
+        None => refuse(host, Refusal::DepthUnknown),
     }
 }
 
@@ -49,12 +46,12 @@ fn explain_held(
 ) -> Outcome
     ensures { EndsAs (looked_as (look d table.now bits raw)) result }
 {
-    let DepthsFound::Both(depths) = Depths::of(bits) else {
+    let Some(depths) = Depths::of(bits) else {
         return refuse(host, Refusal::DepthUnknown);
     };
     match look(d, table, bits, raw) {
-        Look::Refused(reason) => refuse(host, reason),
-        Look::Accepted { codes, shares } => {
+        Err(reason) => refuse(host, reason),
+        Ok(Looked { codes, shares }) => {
             let out = &mut host.out;
             let written = show_pixel_look(
                 out, raw, bits.raw, d, file, table, depths, codes, shares,
@@ -87,8 +84,8 @@ fn keep_held(host: &mut Host, d: Description, table: &[i64], raw: u32, codes: Co
     ensures { EndsAs (kept_as (first_half d table.now raw codes)) result }
 {
     match first_half(d, table, raw, codes) {
-        FirstHalf::Refused(reason) => refuse(host, reason),
-        FirstHalf::Accepted(shares) => {
+        Err(reason) => refuse(host, reason),
+        Ok(shares) => {
             let written = show_line(&mut host.out, raw, shares);
             done_if(host, written)
         }
@@ -124,12 +121,15 @@ fn say_more(host: &mut Host, words: &str) {
 }
 
 // Which of the conditions of 26 was found first.
-fn say_found(host: &mut Host, found: Judged) {
+fn say_found(host: &mut Host, found: Result<(), Misfit>) {
     match found {
-        Judged::Fit => {}
-        Judged::RowBeyond => say_more(host, "a row number is not below the table's count of rows"),
-        Judged::NegativeWeight => say_more(host, "a weight is negative"),
-        Judged::WrongSum => say_more(host, "weights do not add up to their denominator"),
+        Ok(()) => {}
+        Err(Misfit::RowBeyond) => say_more(
+            host,
+            "a row number is not below the table's count of rows",
+        ),
+        Err(Misfit::NegativeWeight) => say_more(host, "a weight is negative"),
+        Err(Misfit::WrongSum) => say_more(host, "weights do not add up to their denominator"),
     }
 }
 
@@ -164,12 +164,12 @@ fn explain_line(
 ) -> Outcome
     ensures { EndsAs (given_as (second_half d table.now bits shares)) result }
 {
-    let DepthsFound::Both(depths) = Depths::of(bits) else {
+    let Some(depths) = Depths::of(bits) else {
         return refuse(host, Refusal::DepthUnknown);
     };
     match second_half(d, table, bits, shares) {
-        SecondHalf::Refused(reason) => refuse_line(host, d, depths, shares, reason),
-        SecondHalf::Accepted(codes) => {
+        Err(reason) => refuse_line(host, d, depths, shares, reason),
+        Ok(codes) => {
             let written = show_look(&mut host.out, d, file, table, depths, codes, shares);
             done_if(host, written)
         }

@@ -19,12 +19,14 @@ pub fn line_of(file: &[u8], row: usize) -> usize
 {
     let mut c = Cursor::new();
     let mut rows_before = row;
-    while let Some(Line {
-        start,
-        end,
-        line,
-        next,
-    }) = c.next_line(file)
+    while let Some(
+        Line {
+            start,
+            end,
+            line,
+            next,
+        },
+    ) = c.next_line(file)
     {
         if is_data(&file[start..end]) {
             if rows_before == 0 {

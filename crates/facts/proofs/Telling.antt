@@ -15,12 +15,7 @@ use Rattle.rules.specs.declared.Bits.{Bits}
 use Rattle.rules.specs.declared.Codes.{Codes}
 use Rattle.rules.specs.declared.Colour.{Colour}
 use Rattle.rules.specs.declared.Depths.{Depths}
-use Rattle.rules.specs.declared.DepthsFound.TheVariants.{Both}
 use Rattle.rules.specs.declared.Description.{Description}
-use Rattle.rules.specs.declared.FirstHalf.{FirstHalf}
-use Rattle.rules.specs.declared.FirstHalf.TheVariants as F
-use Rattle.rules.specs.declared.Look.{Look}
-use Rattle.rules.specs.declared.Look.TheVariants as L
 use Rattle.rules.specs.declared.Shares.{Shares}
 use Rattle.rules.proofs.Answers.{looks-is, refused-not-0}
 use Rattle.rules.proofs.Looking.Checks.{look-passed, look-joins}
@@ -35,6 +30,8 @@ use Rattle.exact.proofs.Settling.{settled-code}
 use Rattle.facts.specs.Told.{Told, FactsOf, Parted}
 use Rattle.facts.specs.declared.parts.Parts.{Parts}
 use Rattle.facts.specs.declared.told.Facts.{Facts}
+use Rattle.std.specs.Prelude.{Err, Ok, Some}
+use Rattle.rules.specs.Results.{FirstHalf, Look, look_of}
 
 -- ---- the parts of a ratio are one only
 
@@ -84,7 +81,7 @@ module _ (d : Description) (table : List ℤ) (depths : Depths) (shares : Shares
 -- ---- of a look that is accepted
 
 module _ {d : Description} {table : List ℤ} {bits : Bits} {pixel : Codes} {r : Look} (l : Looks d table bits pixel r)
-    {codes : Codes} {shares : Shares} (e : r ≡ L.Accepted codes shares) (depths : Depths) (known : depths_of bits ≡ Both depths) where
+    {codes : Codes} {shares : Shares} (e : r ≡ look_of codes shares) (depths : Depths) (known : depths_of bits ≡ Some depths) where
   -- its codes are those of its rows and weights
   pub look-codes : codes ≡ codes_by d table depths shares
   look-codes = by (rows_with d (raw_m depths) pixel) (sym (look-joins d table bits pixel depths could known) ∙ sym (looks-is l) ∙ e)
@@ -92,12 +89,12 @@ module _ {d : Description} {table : List ℤ} {bits : Bits} {pixel : Codes} {r :
       could : could_be_read d table ≡ true
       could = (look-passed d table bits pixel (sym l.number ∙ ap look_number e)).could
 
-      by : (f : FirstHalf) → look_by d table depths f ≡ L.Accepted codes shares → codes ≡ codes_by d table depths shares
-      by (F.Accepted found) q =
+      by : (f : FirstHalf) → look_by d table depths f ≡ look_of codes shares → codes ≡ codes_by d table depths shares
+      by (Ok found) q =
           let same : found ≡ shares = cc in
           let made : codes_by d table depths found ≡ codes = cc in
           sym made ∙ ap (codes_by d table depths) same
-      by (F.Refused reason) q = absurd (refused-not-0 reason (ap look_number q))
+      by (Err reason) q = absurd (refused-not-0 reason (ap look_number q))
 
   pub look-told : (c : Colour) {given : ℕ} {f : Facts} → FactsOf d table depths shares c given f
       → pos (code_in codes c) ≡ settled_code (corrected_m depths) f.value f.settled

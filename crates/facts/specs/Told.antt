@@ -1,12 +1,11 @@
 -- What is told of the exact value of one colour of a pixel.
-use Rattle.std.specs.Prelude.{ℕ, ◌+◌, ◌*◌, ◌≤◌, ◌<◌, ◌≡◌, List, ℤ, nat_abs}
+use Rattle.std.specs.Prelude.{ℕ, ◌+◌, ◌*◌, ◌≤◌, ◌<◌, ◌≡◌, List, ℤ, nat_abs, Some}
 use Rattle.rules.specs.Units.{depths_of, raw_m, corrected_m}
 use Rattle.rules.specs.Looking.Interpolation.{den_of, total, denominator}
 use Rattle.rules.specs.Looking.{used}
 use Rattle.rules.specs.declared.Bits.{Bits}
 use Rattle.rules.specs.declared.Colour.{Colour}
 use Rattle.rules.specs.declared.Depths.{Depths}
-use Rattle.rules.specs.declared.DepthsFound.TheVariants.{Both}
 use Rattle.rules.specs.declared.Description.{Description}
 use Rattle.rules.specs.declared.Shares.{Shares}
 use Rattle.exact.specs.Values.{LowestTerms, CodeValue, settled_as, Apart}
@@ -16,7 +15,7 @@ use Rattle.facts.specs.declared.told.Facts.{Facts}
 
 -- depths that are found by their bits
 abbrev pub KnownDepths : Depths → Type 0
-KnownDepths depths = (bits : Bits) × (depths_of bits ≡ Both depths)
+KnownDepths depths = (bits : Bits) × (depths_of bits ≡ Some depths)
 
 -- of an exact value s / e, for codes up to m, and of a code
 pub record Told (s : ℤ) (e m code : ℕ) (f : Facts) : Type 0 where

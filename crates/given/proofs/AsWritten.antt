@@ -19,14 +19,9 @@ use Rattle.rules.specs.declared.Bits.{Bits}
 use Rattle.rules.specs.declared.Colour.{Colour}
 use Rattle.rules.specs.declared.Colour.TheVariants.{Red, Green, Blue}
 use Rattle.rules.specs.declared.Depths.{Depths}
-use Rattle.rules.specs.declared.DepthsFound.{DepthsFound}
-use Rattle.rules.specs.declared.DepthsFound.TheVariants.{Both, NotBoth}
 use Rattle.rules.specs.declared.Description.{Description}
-use Rattle.rules.specs.declared.Judged.{Judged}
-use Rattle.rules.specs.declared.Judged.TheVariants.{Fit, RowBeyond, NegativeWeight, WrongSum}
 use Rattle.rules.specs.declared.Kind.{Kind}
 use Rattle.rules.specs.declared.Kind.TheVariants.{OneD, ThreeD}
-use Rattle.rules.specs.declared.SecondHalf.TheVariants.{Accepted}
 use Rattle.rules.specs.declared.Share.{Share}
 use Rattle.rules.specs.declared.Shares.{Shares}
 use Rattle.rules.proofs.KnownDepths.{depths-bounds}
@@ -39,9 +34,11 @@ use Rattle.colour.specs.Limits.{den_limit}
 use Rattle.colour.proofs.Plans.{den-most}
 use Rattle.colour.proofs.Weighing.{carried-is}
 use Rattle.desk.specs.Arguments.{argument_of}
-use Rattle.std.specs.Prelude.{Some, Ok, Err}
+use Rattle.std.specs.Prelude.{Some, Ok, Err, None, Option}
 use Rattle.desk.specs.declared.arguments.Unfit.TheVariants.{TooGreat}
 use Rattle.given.specs.Written.{value_by, weight_by, weight_read, share_read, shares_read}
+use Rattle.rules.specs.declared.Misfit.TheVariants.{NegativeWeight, RowBeyond, WrongSum}
+use Rattle.rules.specs.Results.{Judged}
 
 -- ---- one number
 
@@ -128,16 +125,16 @@ module _ (count : ℕ) where
       unfolding sum_judged
       sum_same ss w r =
           rw (carried-is ss w, carried-is (map share_read ss) r)
-          (ap (λ t. cond t Fit WrongSum) (same-both (carried (map share_read ss)) (carried ss) den (λ e. omega (arith, carried-read ss)) (λ e. omega (arith, carried-read ss))))
+          (ap (λ t. cond t (Ok tt) (Err WrongSum)) (same-both (carried (map share_read ss)) (carried ss) den (λ e. omega (arith, carried-read ss)) (λ e. omega (arith, carried-read ss))))
 
       pub judged-same : (ss : List Share) → judged count den (map share_read ss) ≡ judged count den ss
       judged-same ss = ap (λ j. j and_then sum_judged den (map share_read ss)) (each_same ss) ∙ by (each_judged count ss) refl
         where
           by : (j : Judged) → each_judged count ss ≡ j → j and_then sum_judged den (map share_read ss) ≡ j and_then sum_judged den ss
-          by Fit e = sum_same ss (fit-not-negative count ss e) (fit-not-negative count (map share_read ss) (each_same ss ∙ e))
-          by RowBeyond e = refl
-          by NegativeWeight e = refl
-          by WrongSum e = refl
+          by (Ok _) e = sum_same ss (fit-not-negative count ss e) (fit-not-negative count (map share_read ss) (each_same ss ∙ e))
+          by (Err RowBeyond) e = refl
+          by (Err NegativeWeight) e = refl
+          by (Err WrongSum) e = refl
 
       -- what may be weighed is read as it is
       pub weighable-kept : (ss : List Share) → Weighable count den ss → map share_read ss ≡ ss
@@ -174,28 +171,28 @@ module _ (d : Description) (table : List ℤ) (could : could_be_read d table ≡
   unfolding judged_all
   found-as-written = ap₂ (λ a b. a and_then b) (for-same Red) (ap₂ (λ a b. a and_then b) (for-same Green) (for-same Blue))
 
-  used-kept : judged_all d m shares ≡ Fit → (c : Colour) → used d.kind c (shares_read shares) ≡ used d.kind c shares
+  used-kept : judged_all d m shares ≡ (Ok tt) → (c : Colour) → used d.kind c (shares_read shares) ≡ used d.kind c shares
   used-kept fit c =
       used-read d.kind c shares ∙ weighable-kept (rows d) few-rows (den_of d m c) (low-den c) (used d.kind c shares) (all-weighable d m shares fit c)
 
 -- and the answer is the same
 module _ (d : Description) (table : List ℤ) (bits : Bits) (shares : Shares) where
-  module _ (could : could_be_read d table ≡ true) (depths : Depths) (known : depths_of bits ≡ Both depths) where
+  module _ (could : could_be_read d table ≡ true) (depths : Depths) (known : depths_of bits ≡ Some depths) where
     most : raw_m depths ≤ 65535
     most = (depths-bounds bits depths known).0.1
 
     found : judged_all d (raw_m depths) (shares_read shares) ≡ judged_all d (raw_m depths) shares
     found = found-as-written d table could shares (raw_m depths) most
 
-    codes-kept : judged_all d (raw_m depths) shares ≡ Fit → codes_by d table depths (shares_read shares) ≡ codes_by d table depths shares
+    codes-kept : judged_all d (raw_m depths) shares ≡ (Ok tt) → codes_by d table depths (shares_read shares) ≡ codes_by d table depths shares
     codes-kept fit = let kept = used-kept d table could shares (raw_m depths) most fit in rw (kept Red, kept Green, kept Blue)
 
     second-found : second_half d table bits (shares_read shares) ≡ second_half d table bits shares
     second-found = by (is-fit (judged_all d (raw_m depths) shares))
       where
-        by : Dec (judged_all d (raw_m depths) shares ≡ Fit) → second_half d table bits (shares_read shares) ≡ second_half d table bits shares
+        by : Dec (judged_all d (raw_m depths) shares ≡ (Ok tt)) → second_half d table bits (shares_read shares) ≡ second_half d table bits shares
         by (yes e) =
-            second-0 d table bits (shares_read shares) depths could known (found ∙ e) ∙ ap Accepted (codes-kept e)
+            second-0 d table bits (shares_read shares) depths could known (found ∙ e) ∙ ap Ok (codes-kept e)
             ∙ sym (second-0 d table bits shares depths could known e)
         by (no w) =
             second-26 d table bits (shares_read shares) depths could known (λ f. w (sym found ∙ f)) ∙ sym (second-26 d table bits shares depths could known w)
@@ -203,9 +200,9 @@ module _ (d : Description) (table : List ℤ) (bits : Bits) (shares : Shares) wh
   pub second-as-written : second_half d table bits (shares_read shares) ≡ second_half d table bits shares
   second-as-written = by-24 (could_be_read d table) refl
     where
-      by-20 : (x : DepthsFound) → could_be_read d table ≡ true → depths_of bits ≡ x → second_half d table bits (shares_read shares) ≡ second_half d table bits shares
-      by-20 NotBoth e u = second-20 d table bits (shares_read shares) e u ∙ sym (second-20 d table bits shares e u)
-      by-20 (Both depths) e k = second-found e depths k
+      by-20 : (x : Option Depths) → could_be_read d table ≡ true → depths_of bits ≡ x → second_half d table bits (shares_read shares) ≡ second_half d table bits shares
+      by-20 None e u = second-20 d table bits (shares_read shares) e u ∙ sym (second-20 d table bits shares e u)
+      by-20 (Some depths) e k = second-found e depths k
 
       by-24 : (b : Bool) → could_be_read d table ≡ b → second_half d table bits (shares_read shares) ≡ second_half d table bits shares
       by-24 true e = by-20 (depths_of bits) e refl

@@ -15,8 +15,6 @@ use Rattle.rules.specs.Looking.Interpolation.{share}
 use Rattle.rules.specs.Looking.Judging.{◌and_then◌, share_judged, each_judged, sum_of, sum_judged, judged}
 use Rattle.rules.specs.declared.Colour.{Colour}
 use Rattle.rules.specs.declared.Colour.TheVariants.{Red, Green, Blue}
-use Rattle.rules.specs.declared.Judged.{Judged}
-use Rattle.rules.specs.declared.Judged.TheVariants.{Fit, RowBeyond, NegativeWeight, WrongSum}
 use Rattle.rules.specs.declared.Kind.{Kind}
 use Rattle.rules.specs.declared.Kind.TheVariants.{OneD, ThreeD}
 use Rattle.rules.specs.declared.Share.{Share}
@@ -26,6 +24,9 @@ use Rattle.colour.specs.Adding.{carried}
 use Rattle.colour.proofs.Weighing.{carried-is}
 use Rattle.halves.specs.Listed.{listed, four_of, NotNegative}
 use Rattle.halves.specs.declared.fours.Four.{Four}
+use Rattle.std.specs.Prelude.{Err, Ok}
+use Rattle.rules.specs.declared.Misfit.TheVariants.{NegativeWeight, RowBeyond, WrongSum}
+use Rattle.rules.specs.Results.{Judged}
 
 -- ---- by the kind and the colour
 
@@ -35,17 +36,17 @@ four-for shares e f = ap₂ (λ a b. four_of a b shares) (sym e) (sym f)
 -- ---- one row and weight
 
 module _ (count : ℕ) (s : Share) where
-  pub row-beyond : count ≤ s.row → share_judged count s ≡ RowBeyond
+  pub row-beyond : count ≤ s.row → share_judged count s ≡ (Err RowBeyond)
   unfolding share_judged
   row-beyond h = rw (le-ltb s.row count h)
 
   -- the row is below the count
-  pub row_below : s.row < count → (t : Bool) → lt_z s.weight (pos 0) ≡ t → share_judged count s ≡ cond t NegativeWeight Fit
+  pub row_below : s.row < count → (t : Bool) → lt_z s.weight (pos 0) ≡ t → share_judged count s ≡ cond t (Err NegativeWeight) (Ok tt)
   unfolding share_judged
   row_below h t e = rw (lt-ltb s.row count h, e)
 
 -- one that carries nothing is fit, and changes no judgement
-idle-fit : (count : ℕ) → 0 < count → share_judged count (share 0 0) ≡ Fit
+idle-fit : (count : ℕ) → 0 < count → share_judged count (share 0 0) ≡ (Ok tt)
 idle-fit count h = row_below count (share 0 0) h false refl
 
 pub four_same : (count den : ℕ) → 0 < count → (k : Kind) (c : Colour) (shares : Shares) → judged count den (four_of k c shares) ≡ judged count den (used k c shares)
@@ -56,11 +57,11 @@ four_same count den h OneD Green shares = rw (idle-fit count h)
 four_same count den h OneD Blue shares = rw (idle-fit count h)
 
 -- the last needs nothing after it
-pub last_then : (j : Judged) → j and_then Fit ≡ j
-last_then Fit = refl
-last_then RowBeyond = refl
-last_then NegativeWeight = refl
-last_then WrongSum = refl
+pub last_then : (j : Judged) → j and_then (Ok tt) ≡ j
+last_then (Ok _) = refl
+last_then (Err RowBeyond) = refl
+last_then (Err NegativeWeight) = refl
+last_then (Err WrongSum) = refl
 
 -- ---- the sum
 
@@ -81,13 +82,13 @@ module _ (den : ℕ) (f : Four) (h : NotNegative (listed f)) where
   carried-parts : carried (listed f) ≡ den → parts ≡ den
   carried-parts e = omega (arith, e, size f.first h.0, size f.second h.1.0, size f.third h.1.1.0, size f.fourth h.1.1.1.0)
 
-  pub sum-fit : parts ≡ den → sum_judged den (listed f) ≡ Fit
+  pub sum-fit : parts ≡ den → sum_judged den (listed f) ≡ (Ok tt)
   unfolding sum_judged
-  sum-fit e = ap (λ t. cond t Fit WrongSum) (number_same (sum_of (listed f)) (pos den) (carried-is (listed f) h ∙ ap pos (parts-carried e)))
+  sum-fit e = ap (λ t. cond t (Ok tt) (Err WrongSum)) (number_same (sum_of (listed f)) (pos den) (carried-is (listed f) h ∙ ap pos (parts-carried e)))
 
-  pub sum-wrong : (parts ≡ den → ⊥) → sum_judged den (listed f) ≡ WrongSum
+  pub sum-wrong : (parts ≡ den → ⊥) → sum_judged den (listed f) ≡ (Err WrongSum)
   unfolding sum_judged
-  sum-wrong n = ap (λ t. cond t Fit WrongSum) (false-by (same (sum_of (listed f)) (pos den)) (λ t. n (carried-parts (adds (true-by _ t)))))
+  sum-wrong n = ap (λ t. cond t (Ok tt) (Err WrongSum)) (false-by (same (sum_of (listed f)) (pos den)) (λ t. n (carried-parts (adds (true-by _ t)))))
     where
       adds : same (sum_of (listed f)) (pos den) ≡ true → carried (listed f) ≡ den
       adds e = ap nat_abs (sym (carried-is (listed f) h) ∙ same_number (sum_of (listed f)) (pos den) e)

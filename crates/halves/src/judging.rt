@@ -10,37 +10,37 @@ ghost use Rattle.halves.specs.Listed.{listed, NotNegative};
 use crate::fours::{Four, four_of};
 use colour::den_of;
 use judge::count_rows;
-use rules::{Colour, Description, Judged, Share, Shares};
+use rules::{Colour, Description, Misfit, Share, Shares};
 use whole::Whole;
 
 // ---- what is found of them
 
 // What is found first.
-fn and_then(found: Judged, next: Judged) -> Judged
+fn and_then(found: Result<(), Misfit>, next: Result<(), Misfit>) -> Result<(), Misfit>
     ensures { result ≡ found and_then next }
 {
     match found {
-        Judged::Fit => next,
-        Judged::RowBeyond => Judged::RowBeyond,
-        Judged::NegativeWeight => Judged::NegativeWeight,
-        Judged::WrongSum => Judged::WrongSum,
+        Ok(()) => next,
+        Err(Misfit::RowBeyond) => Err(Misfit::RowBeyond),
+        Err(Misfit::NegativeWeight) => Err(Misfit::NegativeWeight),
+        Err(Misfit::WrongSum) => Err(Misfit::WrongSum),
     }
 }
 
 // A row below the count, and a weight that is not negative.
-fn share_judged(count: usize, share: Share) -> Judged
+fn share_judged(count: usize, share: Share) -> Result<(), Misfit>
     ensures { result ≡ share_judged count share }
 {
     if share.row >= count {
-        return Judged::RowBeyond;
+        return Err(Misfit::RowBeyond);
     }
     if share.weight < 0 {
-        return Judged::NegativeWeight;
+        return Err(Misfit::NegativeWeight);
     }
-    Judged::Fit
+    Ok(())
 }
 
-fn each_judged(count: usize, four: Four) -> Judged
+fn each_judged(count: usize, four: Four) -> Result<(), Misfit>
     ensures { result ≡ each_judged count (listed four) }
 {
     let first = share_judged(count, four.first);
@@ -60,7 +60,7 @@ fn part_of(den: u64, share: Share) -> u64
 }
 
 // Weights that are not negative add up to D.
-fn sum_judged(den: u64, four: Four) -> Judged
+fn sum_judged(den: u64, four: Four) -> Result<(), Misfit>
     requires den_le_den_limit { den ≤ den_limit }
     requires not_negative { NotNegative (listed four) }
     ensures { result ≡ sum_judged den (listed four) }
@@ -70,27 +70,27 @@ fn sum_judged(den: u64, four: Four) -> Judged
     let third = part_of(den, four.third);
     let fourth = part_of(den, four.fourth);
     if first + second + third + fourth == den {
-        return Judged::Fit;
+        return Ok(());
     }
-    Judged::WrongSum
+    Err(Misfit::WrongSum)
 }
 
-fn four_judged(count: usize, den: u64, four: Four) -> Judged
+fn four_judged(count: usize, den: u64, four: Four) -> Result<(), Misfit>
     requires { den ≤ den_limit }
     ensures { result ≡ judged count den (listed four) }
 {
     let found = each_judged(count, four);
     match found {
-        Judged::Fit => sum_judged(den, four),
-        Judged::RowBeyond => Judged::RowBeyond,
-        Judged::NegativeWeight => Judged::NegativeWeight,
-        Judged::WrongSum => Judged::WrongSum,
+        Ok(()) => sum_judged(den, four),
+        Err(Misfit::RowBeyond) => Err(Misfit::RowBeyond),
+        Err(Misfit::NegativeWeight) => Err(Misfit::NegativeWeight),
+        Err(Misfit::WrongSum) => Err(Misfit::WrongSum),
     }
 }
 
 // ---- of a colour, and of all three
 
-fn colour_judged(d: Description, m: u16, shares: Shares, c: Colour) -> Judged
+fn colour_judged(d: Description, m: u16, shares: Shares, c: Colour) -> Result<(), Misfit>
     requires { Readable d }
     ensures { result ≡ judged_for d m shares c }
 {
@@ -100,7 +100,7 @@ fn colour_judged(d: Description, m: u16, shares: Shares, c: Colour) -> Judged
 }
 
 // What six rows and weights are found to be, where raw codes have the greatest code m.
-pub fn judged_shares(d: Description, m: u16, shares: Shares) -> Judged
+pub fn judged_shares(d: Description, m: u16, shares: Shares) -> Result<(), Misfit>
     requires { Readable d }
     ensures { result ≡ judged_all d m shares }
 {

@@ -11,10 +11,7 @@ use colour::{Plan, codes_of, plan_of, shares_of};
 pub use fours::{Four, four_of};
 use judge::could_be_read;
 pub use judging::judged_shares;
-use rules::{
-    Bits, Codes, Depth, DepthFound, Depths, DepthsFound, Description, FirstHalf, Judged, Look,
-    Refusal, SecondHalf, Shares,
-};
+use rules::{Bits, Codes, Depth, Depths, Description, Looked, Refusal, Shares};
 
 mod fours;
 mod judging;
@@ -28,25 +25,25 @@ fn codes_within(m: u16, pixel: Codes) -> bool
 }
 
 // The first half past 24 and 20, by a plan and its raw M: 23, or the rows and weights.
-fn rows_by(plan: Plan, m: u16, pixel: Codes) -> FirstHalf
+fn rows_by(plan: Plan, m: u16, pixel: Codes) -> Result<Shares, Refusal>
     requires { Made plan }
     ensures { (table : List ℤ) (p : Planned plan table) → m ≡ raw_m p.depths → result ≡ rows_with p.d m pixel }
 {
     if !codes_within(m, pixel) {
-        return FirstHalf::Refused(Refusal::CodeTooGreat);
+        return Err(Refusal::CodeTooGreat);
     }
-    FirstHalf::Accepted(shares_of(plan, pixel))
+    Ok(shares_of(plan, pixel))
 }
 
 // From a pixel to rows and weights. The checks run 24, 20, 23. No corrected depth plays a part, so the plan is made with the raw one for both.
-pub fn first_half(d: Description, table: &[i64], raw: u32, pixel: Codes) -> FirstHalf
+pub fn first_half(d: Description, table: &[i64], raw: u32, pixel: Codes) -> Result<Shares, Refusal>
     ensures { FindsRows d table.now raw pixel result }
 {
     if !could_be_read(d, table) {
-        return FirstHalf::Refused(Refusal::CouldNotBeRead);
+        return Err(Refusal::CouldNotBeRead);
     }
-    let DepthFound::Known(depth) = Depth::of(raw) else {
-        return FirstHalf::Refused(Refusal::DepthUnknown);
+    let Some(depth) = Depth::of(raw) else {
+        return Err(Refusal::DepthUnknown);
     };
     let depths = Depths {
         raw: depth,
@@ -56,39 +53,44 @@ pub fn first_half(d: Description, table: &[i64], raw: u32, pixel: Codes) -> Firs
 }
 
 // From rows and weights to codes. The checks run 24, 20 for the raw depth and then for the corrected one, 26.
-pub fn second_half(d: Description, table: &[i64], bits: Bits, shares: Shares) -> SecondHalf
+pub fn second_half(
+    d: Description,
+    table: &[i64],
+    bits: Bits,
+    shares: Shares,
+) -> Result<Codes, Refusal>
     ensures { GivesCodes d table.now bits shares result }
 {
     if !could_be_read(d, table) {
-        return SecondHalf::Refused(Refusal::CouldNotBeRead);
+        return Err(Refusal::CouldNotBeRead);
     }
-    let DepthsFound::Both(depths) = Depths::of(bits) else {
-        return SecondHalf::Refused(Refusal::DepthUnknown);
+    let Some(depths) = Depths::of(bits) else {
+        return Err(Refusal::DepthUnknown);
     };
     let raw = depths.raw;
-    let Judged::Fit = judged_shares(d, raw.greatest(), shares) else {
-        return SecondHalf::Refused(Refusal::RowsOrWeightsWrong);
-    };
-    SecondHalf::Accepted(codes_of(plan_of(d, depths), table, shares))
+    if judged_shares(d, raw.greatest(), shares).is_err() {
+        return Err(Refusal::RowsOrWeightsWrong);
+    }
+    Ok(codes_of(plan_of(d, depths), table, shares))
 }
 
 // Both, with one plan; the table is judged once. The checks run 24, 20 for the raw depth and then for the corrected one, 23.
-pub fn look(d: Description, table: &[i64], bits: Bits, pixel: Codes) -> Look
+pub fn look(d: Description, table: &[i64], bits: Bits, pixel: Codes) -> Result<Looked, Refusal>
     ensures { Looks d table.now bits pixel result }
 {
     if !could_be_read(d, table) {
-        return Look::Refused(Refusal::CouldNotBeRead);
+        return Err(Refusal::CouldNotBeRead);
     }
-    let DepthsFound::Both(depths) = Depths::of(bits) else {
-        return Look::Refused(Refusal::DepthUnknown);
+    let Some(depths) = Depths::of(bits) else {
+        return Err(Refusal::DepthUnknown);
     };
     let raw = depths.raw;
     let plan = plan_of(d, depths);
     match rows_by(plan, raw.greatest(), pixel) {
-        FirstHalf::Refused(reason) => Look::Refused(reason),
-        FirstHalf::Accepted(shares) => {
+        Err(reason) => Err(reason),
+        Ok(shares) => {
             let codes = codes_of(plan, table, shares);
-            Look::Accepted { codes, shares }
+            Ok(Looked { codes, shares })
         }
     }
 }

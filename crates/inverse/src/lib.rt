@@ -5,12 +5,13 @@
 ghost use Rattle.std.specs.Prelude.{◌≡◌, ◌<◌};
 ghost use Rattle.rules.specs.Inverting.{apart, off, try_next, search, if_within};
 ghost use Rattle.rules.specs.Promises.{Inverts};
+ghost use Rattle.rules.specs.Results.{no_inverse};
 ghost use Rattle.colour.specs.Lines.{Lined};
 ghost use Rattle.inverse.specs.Finding.{corrected_by, search_of, found_by, OffSo};
 
 use colour::{Line, line_code, line_of, plan_of};
 use judge::could_be_read;
-use rules::{Aim, Bits, Depths, DepthsFound, Description, Inverse, Kind, Refusal};
+use rules::{Aim, Bits, Depths, Description, Inverted, Kind, NotInverted, Refusal};
 
 // What a search has come to.
 #[derive(Clone, Copy)]
@@ -85,31 +86,31 @@ fn search(line: Line, table: &[i64], wanted: u16, m: u16) -> Found
 }
 
 // A search by its nearest code: within the tolerance, or 28 with the count.
-fn answer(found: Found, tolerance: u32) -> Inverse
+fn answer(found: Found, tolerance: u32) -> Result<Inverted, NotInverted>
     ensures { result ≡ if_within found.off tolerance (search_of found) }
 {
     let count = found.tries;
     if tolerance < found.off as u32 {
-        return Inverse::Refused {
+        return Err(NotInverted {
             reason: Refusal::NoneWithinTolerance,
             count,
-        };
+        });
     }
-    Inverse::Accepted {
+    Ok(Inverted {
         code: found.nearest,
         count,
-    }
+    })
 }
 
 // A refusal before any code was tried.
-fn untried(reason: Refusal) -> Inverse
-    ensures { result ≡ Inverse.Refused reason 0 }
+fn untried(reason: Refusal) -> Result<Inverted, NotInverted>
+    ensures { result ≡ no_inverse reason 0 }
 {
-    Inverse::Refused { reason, count: 0 }
+    Err(NotInverted { reason, count: 0 })
 }
 
 // The checks run 24, which a 3D table is too, 20 for the raw depth and then for the corrected one, 23 for the wanted code, 28.
-pub fn inverse(d: Description, table: &[i64], bits: Bits, aim: Aim) -> Inverse
+pub fn inverse(d: Description, table: &[i64], bits: Bits, aim: Aim) -> Result<Inverted, NotInverted>
     ensures { Inverts d table.now bits aim result }
 {
     let kind = d.kind;
@@ -119,7 +120,7 @@ pub fn inverse(d: Description, table: &[i64], bits: Bits, aim: Aim) -> Inverse
     if !could_be_read(d, table) {
         return untried(Refusal::CouldNotBeRead);
     }
-    let DepthsFound::Both(depths) = Depths::of(bits) else {
+    let Some(depths) = Depths::of(bits) else {
         return untried(Refusal::DepthUnknown);
     };
     let raw = depths.raw;

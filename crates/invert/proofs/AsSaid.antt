@@ -16,9 +16,7 @@ use Rattle.rules.specs.Answers.{codes_in}
 use Rattle.rules.specs.declared.Bits.{Bits}
 use Rattle.rules.specs.declared.Colour.{Colour}
 use Rattle.rules.specs.declared.Depths.{Depths}
-use Rattle.rules.specs.declared.DepthsFound.TheVariants.{Both}
 use Rattle.rules.specs.declared.Description.{Description}
-use Rattle.rules.specs.declared.Inverse.{Inverse}
 use Rattle.rules.specs.declared.Kind.TheVariants.{OneD}
 use Rattle.rules.specs.declared.Refusal.TheVariants.{NoneWithinTolerance}
 use Rattle.rules.proofs.Colours.{grey, grey-code, grey-within}
@@ -31,11 +29,13 @@ use Rattle.invert.specs.Saying.{corrected_to, found_said, said_by, aim_of, said_
 use Rattle.invert.specs.declared.answers.Said.{Said}
 use Rattle.invert.specs.declared.answers.Said.TheVariants.{Hit, Near, Refused}
 use Rattle.invert.specs.declared.question.Question.{Question}
+use Rattle.std.specs.Prelude.{Some}
+use Rattle.rules.specs.Results.{Inverse}
 
 -- ---- a look at a grey pixel has the code that the inverse tries
 
 module _ (d : Description) (table : List ℤ) (line : d.kind ≡ OneD) (could : could_be_read d table ≡ true) where
-  pub looked-so : (bits : Bits) (depths : Depths) → depths_of bits ≡ Both depths → (c : Colour) (code : ℕ) → code ≤ raw_m depths
+  pub looked-so : (bits : Bits) (depths : Depths) → depths_of bits ≡ Some depths → (c : Colour) (code : ℕ) → code ≤ raw_m depths
       → corrected_to d table bits c code ≡ line_code d table depths c code
   unfolding corrected_to
   looked-so bits depths known c code inside =
@@ -45,7 +45,7 @@ module _ (d : Description) (table : List ℤ) (line : d.kind ≡ OneD) (could : 
 
 -- ---- what is said
 
-module _ (d : Description) (table : List ℤ) (q : Question) (depths : Depths) (known : depths_of q.bits ≡ Both depths) where
+module _ (d : Description) (table : List ℤ) (q : Question) (depths : Depths) (known : depths_of q.bits ≡ Some depths) where
   abbrev to : ℕ → ℕ
   to = corrected_to d table q.bits q.colour
 

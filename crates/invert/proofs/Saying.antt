@@ -18,13 +18,8 @@ use Rattle.rules.specs.declared.Codes.{Codes}
 use Rattle.rules.specs.declared.Colour.{Colour}
 use Rattle.rules.specs.declared.Colour.TheVariants.{Red, Green, Blue}
 use Rattle.rules.specs.declared.Depths.{Depths}
-use Rattle.rules.specs.declared.DepthsFound.TheVariants.{Both, NotBoth}
 use Rattle.rules.specs.declared.Description.{Description}
-use Rattle.rules.specs.declared.Inverse.{Inverse}
-use Rattle.rules.specs.declared.Inverse.TheVariants as I
 use Rattle.rules.specs.declared.Kind.TheVariants.{OneD, ThreeD}
-use Rattle.rules.specs.declared.Look.{Look}
-use Rattle.rules.specs.declared.Look.TheVariants as L
 use Rattle.rules.specs.declared.Refusal.{Refusal}
 use Rattle.rules.specs.declared.Refusal.TheVariants.{DepthUnknown, CodeTooGreat, CouldNotBeRead}
 use Rattle.rules.specs.declared.Shares.{Shares}
@@ -34,6 +29,8 @@ use Rattle.rules.proofs.KnownDepths.{depths-bounds}
 use Rattle.invert.specs.Saying.{corrected_to, found_said, said_by}
 use Rattle.invert.specs.declared.answers.Said.{Said}
 use Rattle.invert.specs.declared.answers.Said.TheVariants.{Hit, Near, Refused}
+use Rattle.std.specs.Prelude.{Err, None, Some}
+use Rattle.rules.specs.Results.{Inverse, Look, inverse_of, look_of, no_inverse}
 
 -- ---- a code that was found, by what is off
 
@@ -49,11 +46,11 @@ module _ (corrected wanted code count : ℕ) {far : ℕ} (so : far ≡ apart cor
 -- ---- an inverse
 
 module _ (corrected : ℕ → ℕ) (wanted : ℕ) {r : Inverse} where
-  pub said-accepted : (code count : ℕ) {to : ℕ} → to ≡ corrected code → r ≡ I.Accepted code count → found_said to wanted code count ≡ said_by corrected wanted r
+  pub said-accepted : (code count : ℕ) {to : ℕ} → to ≡ corrected code → r ≡ inverse_of code count → found_said to wanted code count ≡ said_by corrected wanted r
   unfolding said_by
   said-accepted code count so e = ap (λ x. found_said x wanted code count) so ∙ ap (said_by corrected wanted) (sym e)
 
-  pub said-refused : (reason : Refusal) (count : ℕ) → r ≡ I.Refused reason count → Refused reason count ≡ said_by corrected wanted r
+  pub said-refused : (reason : Refusal) (count : ℕ) → r ≡ no_inverse reason count → Refused reason count ≡ said_by corrected wanted r
   unfolding said_by
   said-refused reason count e = ap (said_by corrected wanted) (sym e)
 
@@ -64,13 +61,13 @@ module _ {d : Description} {table : List ℤ} {bits : Bits} {code : ℕ} {r : Lo
   unfolding corrected_to
   by-look e = ap (λ a. code_in (codes_in a) c) (sym e ∙ looks-is l)
 
-  pub corrected-so : {codes : Codes} {shares : Shares} → r ≡ L.Accepted codes shares → code_in codes c ≡ corrected_to d table bits c code
+  pub corrected-so : {codes : Codes} {shares : Shares} → r ≡ look_of codes shares → code_in codes c ≡ corrected_to d table bits c code
   corrected-so e = by-look e
 
-  pub none-corrected : {reason : Refusal} → r ≡ L.Refused reason → 0 ≡ corrected_to d table bits c code
+  pub none-corrected : {reason : Refusal} → r ≡ Err reason → 0 ≡ corrected_to d table bits c code
   none-corrected {reason} e = zero_in c ∙ by-look e
     where
-      zero_in : (c : Colour) → 0 ≡ code_in (codes_in (L.Refused reason)) c
+      zero_in : (c : Colour) → 0 ≡ code_in (codes_in (Err reason)) c
       zero_in Red = refl
       zero_in Green = refl
       zero_in Blue = refl
@@ -88,10 +85,10 @@ module _ (d : Description) (table : List ℤ) (bits : Bits) (corrected : ℕ →
   pub beyond-24 : could_be_read d table ≡ false → BeyondSaid (Refused CouldNotBeRead 0)
   beyond-24 could-not = said-refused corrected aim.wanted CouldNotBeRead 0 (inverse-24 d table bits aim could-not)
 
-  pub beyond-20 : d.kind ≡ OneD → could_be_read d table ≡ true → depths_of bits ≡ NotBoth → BeyondSaid (Refused DepthUnknown 0)
+  pub beyond-20 : d.kind ≡ OneD → could_be_read d table ≡ true → depths_of bits ≡ None → BeyondSaid (Refused DepthUnknown 0)
   beyond-20 line could unknown = said-refused corrected aim.wanted DepthUnknown 0 (inverse-20 d table bits aim line could unknown)
 
-  pub beyond-23 : d.kind ≡ OneD → could_be_read d table ≡ true → (depths : Depths) → depths_of bits ≡ Both depths → BeyondSaid (Refused CodeTooGreat 0)
+  pub beyond-23 : d.kind ≡ OneD → could_be_read d table ≡ true → (depths : Depths) → depths_of bits ≡ Some depths → BeyondSaid (Refused CodeTooGreat 0)
   beyond-23 line could depths known =
       let low = (depths-bounds bits depths known).1.1 in
       said-refused corrected aim.wanted CodeTooGreat 0 (inverse-23 d table bits aim line could depths known (omega (arith, low, beyond)))

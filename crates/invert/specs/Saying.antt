@@ -1,5 +1,5 @@
 -- What is said of a question: what an inverse answers, and what a look makes of the raw code in it.
-use Rattle.std.specs.Prelude.{ℕ, cond, List, eqb, ℤ}
+use Rattle.std.specs.Prelude.{ℕ, cond, List, eqb, ℤ, Err, Ok}
 use Rattle.rules.specs.Units.{code_in}
 use Rattle.rules.specs.Looking.{look}
 use Rattle.rules.specs.Picturing.{pixel_of}
@@ -9,13 +9,12 @@ use Rattle.rules.specs.declared.Aim.{Aim}
 use Rattle.rules.specs.declared.Bits.{Bits}
 use Rattle.rules.specs.declared.Colour.{Colour}
 use Rattle.rules.specs.declared.Description.{Description}
-use Rattle.rules.specs.declared.Inverse.{Inverse}
-use Rattle.rules.specs.declared.Inverse.TheVariants as I
 use Rattle.desk.specs.declared.outcomes.Outcome.{Outcome}
 use Rattle.desk.specs.declared.outcomes.Outcome.TheVariants as O
 use Rattle.invert.specs.declared.answers.Said.{Said}
 use Rattle.invert.specs.declared.answers.Said.TheVariants.{Hit, Near, Refused}
 use Rattle.invert.specs.declared.question.Question.{Question}
+use Rattle.rules.specs.Results.{Inverse}
 
 -- what a look makes of a raw code in one colour, of the pixel that has it in all three
 unfoldable pub corrected_to : Description → List ℤ → Bits → Colour → ℕ → ℕ
@@ -27,8 +26,8 @@ found_said corrected wanted code count = cond (eqb (apart corrected wanted) 0) (
 
 -- an inverse, by what each raw code is corrected to
 unfoldable pub said_by : (ℕ → ℕ) → ℕ → Inverse → Said
-said_by corrected wanted (I.Accepted code count) = found_said (corrected code) wanted code count
-said_by corrected wanted (I.Refused r count) = Refused r count
+said_by corrected wanted (Ok x) = found_said (corrected x.code) wanted x.code x.count
+said_by corrected wanted (Err x) = Refused x.reason x.count
 
 -- what a question aims at: its wanted code is any number
 abbrev pub aim_of : Question → Aim

@@ -12,7 +12,8 @@ use halves::look;
 use inverse::{apart, inverse};
 use judge::could_be_read;
 use rules::{
-    Aim, Bits, Codes, Colour, Depths, DepthsFound, Description, Inverse, Kind, Look, Refusal,
+    Aim, Bits, Codes, Colour, Depths, Description, Inverted, Kind, Looked, NotInverted, Refusal,
+    Refused,
 };
 
 #[derive(Clone, Copy)]
@@ -57,8 +58,8 @@ fn corrected_to(d: Description, table: &[i64], bits: Bits, c: Colour, code: u16)
         blue: code,
     };
     match look(d, table, bits, grey) {
-        Look::Accepted { codes, shares: _ } => code_in(codes, c),
-        Look::Refused(_) => 0,
+        Ok(Looked { codes, shares: _ }) => code_in(codes, c),
+        Err(_) => 0,
     }
 }
 
@@ -97,8 +98,8 @@ fn beyond_said(d: Description, table: &[i64], bits: Bits) -> Said
         return untried(Refusal::CouldNotBeRead);
     }
     match Depths::of(bits) {
-        DepthsFound::Both(_) => untried(Refusal::CodeTooGreat),
-        DepthsFound::NotBoth => untried(Refusal::DepthUnknown),
+        Some(_) => untried(Refusal::CodeTooGreat),
+        None => untried(Refusal::DepthUnknown),
     }
 }
 
@@ -107,12 +108,12 @@ fn aimed_said(d: Description, table: &[i64], bits: Bits, aim: Aim) -> Said
     ensures { result ≡ said_by (corrected_to d table.now bits aim.colour) aim.wanted (inverse d table.now bits aim) }
 {
     match inverse(d, table, bits, aim) {
-        Inverse::Accepted { code, count } => {
+        Ok(Inverted { code, count }) => {
             let c = aim.colour;
             let corrected = corrected_to(d, table, bits, c, code);
             found_said(corrected, aim.wanted, code, count)
         }
-        Inverse::Refused { reason, count } => Said::Refused { reason, count },
+        Err(NotInverted { reason, count }) => Said::Refused { reason, count },
     }
 }
 

@@ -13,7 +13,6 @@ use lib.Seq.{take_all}
 use Rattle.rules.specs.Reading.Lines.{digit, every}
 use Rattle.rules.specs.Reading.Numerals.{over, spell, under}
 use Rattle.rules.specs.Reading.Numbers.{settle}
-use Rattle.rules.specs.declared.Number.{Number}
 use Rattle.rules.proofs.Tests.{and_both}
 use Rattle.numbers.specs.Cuts.{Served, answer, cut_of, exponent_cap, kept, most_limit}
 use Rattle.numbers.specs.Parts.{numeral}
@@ -22,6 +21,7 @@ use Rattle.rules.proofs.Reading.Numbers.{spell-append}
 use Rattle.numbers.proofs.Joined.{Cut, cut}
 use Rattle.numbers.proofs.Kept.{kept-zeros}
 use Rattle.rules.proofs.Reading.Runs.{every_append}
+use Rattle.rules.specs.Results.{Number}
 
 -- ---- a quotient and a rest
 

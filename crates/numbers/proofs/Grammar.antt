@@ -3,7 +3,6 @@ use Prim.Native.Nat.{ℕ, ◌+◌}
 use mathlib.Core.Path.{◌≡◌, refl, sym}
 use mathlib.Core.Bool.{Bool, true, false, cond, ◌&&◌, ◌||◌}
 use mathlib.Core.List.{List, [], ◌∷◌, ◌++◌}
-use mathlib.Core.Option.{none, some}
 use native.Mathlib.Omega.{arith}
 use lib.Dec.{ltb}
 use lib.ListN.{length, get_or, drop}
@@ -18,23 +17,24 @@ use Rattle.scan.specs.RunEnds.{run_end}
 use Rattle.scan.proofs.Tests.{or-false}
 use Rattle.scan.proofs.Runs.{drop-to-end, end-further, take-to-end}
 use Rattle.numbers.specs.Parts.{part}
+use Rattle.std.specs.Prelude.{None, Some}
 
 -- ---- the exponent
 
-pub exponent-absent : (e : List ℕ) → length e ≡ 0 → some (record { down = false; power = e }) ≡ exponent_of e
+pub exponent-absent : (e : List ℕ) → length e ≡ 0 → Some (record { down = false; power = e }) ≡ exponent_of e
 unfolding exponent_of
 exponent-absent [] h = refl
 exponent-absent (b ∷ rest) h = absurd (omega arith)
 
 pub exponent-there : (e : List ℕ) → (length e ≡ 0 → ⊥)
-    → exponent_of e ≡ cond (e_byte (get_or e 0 0) && digits (unsigned (drop 1 e))) (some (record { down = starts minus_byte (drop 1 e); power = unsigned (drop 1 e) })) none
+    → exponent_of e ≡ cond (e_byte (get_or e 0 0) && digits (unsigned (drop 1 e))) (Some (record { down = starts minus_byte (drop 1 e); power = unsigned (drop 1 e) })) None
 unfolding exponent_of
 exponent-there [] h = absurd (h refl)
 exponent-there (b ∷ rest) h = refl
 
 -- e or E or not, a minus or not, n bytes of a sign, and digits alone or not
 pub exponent-by : (e : List ℕ) (marked down whole : Bool) (n : ℕ) → (length e ≡ 0 → ⊥) → marked ≡ e_byte (get_or e 0 0) → down ≡ starts minus_byte (drop 1 e)
-    → drop n (drop 1 e) ≡ unsigned (drop 1 e) → whole ≡ digits (drop n (drop 1 e)) → cond (marked && whole) (some (record { down = down; power = drop (1 + n) e })) none ≡ exponent_of e
+    → drop n (drop 1 e) ≡ unsigned (drop 1 e) → whole ≡ digits (drop n (drop 1 e)) → cond (marked && whole) (Some (record { down = down; power = drop (1 + n) e })) None ≡ exponent_of e
 exponent-by e marked down whole n h m d u w = rw (exponent-there e h, m, d, w, ← drop-drop n 1 e, u)
 
 -- ---- the mantissa
@@ -51,7 +51,7 @@ digits-to w a e h = record { stand = rw h (take-to-end digit w a); then = rw h (
 -- after the whole digits: a point or none, digits, and an exponent
 fraction-by : (negative : Bool) (whole l : List ℕ) → starts digit l ≡ false
     → let r = drop (bool_byte (starts point_byte l)) l in
-    numeral_with negative whole l ≡ cond (starts digit whole || starts digit r) (assemble true negative whole (run digit r) (exponent_of (after digit r))) none
+    numeral_with negative whole l ≡ cond (starts digit whole || starts digit r) (assemble true negative whole (run digit r) (exponent_of (after digit r))) None
 unfolding numeral_with starts run after
 fraction-by negative whole [] h = rw (← or-false (starts digit whole)) (assemble-first (starts digit whole) negative whole [] (exponent_of []))
 fraction-by negative whole (b ∷ rest) h = by (point_byte b)
@@ -59,13 +59,13 @@ fraction-by negative whole (b ∷ rest) h = by (point_byte b)
     by : (t : Bool)
         → let r = drop (bool_byte t) (b ∷ rest) in
         cond t (assemble (starts digit whole || starts digit rest) negative whole (run digit rest) (exponent_of (after digit rest))) (assemble (starts digit whole) negative whole [] (exponent_of (b ∷ rest)))
-        ≡ cond (starts digit whole || starts digit r) (assemble true negative whole (run digit r) (exponent_of (after digit r))) none
+        ≡ cond (starts digit whole || starts digit r) (assemble true negative whole (run digit r) (exponent_of (after digit r))) None
     by true = assemble-first (starts digit whole || starts digit rest) negative whole (run digit rest) (exponent_of (after digit rest))
     by false = rw (h, ← or-false (starts digit whole)) (assemble-first (starts digit whole) negative whole [] (exponent_of (b ∷ rest)))
 
 -- an optional sign up to a, whole digits up to b, a point or none, and digits up to d
 pub numeral-by : (w : List ℕ) (negative : Bool) (a b d : ℕ) (p : Bool) → negative ≡ starts minus_byte w → drop a w ≡ unsigned w → b ≡ run_end digit w a → p ≡ starts point_byte (drop b w) → d ≡ run_end digit w (b + bool_byte p)
-    → cond (ltb a b || ltb (b + bool_byte p) d) (assemble true negative (part w a b) (part w (b + bool_byte p) d) (exponent_of (drop d w))) none ≡ numeral_of w
+    → cond (ltb a b || ltb (b + bool_byte p) d) (assemble true negative (part w a b) (part w (b + bool_byte p) d) (exponent_of (drop d w))) None ≡ numeral_of w
 unfolding numeral_of
 numeral-by w negative a b d p sign skip whole-end e end =
     let f = digits-to w a b whole-end in
@@ -77,7 +77,7 @@ numeral-by w negative a b d p sign skip whole-end e end =
 
 -- ---- a numeral's digits are digits
 
-pub numeral-digits : (w : List ℕ) (n : Numeral) → numeral_of w ≡ some n → (every digit n.whole ≡ true) × (every digit n.fraction ≡ true)
+pub numeral-digits : (w : List ℕ) (n : Numeral) → numeral_of w ≡ Some n → (every digit n.whole ≡ true) × (every digit n.fraction ≡ true)
 unfolding every
 numeral-digits w n h = by (spells-of w n h).mantissa_so
   where

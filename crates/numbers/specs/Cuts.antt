@@ -1,9 +1,9 @@
 -- A number's value by a cut of its digits: those before the unit's point are the quotient, those behind it the rest.
-use Rattle.std.specs.Prelude.{ℕ, ◌+◌, ◌-◌, ◌≤◌, min, ◌≡◌, Bool, true, cond, List, eqb, ltb, length}
+use Rattle.std.specs.Prelude.{ℕ, ◌+◌, ◌-◌, ◌≤◌, min, ◌≡◌, Bool, true, cond, List, eqb, ltb, length, Err, Ok}
 use Rattle.rules.specs.Reading.Lines.{line_limit, digit, every}
 use Rattle.rules.specs.Reading.Numerals.{signed}
-use Rattle.rules.specs.declared.Number.{Number}
-use Rattle.rules.specs.declared.Number.TheVariants.{Value, Beyond, Finer}
+use Rattle.rules.specs.declared.NumberFault.TheVariants.{Beyond, Finer}
+use Rattle.rules.specs.Results.{Number}
 
 -- the greatest limit, and the most places, that the code serves
 abbrev pub most_limit : ℕ
@@ -35,4 +35,4 @@ cut_of whole places down x = cond down (whole + places - x) (whole + places + x)
 
 -- what a quotient and a rest say: beyond the limit, or that whole number, or no whole number
 unfoldable pub answer : ℕ → Bool → ℕ → ℕ → Number
-answer limit negative q r = cond (ltb limit q) Beyond (cond (eqb r 0) (Value (signed negative q)) (cond (eqb q limit) Beyond Finer))
+answer limit negative q r = cond (ltb limit q) (Err Beyond) (cond (eqb r 0) (Ok (signed negative q)) (cond (eqb q limit) (Err Beyond) (Err Finer)))

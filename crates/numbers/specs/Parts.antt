@@ -1,6 +1,5 @@
 -- What stands where the grammar found a number's parts.
 use Rattle.std.specs.Prelude.{ℕ, ◌-◌, ◌≤◌, Bool, List, length, take, drop, Option, None, Some}
-use Rattle.std.proofs.Math.Option as Told
 use Rattle.rules.specs.Reading.Numerals.{Exponent, Numeral}
 use Rattle.numbers.specs.declared.Parts.{Parts}
 use Rattle.numbers.specs.declared.PowerParts.{PowerParts}
@@ -14,15 +13,15 @@ numeral negative whole fraction down power =
     record { negative = negative; whole = whole; fraction = fraction; exponent = record { down = down; power = power } }
 
 -- the exponent that stands there
-abbrev pub exponent_at : List ℕ → Option PowerParts → Told.Option Exponent
-exponent_at e None = Told.none
-exponent_at e (Some p) = Told.some (record { down = p.down; power = drop p.start e })
+abbrev pub exponent_at : List ℕ → Option PowerParts → Option Exponent
+exponent_at e None = None
+exponent_at e (Some p) = Some (record { down = p.down; power = drop p.start e })
 
 -- the numeral that stands there
-abbrev pub numeral_at : List ℕ → Option Parts → Told.Option Numeral
-numeral_at w None = Told.none
+abbrev pub numeral_at : List ℕ → Option Parts → Option Numeral
+numeral_at w None = None
 numeral_at w (Some p) =
-    Told.some (numeral p.negative (part w p.whole p.point) (part w p.fraction p.end) p.down (drop p.power w))
+    Some (numeral p.negative (part w p.whole p.point) (part w p.fraction p.end) p.down (drop p.power w))
 
 -- places in the word, in order
 pub record Placed (w : List ℕ) (p : Parts) : Type 0 where

@@ -1,15 +1,14 @@
 // Document 01, "Lines": a word as a number. The grammar finds where its parts stand, and their digits, cut at the unit's point, give its exact value.
 #![tactic(auto)]
 
-ghost use Rattle.std.specs.Prelude.{◌≡◌, ◌++◌, ◌+◌, ◌-◌, ◌*◌, ◌^◌, ◌≤◌, eqb, length, drop, IfSome};
-ghost use Rattle.std.proofs.Math.Option.{some};
+ghost use Rattle.std.specs.Prelude.{◌≡◌, ◌++◌, ◌+◌, ◌-◌, ◌*◌, ◌^◌, ◌≤◌, eqb, length, drop, IfSome, Some};
 ghost use Rattle.rules.specs.Reading.Lines.{line_limit, e_byte, starts};
 ghost use Rattle.rules.specs.Reading.Numerals.{digits, spell};
 ghost use Rattle.rules.specs.Reading.Numbers.{exponent_of, number_of, numeral_of, unsigned, value_of};
 ghost use Rattle.numbers.specs.Cuts.{Served, answer, cut_of, exponent_cap, kept, most_limit, most_places};
 ghost use Rattle.numbers.specs.Parts.{Placed, exponent_at, numeral, numeral_at};
 
-use rules::Number;
+use rules::NumberFault;
 use scan::{ByteKind, run_end};
 
 // ---- digits
@@ -183,24 +182,24 @@ fn padded(m: u64, zeros: usize, limit: u64) -> u64
 }
 
 // What a quotient and a rest say.
-fn conclude(negative: bool, q: u64, r: u64, limit: u64) -> Number
+fn conclude(negative: bool, q: u64, r: u64, limit: u64) -> Result<i64, NumberFault>
     requires { limit ≤ most_limit }
     ensures { result ≡ answer limit negative q r }
 {
     if limit < q {
-        return Number::Beyond;
+        return Err(NumberFault::Beyond);
     }
     if r == 0 {
         let v = q as i64;
         if negative {
-            return Number::Value(-v);
+            return Ok(-v);
         }
-        return Number::Value(v);
+        return Ok(v);
     }
     if q == limit {
-        Number::Beyond
+        Err(NumberFault::Beyond)
     } else {
-        Number::Finer
+        Err(NumberFault::Finer)
     }
 }
 
@@ -213,9 +212,9 @@ fn value(
     down: bool,
     places: usize,
     limit: u64,
-) -> Number
+) -> Result<i64, NumberFault>
     requires { Served whole.now fraction.now places limit }
-    ensures { result ≡ value_of places limit (some (numeral negative whole.now fraction.now down power.now)) }
+    ensures { result ≡ value_of places limit (Some (numeral negative whole.now fraction.now down power.now)) }
 {
     let x = spelt(power, 0, EXPONENT_CAP);
     let cut = cut_at(whole.len(), places, down, x as usize);
@@ -228,12 +227,12 @@ fn value(
 }
 
 // What a word says as a number, in units of 10 to the -places, within a limit.
-pub fn number_of(w: &[u8], places: usize, limit: u64) -> Number
+pub fn number_of(w: &[u8], places: usize, limit: u64) -> Result<i64, NumberFault>
     requires { (length w.now ≤ line_limit) × (places ≤ most_places) × (limit ≤ most_limit) }
     ensures { result ≡ number_of places limit w.now }
 {
     let Some(p) = numeral_in(w) else {
-        return Number::Malformed;
+        return Err(NumberFault::Malformed);
     };
     value(
         &w[p.whole..p.point],

@@ -17,7 +17,7 @@ use judge::could_be_read;
 use lanes::{Way, cube_of};
 use lines::correct_lines;
 use pixels::{pixel_from, write_pixel};
-use rules::{Bits, Depths, DepthsFound, Description, Kind, Picture, Refusal};
+use rules::{Bits, Depths, Description, Kind, Refusal};
 
 mod cubes;
 mod kept;
@@ -83,24 +83,30 @@ pub fn correct_all(plan: Plan, depths: Depths, table: &[i64], src: &[u16], dst: 
 }
 
 // The checks run 24, 20 for the raw depth and then for the corrected one, 21, 22, 23, all before the first code is written.
-pub fn picture(d: Description, table: &[i64], bits: Bits, src: &[u16], dst: &mut [u16]) -> Picture
+pub fn picture(
+    d: Description,
+    table: &[i64],
+    bits: Bits,
+    src: &[u16],
+    dst: &mut [u16],
+) -> Result<(), Refusal>
     ensures { Pictures d table.now bits src.now dst.old result dst.new }
 {
     if !could_be_read(d, table) {
-        return Picture::Refused(Refusal::CouldNotBeRead);
+        return Err(Refusal::CouldNotBeRead);
     }
-    let DepthsFound::Both(depths) = Depths::of(bits) else {
-        return Picture::Refused(Refusal::DepthUnknown);
+    let Some(depths) = Depths::of(bits) else {
+        return Err(Refusal::DepthUnknown);
     };
     if src.len() % 3 != 0 {
-        return Picture::Refused(Refusal::PictureNotPixels);
+        return Err(Refusal::PictureNotPixels);
     }
     if dst.len() < src.len() {
-        return Picture::Refused(Refusal::OutputTooShort);
+        return Err(Refusal::OutputTooShort);
     }
     if depths.raw.greatest() < greatest(src) {
-        return Picture::Refused(Refusal::CodeTooGreat);
+        return Err(Refusal::CodeTooGreat);
     }
     correct_all(plan_of(d, depths), depths, table, src, dst);
-    Picture::Accepted
+    Ok(())
 }

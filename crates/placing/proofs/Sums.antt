@@ -17,13 +17,9 @@ use Rattle.rules.specs.declared.Codes.{Codes}
 use Rattle.rules.specs.declared.Colour.{Colour}
 use Rattle.rules.specs.declared.Colour.TheVariants.{Red, Green, Blue}
 use Rattle.rules.specs.declared.Depths.{Depths}
-use Rattle.rules.specs.declared.DepthsFound.TheVariants.{Both}
 use Rattle.rules.specs.declared.Description.{Description}
-use Rattle.rules.specs.declared.Judged.TheVariants.{Fit}
 use Rattle.rules.specs.declared.Kind.{Kind}
 use Rattle.rules.specs.declared.Kind.TheVariants.{OneD, ThreeD}
-use Rattle.rules.specs.declared.Look.{Look}
-use Rattle.rules.specs.declared.Look.TheVariants.{Accepted}
 use Rattle.rules.specs.declared.Shares.{Shares}
 use Rattle.rules.proofs.Answers.{looks-is}
 use Rattle.rules.proofs.KnownDepths.{depths-bounds}
@@ -38,6 +34,8 @@ use Rattle.colour.proofs.Weighing.{row-stands, rows-stand, carried-is}
 use Rattle.halves.specs.Listed.{listed, four_of}
 use Rattle.halves.specs.declared.fours.Four.{Four}
 use Rattle.placing.specs.Shown.{Summed}
+use Rattle.std.specs.Prelude.{Ok, Some}
+use Rattle.rules.specs.Results.{Look, look_of}
 
 -- ---- two that carry nothing
 
@@ -95,12 +93,12 @@ module _ (d : Description) (table : List ℤ) (depths : Depths) (could : could_b
   shown-summed pixel = record { could = could; deep = deep.0; most = deep.1; weighable = rule-weighable d table (raw_m depths) pixel could deep.0 }
 
   -- wherever they are judged fit, whoever wrote them
-  pub fit-summed : {shares : Shares} → judged_all d (raw_m depths) shares ≡ Fit → Summed d table depths shares
+  pub fit-summed : {shares : Shares} → judged_all d (raw_m depths) shares ≡ (Ok tt) → Summed d table depths shares
   fit-summed {shares} e = record { could = could; deep = deep.0; most = deep.1; weighable = all-weighable d (raw_m depths) shares e }
 
 -- of a look that is accepted
 pub look-summed : {d : Description} {table : List ℤ} {bits : Bits} {pixel : Codes} {r : Look} → Looks d table bits pixel r
-    → {codes : Codes} {shares : Shares} → r ≡ Accepted codes shares → (depths : Depths) → depths_of bits ≡ Both depths → Summed d table depths shares
+    → {codes : Codes} {shares : Shares} → r ≡ look_of codes shares → (depths : Depths) → depths_of bits ≡ Some depths → Summed d table depths shares
 look-summed {d} {table} {bits} {pixel} l {codes} {shares} e depths known =
     subst (Summed d table depths) (sym shares-shown) (shown-summed d table depths passed.could (depths-bounds bits depths known).0 pixel)
   where

@@ -3,7 +3,6 @@ use Prim.Native.Nat.{ℕ, ◌+◌, ◌-◌, ◌≤◌}
 use mathlib.Core.Path.{◌≡◌, refl, sym, ap, ◌∙◌}
 use mathlib.Core.Bool.{Bool, true, false, cond}
 use mathlib.Core.List.{List, [], ◌∷◌}
-use mathlib.Core.Option.{none, some}
 use native.Mathlib.Omega.{arith}
 use lib.ListN.{length, take, drop}
 use Rattle.rules.specs.Reading.Lines.{lines_of}
@@ -14,6 +13,7 @@ use Rattle.text.specs.LinesFrom.{lines_from}
 use Rattle.text.specs.declared.cursor.Cursor.{Cursor}
 use Rattle.text.proofs.Standing.{Standing, Beginning, LineFound, EndFound, step-first}
 use Rattle.pointing.specs.Counts.{rows_in, size_on, or_later, first_size}
+use Rattle.std.specs.Prelude.{None, Some}
 
 -- the rows are those that were counted and those from the cursor on; no more were counted than bytes passed
 pub record Counted (file : List ℕ) (c : Cursor) (rows : ℕ) : Type 0 where
@@ -45,7 +45,7 @@ unfolding data_lines
 one-data l ls true e = rw e (omega arith)
 one-data l ls false e = rw e refl
 
-no-size : first_size [] ≡ none
+no-size : first_size [] ≡ None
 unfolding first_size
 no-size = refl
 
@@ -59,7 +59,7 @@ module _ {file : List ℕ} {c : Cursor} where
       let over = ap (λ ls. length (data_lines ls)) e.lines ∙ no_data in
       omega (arith, k.to-come, over)
 
-  pub sized-end : Sizing file c → EndFound file c → first_size (lines_of file) ≡ none
+  pub sized-end : Sizing file c → EndFound file c → first_size (lines_of file) ≡ None
   sized-end s e = s.to-come ∙ ap first_size e.lines ∙ no-size
 
   module _ {from to line : ℕ} {next : Cursor} (found : LineFound file c from to line next) where
@@ -81,10 +81,10 @@ module _ {file : List ℕ} {c : Cursor} where
     pub no_more : {rows : ℕ} → Counted file c rows → is_data (form_of text) ≡ false → Counted file next rows
     no_more {rows} k e = record { standing = found.next-standing; few = omega (arith, k.few, found.place, found.here); to-come = further false k e }
 
-    pub size-here : Sizing file c → (s : Size) → size_on text ≡ some s → first_size (lines_of file) ≡ some s
+    pub size-here : Sizing file c → (s : Size) → size_on text ≡ Some s → first_size (lines_of file) ≡ Some s
     size-here z s e = z.to-come ∙ ap first_size found.lines ∙ one_size text (lines_from file next.at) ∙ rw e refl
 
-    pub size-later : Sizing file c → size_on text ≡ none → Sizing file next
+    pub size-later : Sizing file c → size_on text ≡ None → Sizing file next
     size-later z e = record {
       standing = found.next-standing;
       to-come = z.to-come ∙ ap first_size found.lines ∙ one_size text (lines_from file next.at) ∙ rw e refl;

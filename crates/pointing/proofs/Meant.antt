@@ -15,11 +15,12 @@ use Rattle.rules.specs.declared.Form.TheVariants.{Data}
 use Rattle.rules.specs.declared.Keyword.{Keyword}
 use Rattle.rules.specs.declared.Keyword.TheVariants.{ATitle, ALower, AnUpper, ASize}
 use Rattle.rules.specs.declared.Kind.{Kind}
-use Rattle.rules.specs.declared.Number.TheVariants.{Beyond, Finer}
 use Rattle.rules.specs.declared.Refusal.{Refusal}
 use Rattle.rules.specs.declared.Refusal.TheVariants.{LineTooLong, ByteNotPermitted, NeitherDataNorKeyword, KeywordAfterData, KeywordRepeated, ParametersWrong, SizeOutOfRange, DomainNumberWrong, NoSize, LowerNotBelowUpper, DomainTooWide, DomainsDiffer, TooLittleRoom, TooManyRows, NotThreeNumbers, SampleBeyond, SampleTooFine, TooFewRows, HalfADomain, DepthUnknown, PictureNotPixels, OutputTooShort, CodeTooGreat, CouldNotBeRead, RowsOrWeightsWrong, TitleNotPlain, NoneWithinTolerance, InputTooLong}
 use Rattle.pointing.specs.Pointing.{is_value}
 use Rattle.pointing.specs.declared.spots.Spot.{Spot}
+use Rattle.std.specs.Prelude.{Err}
+use Rattle.rules.specs.declared.NumberFault.TheVariants.{Beyond, Finer}
 
 -- ---- a spot of a file, in a line l that begins at place p of it
 
@@ -126,7 +127,7 @@ OutOfRange ahead w = (k : Kind) × (ahead ≡ named (ASize k) ∷ []) × (digits
 
 -- a number of a domain beyond the limit, or within it and no multiple of the unit
 abbrev pub NoBound : List ℕ → Type 0
-NoBound w = (number_of bound_places bound_limit w ≡ Beyond) ⊎ (number_of bound_places bound_limit w ≡ Finer)
+NoBound w = (number_of bound_places bound_limit w ≡ (Err Beyond)) ⊎ (number_of bound_places bound_limit w ≡ (Err Finer))
 
 -- ---- 9, 19 and 10 to 14: where a data line stands
 
@@ -159,8 +160,8 @@ Meant DomainsDiffer file p l s = RowOrEnd file p l s
 Meant TooLittleRoom file p l s = RowOrEnd file p l s
 Meant TooManyRows file p l s = WholeRow p l s
 Meant NotThreeNumbers file p l s = Amiss (is_number sample_places sample_limit) 0 3 p l s
-Meant SampleBeyond file p l s = OneOf (has_value sample_places sample_limit) 0 3 (λ w. number_of sample_places sample_limit w ≡ Beyond) p l s
-Meant SampleTooFine file p l s = OneOf (has_value sample_places sample_limit) 0 3 (λ w. number_of sample_places sample_limit w ≡ Finer) p l s
+Meant SampleBeyond file p l s = OneOf (has_value sample_places sample_limit) 0 3 (λ w. number_of sample_places sample_limit w ≡ (Err Beyond)) p l s
+Meant SampleTooFine file p l s = OneOf (has_value sample_places sample_limit) 0 3 (λ w. number_of sample_places sample_limit w ≡ (Err Finer)) p l s
 Meant TooFewRows file p l s = FileEnd file s
 Meant DepthUnknown file p l s = ⊥
 Meant PictureNotPixels file p l s = ⊥

@@ -9,13 +9,13 @@ use Rattle.rules.specs.Answers.{refusal_number}
 use Rattle.rules.specs.Reading.{read}
 use Rattle.rules.specs.Reading.Judge.{start}
 use Rattle.rules.specs.Reading.Lines.{lines_of}
-use Rattle.rules.specs.declared.Read.TheVariants.{Refused}
 use Rattle.rules.specs.declared.Refusal.{Refusal}
 use Rattle.rules.proofs.Reading.Refusals.{Stopped, at-line, at-end, refused-first}
 use Rattle.rules.proofs.Reading.Titles.{Cut, last, more, lines_cut, lines-some}
 use Rattle.pointing.specs.Pointing.{part, spot_in, line_from, line_spot, pointed}
 use Rattle.pointing.specs.declared.spots.Spot.{Spot}
 use Rattle.pointing.proofs.Inside.{spot-inside}
+use Rattle.rules.specs.Results.{refused_on}
 
 -- the bytes of line m, counted from 1
 abbrev pub line_of : List ℕ → ℕ → List ℕ
@@ -133,5 +133,5 @@ numbered file places r m (at-end is n k a u) = some-lines (lines_of file) refl
     some-lines (l ∷ ls) e = (omega (arith, n, ap length e), omega (arith, n))
 
 -- what a refusal points at lies on its line
-pub on-its-line : (file : List ℕ) (places : ℕ) (r : Refusal) (m : ℕ) → read file places ≡ Refused r m → OnItsLine file (refusal_number r) m
+pub on-its-line : (file : List ℕ) (places : ℕ) (r : Refusal) (m : ℕ) → read file places ≡ refused_on r m → OnItsLine file (refusal_number r) m
 on-its-line file places r m h = stays file m (numbered file places r m (refused-first file places r m h)) (refusal_number r)

@@ -4,7 +4,6 @@ use mathlib.Core.Path.{◌≡◌, refl, sym, ap, subst, ◌∙◌}
 use mathlib.Core.Logic.{◌⊎◌, inl, inr}
 use mathlib.Core.Bool.{Bool, true, false, cond}
 use mathlib.Core.List.{List, [], ◌∷◌, ◌++◌, append-nil, append_assoc}
-use mathlib.Core.Option.{Option, none, some}
 use native.Mathlib.Omega.{arith}
 use borrow.Author.Tests.{leb-false, le-leb}
 use lib.Dec.{leb}
@@ -22,7 +21,6 @@ use Rattle.rules.specs.Reading.Grammar.{Lines}
 use Rattle.rules.specs.Reading.Contents.{form_of, word_form, keyword_form, keyword_of, parameters, content_by, content_of, title_of, bounds_of, bounds_at, row_of, samples_on, size_of}
 use Rattle.rules.specs.Reading.Judge.{State, start, judge, refuse, unless, take_in, byte_fault, order_fault, head_fault, end_fault}
 use Rattle.rules.specs.declared.Bounds.{Bounds}
-use Rattle.rules.specs.declared.Content.TheVariants.{Wrong}
 use Rattle.rules.specs.declared.Form.{Form}
 use Rattle.rules.specs.declared.Form.TheVariants.{Idle, Keyed, Data, Neither}
 use Rattle.rules.specs.declared.Item.{Item}
@@ -30,9 +28,6 @@ use Rattle.rules.specs.declared.Item.TheVariants.{OfLower, OfUpper, OfRow}
 use Rattle.rules.specs.declared.Keyword.{Keyword}
 use Rattle.rules.specs.declared.Keyword.TheVariants.{ATitle, ALower, AnUpper, ASize}
 use Rattle.rules.specs.declared.Kind.{Kind}
-use Rattle.rules.specs.declared.Number.{Number}
-use Rattle.rules.specs.declared.Number.TheVariants.{Beyond, Finer}
-use Rattle.rules.specs.declared.Read.TheVariants.{Refused}
 use Rattle.rules.specs.declared.Refusal.{Refusal}
 use Rattle.rules.specs.declared.Refusal.TheVariants.{LineTooLong, ByteNotPermitted, NeitherDataNorKeyword, KeywordAfterData, KeywordRepeated, ParametersWrong, SizeOutOfRange, DomainNumberWrong, NoSize, LowerNotBelowUpper, DomainTooWide, DomainsDiffer, TooLittleRoom, TooManyRows, NotThreeNumbers, SampleBeyond, SampleTooFine, TooFewRows, HalfADomain}
 use Rattle.rules.proofs.Tests.{no_true, no-some, need-none}
@@ -53,6 +48,9 @@ use Rattle.pointing.proofs.Meant.{Parts, FileEnd, FirstIs, Forbidden, Unknown, u
 use Rattle.pointing.proofs.WordPlaces.{at, rest-parts, Between, start_between, start-words, Step, step, spot-none, none_ahead, first-passed}
 use Rattle.pointing.proofs.Falls.{amiss, one_of}
 use Rattle.pointing.proofs.Wrongs.{none_is, need-is, head-is, first-is, unless-is, taken-wrong, says-wrong, wrong-same, quoted-wrong, unquoted, NoThree, by_form, by-beyond, by-finer, values-wrong, NoSizeIn, by_digits, by-range, size-wrong}
+use Rattle.std.specs.Prelude.{Err, None, Option, Some}
+use Rattle.rules.specs.declared.NumberFault.TheVariants.{Beyond, Finer}
+use Rattle.rules.specs.Results.{Number, refused_on}
 
 no_data : (f : Form) → is_data f ≡ false → f ≡ Data → ⊥
 no_data f h e = no_true (ap is_data (sym e) ∙ h)
@@ -126,8 +124,8 @@ module _ (file : List ℕ) (p : ℕ) (l : List ℕ) where
       where
         by : (t : Bool) → starts number_byte w ≡ t → (o : Option Keyword) → keyword_of w ≡ o → cond t Data (keyword_form o) ≡ Neither → Unknown p l (at p (word_spot l 0))
         by true s o f g = let z : ◌≡◌ {A = ℕ} 0 1 = cc in absurd (omega arith)
-        by false s (some k) f g = let z : ◌≡◌ {A = ℕ} 0 1 = cc in absurd (omega arith)
-        by false s none f g =
+        by false s (Some k) f g = let z : ◌≡◌ {A = ℕ} 0 1 = cc in absurd (omega arith)
+        by false s None f g =
             unknown-word ((first_word w ws e).is_word _ p (none_ahead l, s, λ k so. no-some k (sym (named-known k).known ∙ ap keyword_of (sym so) ∙ f)))
 
     neither-words : (x : List ℕ) → form_of x ≡ Neither → word_form (words_of x) ≡ Neither
@@ -168,7 +166,7 @@ module _ (file : List ℕ) (p : ℕ) (l : List ℕ) where
       unfolding aim_of refusal_number aimed_in
       parameters-wrong h = to ParametersWrong A.Parameters refl (subst (λ (f : Form). ParametersAmiss p l (at p (parameter_spot f l q))) (sym form) h)
 
-    title-is : form_of l ≡ Keyed ATitle → (b : ℕ) (r : Refusal) → title_of b l ≡ Wrong r → Is r
+    title-is : form_of l ≡ Keyed ATitle → (b : ℕ) (r : Refusal) → title_of b l ≡ Err r → Is r
     unfolding title_of
     title-is form b r g = subst Is (quoted-wrong _ _ r g) (parameters-wrong ATitle form (of-title (first-is-keyword ATitle form) (record {
       before = take (word_start l q) l;
@@ -195,7 +193,7 @@ module _ (file : List ℕ) (p : ℕ) (l : List ℕ) where
 
     bounds-is : (k : Keyword) (form : form_of l ≡ Keyed k) (item : Bounds → Item) (r : Refusal) → (FirstIs ALower l ⊎ FirstIs AnUpper l)
         → (Amiss (is_number bound_places bound_limit) 1 3 p l (at p (first_wrong W.BoundForm 3 l q)) → ParametersAmiss p l (at p (parameter_spot (Keyed k) l q)))
-        → bounds_of item (parameters (words_of l)) ≡ Wrong r → Is r
+        → bounds_of item (parameters (words_of l)) ≡ Err r → Is r
     unfolding bounds_of aim_of refusal_number aimed_in
     bounds-is k form item r side made g =
         by (values-wrong ParametersWrong DomainNumberWrong DomainNumberWrong bound_places bound_limit r (λ x y z. item (bounds_at x y z)) (words_of (drop q l)) (rw (parameters-past k form) at g))
@@ -213,7 +211,7 @@ module _ (file : List ℕ) (p : ℕ) (l : List ℕ) where
         by (by-beyond vs w us e so n all off) = subst Is e (no_bound vs w us so n all (ap is_value off) (inl off))
         by (by-finer vs w us e so n all off) = subst Is e (no_bound vs w us so n all (ap is_value off) (inr off))
 
-    size_is : (k : Kind) (form : form_of l ≡ Keyed (ASize k)) (r : Refusal) → size_of k (parameters (words_of l)) ≡ Wrong r → Is r
+    size_is : (k : Kind) (form : form_of l ≡ Keyed (ASize k)) (r : Refusal) → size_of k (parameters (words_of l)) ≡ Err r → Is r
     unfolding aim_of refusal_number aimed_in right
     size_is k form r g = by (size-wrong k (words_of (drop q l)) r (rw (parameters-past (ASize k) form) at g))
       where
@@ -240,7 +238,7 @@ module _ (file : List ℕ) (p : ℕ) (l : List ℕ) where
     unfolding right
     sample-value w = refl
 
-    samples-is : (r : Refusal) → samples_on (words_of l) ≡ Wrong r → Is r
+    samples-is : (r : Refusal) → samples_on (words_of l) ≡ Err r → Is r
     unfolding samples_on aim_of refusal_number aimed_in
     samples-is r g = by (values-wrong NotThreeNumbers SampleBeyond SampleTooFine sample_places sample_limit r (λ x y z. OfRow (row_of x y z)) (words_of l) g)
       where
@@ -258,16 +256,16 @@ module _ (file : List ℕ) (p : ℕ) (l : List ℕ) where
 
         by : NoThree NotThreeNumbers SampleBeyond SampleTooFine sample_places sample_limit (words_of l) r → Is r
         by (by_form e not-all) = subst Is e (to NotThreeNumbers A.SampleForm refl (amiss (is_number sample_places sample_limit) W.SampleForm sample-form 0 3 p l 0 (start_between l) none_passed not-all))
-        by (by-beyond vs w us e so n all off) = subst Is e (to SampleBeyond A.SampleValue refl (no-sample Beyond refl vs w us so n all off))
-        by (by-finer vs w us e so n all off) = subst Is e (to SampleTooFine A.SampleValue refl (no-sample Finer refl vs w us so n all off))
+        by (by-beyond vs w us e so n all off) = subst Is e (to SampleBeyond A.SampleValue refl (no-sample (Err Beyond) refl vs w us so n all off))
+        by (by-finer vs w us e so n all off) = subst Is e (to SampleTooFine A.SampleValue refl (no-sample (Err Finer) refl vs w us so n all off))
 
     -- ---- what the line says
 
-    content-is : (b : ℕ) (r : Refusal) → content_of b l ≡ Wrong r → Is r
+    content-is : (b : ℕ) (r : Refusal) → content_of b l ≡ Err r → Is r
     unfolding content_by
     content-is b r g = by (form_of l) refl g
       where
-        by : (f : Form) → form_of l ≡ f → content_by f b l ≡ Wrong r → Is r
+        by : (f : Form) → form_of l ≡ f → content_by f b l ≡ Err r → Is r
         by Idle e h = absurd (says-wrong _ r h)
         by (Keyed ATitle) e h = title-is e b r h
         by (Keyed ALower) e h = bounds-is ALower e OfLower r (inl (first-is-keyword ALower e)) (of-lower (first-is-keyword ALower e)) h
@@ -282,7 +280,7 @@ module _ (file : List ℕ) (p : ℕ) (l : List ℕ) where
     unfolding spot_in aimed_in
     row_is h r e = rw (short, e) h
 
-    head-means : RowOrEnd file p l (at p (row_spot l)) → (places : ℕ) (st : State) (r : Refusal) → head_fault places st ≡ some r → Is r
+    head-means : RowOrEnd file p l (at p (row_spot l)) → (places : ℕ) (st : State) (r : Refusal) → head_fault places st ≡ Some r → Is r
     unfolding aim_of refusal_number
     head-means h places st r =
         head-is Is places st (row_is h NoSize refl) (row_is h HalfADomain refl) (row_is h LowerNotBelowUpper refl) (row_is h DomainTooWide refl) (row_is h DomainsDiffer refl) (row_is h TooLittleRoom refl)
@@ -294,11 +292,11 @@ module _ (file : List ℕ) (p : ℕ) (l : List ℕ) where
     unfolding aim_of refusal_number aimed_in
     too_many form = to TooManyRows A.RowOrEnd refl (whole form)
 
-    order_is : (places : ℕ) (st : State) (r : Refusal) → order_fault places st (form_of l) ≡ some r → Is r
+    order_is : (places : ℕ) (st : State) (r : Refusal) → order_fault places st (form_of l) ≡ Some r → Is r
     unfolding order_fault aim_of refusal_number
     order_is places st r g = by (form_of l) refl g
       where
-        by : (f : Form) → form_of l ≡ f → order_fault places st f ≡ some r → Is r
+        by : (f : Form) → form_of l ≡ f → order_fault places st f ≡ Some r → Is r
         by Idle e h = none_is Is h
         by (Keyed k) e h = need-is Is _ _ _ h (λ t. after-data k e) (λ t h₁. need-is Is _ _ _ h₁ (λ u. repeated k e) (λ u. none_is Is))
         by Data e h = first-is Is _ _ h (head-means (whole_row (whole e)) places st r) (λ h₁. need-is Is _ _ _ h₁ (λ t. too_many e) (λ t. none_is Is))
@@ -319,7 +317,7 @@ module _ (file : List ℕ) (p : ℕ) (l : List ℕ) where
           by Data e = whole_row (whole e)
           by Neither e = rw e (file-end (λ d. no_data Neither refl (sym e ∙ d)) end-spot)
 
-      end_is : (places : ℕ) (st : State) (r : Refusal) → end_fault places st ≡ some r → Is r
+      end_is : (places : ℕ) (st : State) (r : Refusal) → end_fault places st ≡ Some r → Is r
       unfolding end_fault aim_of refusal_number aimed_in
       end_is places st r g = first-is Is _ _ g (head-means row-or-end places st r) (λ h. need-is Is _ _ _ h (λ t. to TooFewRows A.End refl end-spot) (λ t. none_is Is))
 
@@ -329,7 +327,7 @@ module _ (file : List ℕ) (p : ℕ) (l : List ℕ) where
   unfolding judge byte_fault
   judged places st b r g = unless-is Is (byte_fault l) _ g in_bytes (λ clean. past_bytes (need-none _ _ _ clean).0)
     where
-      in_bytes : byte_fault l ≡ some r → Is r
+      in_bytes : byte_fault l ≡ Some r → Is r
       in_bytes h = need-is Is _ _ _ h too_long (λ short h₁. need-is Is _ _ _ h₁ (forbidden short) (λ t. none_is Is))
 
       past_bytes : leb (length l) line_limit ≡ true → unless (order_fault places st (form_of l)) (take_in st (content_of b l)) ≡ refuse r → Is r
@@ -354,14 +352,14 @@ stopped-means file places r m (at-end is n k a u) =
     end_is file (line_start file m) (line_of file m) (le-leb _ _ (kept-short 0 (lines_of file) is (m - 1) k)) (last-ends file m there (omega (arith, n))) places (final start is) r u
 
 -- what a refusal of a file points at is what it is about
-pub to-the-point : (file : List ℕ) (places : ℕ) (r : Refusal) (m : ℕ) → read file places ≡ Refused r m
+pub to-the-point : (file : List ℕ) (places : ℕ) (r : Refusal) (m : ℕ) → read file places ≡ refused_on r m
     → Meant r file (line_start file m) (line_of file m) (pointed file (refusal_number r) m)
 to-the-point file places r m h =
     let stop = refused-first file places r m h in
     subst (Meant r file (line_start file m) (line_of file m)) (sym (pointed-so file m (numbered file places r m stop) (refusal_number r))) (stopped-means file places r m stop)
 
 -- the bytes of a part of its line are those of the file, at its spot
-pub bytes-pointed : (file : List ℕ) (places : ℕ) (r : Refusal) (m : ℕ) → read file places ≡ Refused r m
+pub bytes-pointed : (file : List ℕ) (places : ℕ) (r : Refusal) (m : ℕ) → read file places ≡ refused_on r m
     → (s : Spot) (before bytes after : List ℕ) → Parts (line_start file m) (line_of file m) s before bytes after → part file s ≡ bytes
 bytes-pointed file places r m h s before bytes after parts =
     rw (parts.place, parts.long)

@@ -6,7 +6,7 @@ ghost use Rattle.pointing.specs.Counts.{rows_in, size_on, first_size, size_said}
 
 use crate::lines::is_data;
 use content::content_by;
-use rules::{Content, Item, Size};
+use rules::{Item, Refusal, Size};
 use text::{Cursor, Line, form_of};
 
 // A line has at most so many bytes.
@@ -36,11 +36,11 @@ pub fn rows_in(file: &[u8]) -> usize
 }
 
 // The size among what a line says.
-fn size_said(content: Content) -> Option<Size>
+fn size_said(content: Result<Item, Refusal>) -> Option<Size>
     ensures { told result ≡ size_said content }
 {
     match content {
-        Content::Says(Item::OfSize(size)) => Some(size),
+        Ok(Item::OfSize(size)) => Some(size),
         _ => None,
     }
 }

@@ -8,7 +8,7 @@ ghost use Rattle.pointing.specs.Pointing.{is_value, right, first_wrong};
 
 use crate::spots::{Spot, word_from};
 use numbers::{is_digits, number_of};
-use rules::{Number, TenMillionths, Thousandths};
+use rules::{NumberFault, TenMillionths, Thousandths};
 
 // What a word has to be: digits alone; a number by its form, or also within the limits, of a domain or of a row.
 #[derive(Clone, Copy)]
@@ -20,26 +20,26 @@ pub enum Wanted {
     SampleValue,
 }
 
-fn is_formed(n: Number) -> bool
+fn is_formed(n: Result<i64, NumberFault>) -> bool
     ensures { result ≡ formed n }
 {
-    !matches!(n, Number::Malformed)
+    !matches!(n, Err(NumberFault::Malformed))
 }
 
-fn is_value(n: Number) -> bool
+fn is_value(n: Result<i64, NumberFault>) -> bool
     ensures { result ≡ is_value n }
 {
-    matches!(n, Number::Value(_))
+    matches!(n, Ok(_))
 }
 
-fn bound_of(w: &[u8]) -> Number
+fn bound_of(w: &[u8]) -> Result<i64, NumberFault>
     requires { length w.now ≤ line_limit }
     ensures { result ≡ number_of bound_places bound_limit w.now }
 {
     number_of(w, Thousandths::PLACES, Thousandths::GREATEST as u64)
 }
 
-fn sample_of(w: &[u8]) -> Number
+fn sample_of(w: &[u8]) -> Result<i64, NumberFault>
     requires { length w.now ≤ line_limit }
     ensures { result ≡ number_of sample_places sample_limit w.now }
 {

@@ -2,7 +2,7 @@
 ghost use Rattle.std.specs.Prelude.{◌≡◌};
 ghost use Rattle.ppm.specs.Scales.{scale_of};
 
-use rules::{Depth, DepthFound};
+use rules::Depth;
 
 // The depth whose greatest code a maxval is, and whether a code is two bytes.
 #[derive(Clone, Copy, Debug, PartialEq, Eq)]
@@ -17,7 +17,7 @@ const BYTE_GREATEST: u16 = 255;
 pub fn scale_of(maxval: u64) -> Option<Scale>
     ensures { result ≡ scale_of maxval }
 {
-    let DepthFound::Known(depth) = Depth::with_greatest(maxval) else {
+    let Some(depth) = Depth::with_greatest(maxval) else {
         return None;
     };
     let wide = depth.greatest() > BYTE_GREATEST;

@@ -11,8 +11,6 @@ use Rattle.rules.specs.Reading.{finish, onward, read_lines, read}
 use Rattle.rules.specs.declared.Item.TheVariants.{OfRow}
 use Rattle.rules.specs.declared.Refusal.{Refusal}
 use Rattle.rules.specs.declared.Row.{Row}
-use Rattle.rules.specs.declared.Read.{Read}
-use Rattle.rules.specs.declared.Read.TheVariants.{Refused}
 use Rattle.rules.proofs.Reading.OneLine.{found}
 use Rattle.rules.proofs.Reading.Walk.{let-pass}
 use Rattle.text.specs.LinesFrom.{lines_from}
@@ -25,6 +23,7 @@ use Rattle.reading.specs.View.{counting, left, Fit}
 use Rattle.reading.specs.Runs.{past}
 use Rattle.reading.proofs.Fits.{fit-rows}
 use Rattle.reading.proofs.PlainRows.{row-found, RowsLeft, rows_left, rows-welcome, row-placed}
+use Rattle.rules.specs.Results.{Read, refused_on}
 
 -- what the lines from the cursor on decide, in this state, is what the file decides
 pub record Onward (file : List ℕ) (places : ℕ) (st : State) (c : Cursor) : Type 0 where
@@ -63,8 +62,8 @@ module _ {file : List ℕ} {places : ℕ} {st : State} {c : Cursor} (here : Onwa
           ∙ sym (λ i. read_lines places (f.place i) (f.next-passed i) after (lines_from file next.at));
     }
 
-    pub stops : (r : Refusal) → judge places st from text ≡ refuse r → Refused r line ≡ read file places
-    stops r says = ap (Refused r) f.number ∙ sym (turns ∙ ap (onward (rest from) (suc (passed file c))) says)
+    pub stops : (r : Refusal) → judge places st from text ≡ refuse r → refused_on r line ≡ read file places
+    stops r says = ap (refused_on r) f.number ∙ sym (turns ∙ ap (onward (rest from) (suc (passed file c))) says)
 
   pub ends : EndFound file c → finish c.line st (end_fault places st) ≡ read file places
   unfolding read_lines

@@ -8,8 +8,6 @@ use Rattle.rules.specs.Reading.Items.{numbers_of, row_in}
 use Rattle.rules.specs.Reading.Grammar.{Line, gather, put}
 use Rattle.rules.specs.Reading.Contents.{content_by, content_of, form_of, samples_on}
 use Rattle.rules.specs.Reading.{samples_in, samples_of}
-use Rattle.rules.specs.declared.Content.{Content}
-use Rattle.rules.specs.declared.Content.TheVariants.{Says}
 use Rattle.rules.specs.declared.Form.{Form}
 use Rattle.rules.specs.declared.Form.TheVariants.{Data}
 use Rattle.rules.specs.declared.Item.{Item}
@@ -21,6 +19,7 @@ use Rattle.rules.proofs.Reading.OneLine.{found}
 use Rattle.rules.proofs.Reading.Order.{form_for}
 use Rattle.content.specs.Found.{said}
 use Rattle.reading.specs.Tables.{LineKeeps}
+use Rattle.rules.specs.Results.{Content}
 
 -- the samples of a line that gives an item are those of its row, if it is one
 item-samples : (p : ℕ) (l : List ℕ) (i : Item) → Line p l i → samples_in (content_of 0 l) ≡ flatten (map numbers_of (put (row_in i) []))
@@ -47,9 +46,9 @@ no-samples {l} k h =
 
 -- what a row found says
 abbrev row-said : Result Row Refusal → Content
-row-said answer = said answer (λ r. Says (OfRow r))
+row-said answer = said answer (λ r. Ok (OfRow r))
 
-module _ (l : List ℕ) (answer : Result Row Refusal) (data-line : form_of l ≡ Data) (says : said answer (λ r. Says (OfRow r)) ≡ samples_on (words_of l)) where
+module _ (l : List ℕ) (answer : Result Row Refusal) (data-line : form_of l ≡ Data) (says : said answer (λ r. Ok (OfRow r)) ≡ samples_on (words_of l)) where
   data-samples : samples_in (content_of 0 l) ≡ samples_in (row-said answer)
   unfolding content_by
   data-samples = ap (λ (f : Form). samples_in (content_by f 0 l)) data-line ∙ ap samples_in (sym says)

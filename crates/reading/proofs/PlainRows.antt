@@ -3,7 +3,6 @@ use Prim.Native.Nat.{ℕ, zero, suc, ◌+◌, ◌-◌, ◌≤◌, ◌<◌}
 use mathlib.Core.Path.{◌≡◌, refl}
 use mathlib.Core.Bool.{Bool, true, false, cond}
 use mathlib.Core.List.{List, [], ◌∷◌}
-use mathlib.Core.Option.{none}
 use native.Mathlib.Omega.{arith}
 use borrow.Author.Tests.{eqb-false, le-ltb, lt-ltb, ne_eqb}
 use lib.Dec.{eqb}
@@ -21,6 +20,7 @@ use Rattle.plain.specs.declared.rows.Run.{Run}
 use Rattle.reading.specs.View.{left, Fit, RowsWelcome, size_of}
 use Rattle.reading.specs.Runs.{past}
 use Rattle.reading.proofs.Sized.{rows-described}
+use Rattle.std.specs.Prelude.{None}
 
 -- ---- where they stand
 
@@ -59,7 +59,7 @@ module _ {st : State} (f : Fit st) where
       record { sized_so = λ _. sized; room = omega (arith, fewer, range-rows-most (size_of st).kind (size_of st).n (f.size_within sized)) }
 
   -- and the next one has no fault in its place
-  pub row-placed : (places : ℕ) → 0 < st.rows → st.rows < rows_of (size_of st).kind (size_of st).n → order_fault places st Data ≡ none
+  pub row-placed : (places : ℕ) → 0 < st.rows → st.rows < rows_of (size_of st).kind (size_of st).n → order_fault places st Data ≡ None
   unfolding order_fault head_fault
   row-placed places there fewer =
       none_first _ _ (rw (ne_eqb st.rows 0 (λ e. omega arith))) (none-need _ _ _ (rw (rows-described st) (lt-ltb _ _ fewer)) refl)

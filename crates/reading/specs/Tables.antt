@@ -1,10 +1,9 @@
 -- What the pass that writes may rely on.
-use Rattle.std.specs.Prelude.{ℕ, ◌≡◌, List}
+use Rattle.std.specs.Prelude.{ℕ, ◌≡◌, List, Ok}
 use Rattle.rules.specs.Reading.Grammar.{Line}
 use Rattle.rules.specs.Reading.{read}
 use Rattle.rules.specs.declared.Description.{Description}
 use Rattle.rules.specs.declared.Item.{Item}
-use Rattle.rules.specs.declared.Read.TheVariants.{Accepted}
 
 -- a line that keeps the rules by itself, whatever it gives
 pub record LineKeeps (l : List ℕ) : Type 0 where
@@ -15,4 +14,4 @@ pub record LineKeeps (l : List ℕ) : Type 0 where
 -- reading the file into a table of so many places is accepted
 pub record Accepts (file : List ℕ) (places : ℕ) : Type 0 where
   pub description : Description
-  pub accepted : read file places ≡ Accepted description
+  pub accepted : read file places ≡ Ok description

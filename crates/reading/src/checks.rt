@@ -10,7 +10,7 @@ ghost use Rattle.reading.specs.View.{view};
 
 use crate::state::State;
 use judge::{agree, count_rows, domains_keep, narrow, ordered};
-use rules::{Description, Form, Keyword, Read, Refusal};
+use rules::{Description, Form, Keyword, Refusal, Refused};
 
 // 10 to 13, of a description and a table of so many places.
 #[tactic(auto, unfolding(rules::specs::Reading::Judge::domain_fault, rules::specs::Reading::Judge::need, rules::specs::Descriptions::roomy))]
@@ -112,11 +112,11 @@ fn end_fault(st: State, places: usize) -> Result<(), Refusal>
 }
 
 // The answer where the file ends on a line.
-pub fn conclude(st: State, line: usize, places: usize) -> Read
+pub fn conclude(st: State, line: usize, places: usize) -> Result<Description, Refused>
     ensures { result ≡ finish line (view st) (end_fault places (view st)) }
 {
     match end_fault(st, places) {
-        Ok(()) => Read::Accepted(st.describe()),
-        Err(reason) => Read::Refused { reason, line },
+        Ok(()) => Ok(st.describe()),
+        Err(reason) => Err(Refused { reason, line }),
     }
 }

@@ -7,11 +7,11 @@ use crate::lines::judge_line;
 use crate::runs::{Pause, cursor_past, pause_after, unless_paused};
 use crate::state::State;
 use plain::pass_rows;
-use rules::Read;
+use rules::{Description, Refused};
 use text::{Cursor, Line};
 
 // What reading a file into a table of so many places answers.
-pub fn judge_file(file: &[u8], places: usize) -> Read
+pub fn judge_file(file: &[u8], places: usize) -> Result<Description, Refused>
     ensures { result ≡ read file.now places }
 {
     let mut st = State::new();
@@ -35,7 +35,7 @@ pub fn judge_file(file: &[u8], places: usize) -> Read
         };
         match judge_line(st, &file[start..end], start, places) {
             Ok(after) => st = after,
-            Err(reason) => return Read::Refused { reason, line },
+            Err(reason) => return Err(Refused { reason, line }),
         }
         c = next;
     }

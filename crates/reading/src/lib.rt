@@ -11,15 +11,15 @@ mod state;
 ghost use Rattle.rules.specs.Promises.{Reads, Checks};
 
 use first_pass::judge_file;
-use rules::{Kind, Read};
+use rules::{Description, Kind, Refused};
 use second_pass::fill;
 
 // The samples are written only once the whole file is accepted: a refusal leaves the table as it was.
-pub fn read(file: &[u8], table: &mut [i64]) -> Read
+pub fn read(file: &[u8], table: &mut [i64]) -> Result<Description, Refused>
     ensures { Reads file.now table.old result table.new }
 {
     let answer = judge_file(file, table.len());
-    let Read::Accepted(_) = answer else {
+    let Ok(_) = answer else {
         return answer;
     };
     fill(file, &mut *table);
@@ -27,7 +27,7 @@ pub fn read(file: &[u8], table: &mut [i64]) -> Read
 }
 
 // A file judged with no table: what reading it answers where there is room for every table.
-pub fn check(file: &[u8]) -> Read
+pub fn check(file: &[u8]) -> Result<Description, Refused>
     ensures { Checks file.now result }
 {
     judge_file(file, Kind::MOST_PLACES)

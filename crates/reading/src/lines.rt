@@ -7,7 +7,7 @@ ghost use Rattle.reading.specs.Verdicts.{judged_of};
 use crate::checks::order_fault;
 use crate::state::State;
 use content::content_by;
-use rules::{Content, Refusal};
+use rules::Refusal;
 use text::{byte_fault, form_of};
 
 // A line that begins at a place of the file, for a table of so many places: the state after it, or why it is refused.
@@ -19,7 +19,7 @@ pub fn judge_line(st: State, l: &[u8], place: usize, places: usize) -> Result<St
     let form = form_of(l);
     order_fault(st, form, places)?;
     match content_by(form, l, place) {
-        Content::Says(item) => Ok(st.with_item(item)),
-        Content::Wrong(reason) => Err(reason),
+        Ok(item) => Ok(st.with_item(item)),
+        Err(reason) => Err(reason),
     }
 }

@@ -10,18 +10,18 @@ use lib.ListN.{length, drop}
 use Rattle.rules.specs.Reading.{read}
 use Rattle.rules.specs.Reporting.{report_bytes, report_places, report, answer_text, report_text, Reports}
 use Rattle.rules.specs.declared.Description.{Description}
-use Rattle.rules.specs.declared.Read.{Read}
-use Rattle.rules.specs.declared.Read.TheVariants.{Accepted, Refused}
 use Rattle.rules.specs.declared.Refusal.TheVariants.{InputTooLong}
 use Rattle.rules.proofs.Reading.Bridge.{accepted-in-range}
 use Rattle.rules.proofs.Reporting.Lengths.{title-inside, report-fits}
 use Rattle.lettering.specs.Putting.{Room, Puts}
 use Rattle.reporting.specs.Telling.{Tellable}
+use Rattle.std.specs.Prelude.{Ok}
+use Rattle.rules.specs.Results.{Read, refused_on}
 
 -- ---- the answer by the input's length, and the text by the answer
 
 module _ (input : List ℕ) where
-  pub too_long : report_bytes < length input → Refused InputTooLong 0 ≡ report input
+  pub too_long : report_bytes < length input → refused_on InputTooLong 0 ≡ report input
   unfolding report
   too_long h = rw (lt-leb (length input) report_bytes h)
 
@@ -34,16 +34,16 @@ module _ (input : List ℕ) where
   answered e same = ap (answer_text input) (sym e ∙ same)
 
   -- an accepted answer is reading's
-  pub of-reading : {d : Description} → Accepted d ≡ report input → Accepted d ≡ read input report_places
+  pub of-reading : {d : Description} → Ok d ≡ report input → Ok d ≡ read input report_places
   unfolding report
   of-reading {d} e = split (leb (length input) report_bytes) refl e
     where
-      split : (b : Bool) → leb (length input) report_bytes ≡ b → Accepted d ≡ cond b (read input report_places) (Refused InputTooLong 0) → Accepted d ≡ read input report_places
+      split : (b : Bool) → leb (length input) report_bytes ≡ b → Ok d ≡ cond b (read input report_places) (refused_on InputTooLong 0) → Ok d ≡ read input report_places
       split true t h = h
       split false t h = let z : ◌≡◌ {A = ℕ} 0 1 = cc in absurd (omega arith)
 
   -- what an accepted file's text asks of the description
-  pub tellable : {d : Description} → Accepted d ≡ report input → Tellable input d
+  pub tellable : {d : Description} → Ok d ≡ report input → Tellable input d
   tellable {d} e =
       let accepted = sym (of-reading e) in
       record {

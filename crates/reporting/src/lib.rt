@@ -1,12 +1,11 @@
 // What the report program prints: five lines of an accepted file, or one of a refusal.
 #![tactic(auto)]
 
-ghost use Rattle.std.specs.Prelude.{◌≡◌, true, [], ◌∷◌, ◌++◌};
+ghost use Rattle.std.specs.Prelude.{◌≡◌, true, [], ◌∷◌, ◌++◌, Ok};
 ghost use Rattle.rules.specs.Units.{in_range};
 ghost use Rattle.rules.specs.Answers.{refusal_number};
 ghost use Rattle.rules.specs.Decimals.{decimal, signed_decimal};
 ghost use Rattle.rules.specs.Reporting.{line_of, cube_line, domain_lines, title_line, refused_line, answer_text, report, Reports};
-ghost use Rattle.rules.specs.declared.Read.TheVariants.{Accepted};
 ghost use Rattle.lettering.specs.Putting.{Room, Puts};
 ghost use Rattle.lettering.specs.Pens.{HasRoom, Adds};
 ghost use Rattle.reporting.specs.Telling.{TitleInside, Tellable};
@@ -14,7 +13,7 @@ ghost use Rattle.reporting.specs.Telling.{TitleInside, Tellable};
 use judge::count_rows;
 use lettering::Pen;
 use reading::read;
-use rules::{Description, Domain, Kind, Read, Refusal, Thousandths, Title};
+use rules::{Description, Domain, Kind, Refusal, Refused, Thousandths, Title};
 use whole::Whole;
 
 // The longest input, in bytes.
@@ -101,8 +100,8 @@ fn put_domains(pen: &mut Pen, d: Description)
 
 fn put_accepted(out: &mut [u8], input: &[u8], d: Description) -> usize
     requires tellable { Tellable input.now d }
-    requires room { Room out.old 0 (answer_text input.now (Accepted d)) }
-    ensures { Puts out.old 0 (answer_text input.now (Accepted d)) result out.new }
+    requires room { Room out.old 0 (answer_text input.now (Ok d)) }
+    ensures { Puts out.old 0 (answer_text input.now (Ok d)) result out.new }
 {
     let mut pen = Pen { bytes: out, at: 0 };
     put_cube(&mut pen, d.kind, d.n);
@@ -112,27 +111,27 @@ fn put_accepted(out: &mut [u8], input: &[u8], d: Description) -> usize
 }
 
 // What the report answers to its input.
-pub fn answer_to(input: &[u8]) -> Read
+pub fn answer_to(input: &[u8]) -> Result<Description, Refused>
     ensures { result ≡ report input.now }
 {
     if MOST_BYTES < input.len() {
-        return Read::Refused {
+        return Err(Refused {
             reason: Refusal::InputTooLong,
             line: 0,
-        };
+        });
     }
     let mut table = [0i64; 8190];
     read(input, &mut table)
 }
 
 // The text of that answer, from the first of the lent bytes on; answers its length, which is never more than theirs.
-pub fn put_answer(input: &[u8], answer: Read, out: &mut [u8; 512]) -> usize
+pub fn put_answer(input: &[u8], answer: Result<Description, Refused>, out: &mut [u8; 512]) -> usize
     requires { answer ≡ report input.now }
     ensures { Reports input.now out.old result out.new }
 {
     match answer {
-        Read::Accepted(d) => put_accepted(out, input, d),
-        Read::Refused { reason, line } => put_refused(out, reason, line),
+        Ok(d) => put_accepted(out, input, d),
+        Err(refused) => put_refused(out, refused.reason, refused.line),
     }
 }
 

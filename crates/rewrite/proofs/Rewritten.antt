@@ -16,19 +16,18 @@ use Rattle.rules.specs.Demands.{Titled}
 use Rattle.rules.specs.Writing.{bytes_after, file_text, title_fits, write}
 use Rattle.rules.specs.Promises.{Reads, Writes}
 use Rattle.rules.specs.declared.Description.{Description}
-use Rattle.rules.specs.declared.Read.TheVariants as R
 use Rattle.rules.specs.declared.Refusal.{Refusal}
 use Rattle.rules.specs.declared.Refusal.TheVariants.{TooLittleRoom, CouldNotBeRead, TitleNotPlain}
 use Rattle.rules.specs.declared.Title.{Title}
-use Rattle.rules.specs.declared.Write.{Write}
-use Rattle.rules.specs.declared.Write.TheVariants.{Accepted, Refused}
 use Rattle.rules.proofs.Answers.{reads-is, writes-is}
 use Rattle.rules.proofs.Reading.Acceptance.{accepted-keeps}
 use Rattle.rules.proofs.Reading.Titles.{title-or-none, titled-inside}
 use Rattle.rewrite.specs.Anew.{Printable, TitleWithin}
+use Rattle.std.specs.Prelude.{Err, Ok}
+use Rattle.rules.specs.Results.{Write}
 
 -- no refusal is an acceptance
-no-acceptance : {r : Refusal} {n : ℕ} → Refused r ≡ Accepted n → ⊥
+no-acceptance : {r : Refusal} {n : ℕ} → Err r ≡ Ok n → ⊥
 no-acceptance e = let z : ◌≡◌ {A = ℕ} 0 1 = cc in omega arith
 
 -- an accepted length is the text's, for which there is room
@@ -36,12 +35,12 @@ module _ (d : Description) (table : List ℤ) (title : List ℕ) (places n : ℕ
   abbrev text : List ℕ
   text = file_text d table title
 
-  accepted : write d table title places ≡ Accepted n → (n ≡ length text) × (n ≤ places)
+  accepted : write d table title places ≡ Ok n → (n ≡ length text) × (n ≤ places)
   unfolding write
   accepted = split (could_be_read d table) (title_fits d.title.there title) (leb (length text) places) (leb-true (length text) places)
     where
       split : (a b c : Bool) → (c ≡ true → length text ≤ places)
-          → cond a (cond b (cond c (Accepted (length text)) (Refused TooLittleRoom)) (Refused TitleNotPlain)) (Refused CouldNotBeRead) ≡ Accepted n
+          → cond a (cond b (cond c (Ok (length text)) (Err TooLittleRoom)) (Err TitleNotPlain)) (Err CouldNotBeRead) ≡ Ok n
           → (n ≡ length text) × (n ≤ places)
       split true true true room e = let same : length text ≡ n = cc in (sym same, omega (arith, room refl))
       split true true false room e = absurd (no-acceptance e)
@@ -51,15 +50,15 @@ module _ (d : Description) (table : List ℤ) (title : List ℕ) (places n : ℕ
 module _ {d : Description} {table : List ℤ} {title out out' : List ℕ} where
   pub printable : (r : Write) → Writes d table title out r out' → Printable r out'
   unfolding bytes_after
-  printable (Refused r) w = tt
-  printable (Accepted n) w =
+  printable (Err r) w = tt
+  printable (Ok n) w =
       let is = writes-is w in
       let fits = accepted d table title (length out) n (sym is.0) in
       let after : out' ≡ file_text d table title ++ drop n out = is.1 ∙ ap (bytes_after d table title out) (sym is.0) in
       omega (arith, fits, ap length after, length-append (file_text d table title) (drop n out))
 
 -- where there is none, its place and its length are 0
-pub within : {file : List ℕ} {old table : List ℤ} {d : Description} → Reads file old (R.Accepted d) table → TitleWithin d file
+pub within : {file : List ℕ} {old table : List ℤ} {d : Description} → Reads file old (Ok d) table → TitleWithin d file
 within {file} {old} {table} {d} r = by (title-or-none file (length old) d (samples_of (lines_of file)) (accepted-keeps file (length old) d (sym (reads-is r).0)))
   where
     by : (d.title ≡ no_title) ⊎ Titled file d.title → TitleWithin d file

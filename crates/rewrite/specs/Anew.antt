@@ -1,9 +1,8 @@
 -- A table written anew: what is left in the lent bytes, and what has been shown before they are printed.
-use Rattle.std.specs.Prelude.{ℕ, ◌+◌, ◌≤◌, Bool, List, ℤ, length}
+use Rattle.std.specs.Prelude.{ℕ, ◌+◌, ◌≤◌, Bool, List, ℤ, length, Err, Ok}
 use Rattle.rules.specs.Promises.{Writes}
 use Rattle.rules.specs.declared.Description.{Description}
-use Rattle.rules.specs.declared.Write.{Write}
-use Rattle.rules.specs.declared.Write.TheVariants.{Accepted, Refused}
+use Rattle.rules.specs.Results.{Write}
 
 -- the text is what writing leaves, whatever it answers
 pub record Rewrites (d : Description) (table : List ℤ) (title text text' : List ℕ) : Type 0 where
@@ -27,5 +26,5 @@ pub record TitleWithin (d : Description) (file : List ℕ) : Type 0 where
 
 -- the text is no longer than the bytes that it stands in
 abbrev pub Printable : Write → List ℕ → Type 0
-Printable (Accepted n) text = n ≤ length text
-Printable (Refused r) text = Unit {0}
+Printable (Ok n) text = n ≤ length text
+Printable (Err r) text = Unit {0}

@@ -8,22 +8,22 @@ ghost use Rattle.rules.specs.Writing.{title_bytes};
 ghost use Rattle.rewrite.specs.Anew.{Rewrites, TitleWithin, Printable};
 
 use desk::{Host, Outcome, load_argument, refuse, word_at};
-use rules::{Description, Refusal, Write};
+use rules::{Description, Refusal};
 use std::io::Write as _;
 use titles::{Wanted, marked, title_wanted};
 pub use words::help;
 use writing::write;
 
 // The text on standard output; or why there is none, on standard error.
-fn print(host: &mut Host, answer: Write, text: &[u8]) -> Outcome
+fn print(host: &mut Host, answer: Result<usize, Refusal>, text: &[u8]) -> Outcome
     requires { Printable answer text.now }
 {
     match answer {
-        Write::Accepted(length) => {
+        Ok(length) => {
             let written = host.out.write_all(&text[..length]);
             Outcome::Done.when_written(host, written)
         }
-        Write::Refused(reason) => refuse(host, reason),
+        Err(reason) => refuse(host, reason),
     }
 }
 

@@ -7,11 +7,11 @@ use native.Mathlib.Omega.{arith}
 use lib.ListN.{length, drop, get_or}
 use Rattle.rules.specs.Reading.Lines.{after, blank, every, hash, in_title, in_word, into_words, number_byte, on_first, quote, run, starts, words_of}
 use Rattle.rules.specs.Reading.Contents.{closes, form_of, quoted, word_form}
-use Rattle.rules.specs.declared.Content.TheVariants.{Says, Wrong}
 use Rattle.rules.specs.declared.Form.TheVariants.{Idle, Data}
 use Rattle.rules.specs.declared.Item.TheVariants.{OfTitle}
 use Rattle.rules.specs.declared.Refusal.TheVariants.{ParametersWrong}
 use Rattle.rules.proofs.Reading.Numbers.{number-no-blank, number-no-hash}
+use Rattle.std.specs.Prelude.{Err, Ok}
 
 pub empty-list : (l : List ℕ) → length l ≡ 0 → l ≡ []
 empty-list [] h = refl
@@ -40,8 +40,8 @@ closes-first (b ∷ rest) h = refl
 
 pub quoted-first : (end : ℕ) (l : List ℕ) → (length l ≡ 0 → ⊥)
     → quoted end l ≡ cond (quote (get_or l 0 0) && closes (after in_title (drop 1 l)))
-    (Says (OfTitle (record { there = true; place = end - length (drop 1 l); length = length (run in_title (drop 1 l)) })))
-    (Wrong ParametersWrong)
+    (Ok (OfTitle (record { there = true; place = end - length (drop 1 l); length = length (run in_title (drop 1 l)) })))
+    (Err ParametersWrong)
 unfolding quoted
 quoted-first end [] h = absurd (h refl)
 quoted-first end (b ∷ rest) h = refl

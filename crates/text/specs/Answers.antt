@@ -1,15 +1,14 @@
 -- What the answers say in the rules' terms, whose own Option this is.
 use Rattle.std.specs.Prelude.{Option, None, Some, Result, Ok, Err}
-use Rattle.std.proofs.Math.Option as Told
 use Rattle.rules.specs.Reading.Judge.{Fault}
 use Rattle.rules.specs.declared.Refusal.{Refusal}
 
 -- a value, or none
-abbrev pub told : {A : Type 0} → Option A → Told.Option A
-told None = Told.none
-told (Some a) = Told.some a
+abbrev pub told : {A : Type 0} → Option A → Option A
+told None = None
+told (Some a) = Some a
 
 -- a refusal, or none
 abbrev pub fault_of : Result (Unit {0}) Refusal → Fault
-fault_of (Ok u) = Told.none
-fault_of (Err r) = Told.some r
+fault_of (Ok u) = None
+fault_of (Err r) = Some r

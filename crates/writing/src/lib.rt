@@ -13,7 +13,7 @@ ghost use Rattle.rules.specs.Promises.{Writes};
 use counts::count_text;
 use judge::could_be_read;
 use lines::put_text;
-use rules::{Description, Refusal, Write};
+use rules::{Description, Refusal};
 use scan::ByteKind;
 use text::every;
 
@@ -40,19 +40,19 @@ fn title_fits(there: bool, title: &[u8]) -> bool
 // ---- the call
 
 // A description, a table and a title's bytes to the bytes of a file; the answer is its length.
-pub fn write(d: Description, table: &[i64], title: &[u8], out: &mut [u8]) -> Write
+pub fn write(d: Description, table: &[i64], title: &[u8], out: &mut [u8]) -> Result<usize, Refusal>
     ensures { Writes d table.now title.now out.old result out.new }
 {
     if !could_be_read(d, table) {
-        return Write::Refused(Refusal::CouldNotBeRead);
+        return Err(Refusal::CouldNotBeRead);
     }
     if !title_fits(d.title.there, title) {
-        return Write::Refused(Refusal::TitleNotPlain);
+        return Err(Refusal::TitleNotPlain);
     }
     let length = count_text(d, table, title);
     if out.len() < length {
-        return Write::Refused(Refusal::TooLittleRoom);
+        return Err(Refusal::TooLittleRoom);
     }
     put_text(out, d, table, title);
-    Write::Accepted(length)
+    Ok(length)
 }

@@ -4,15 +4,15 @@ use mir.Val.{of_z, to_z}
 use borrow.Author.Rules.{rules}
 use Rattle.std.proofs.lemmas.Result.{err_from_is_err_and}
 use Rattle.rules.specs.Reading.Contents.{bounds_at, bounds_of}
-use Rattle.rules.specs.declared.Content.TheVariants.{Says}
 use Rattle.content.proofs.bounds_on.Goals as goal
+use Rattle.std.specs.Prelude.{Ok}
 
 -- What the values found say is what the definition says of the words; a value that an i64 holds is the bound handed on.
 pub returns-in_err-t : goal.returns-in_err-t
 unfolding bounds_of
 returns-in_err-t c = λ side.
     let p = err_from_is_err_and c.from_residual.result c.from_residual.ensures.1 in
-    rw (p.1, p.2) (c.in_err-t.ensures (λ x y z. Says (side (bounds_at x y z))))
+    rw (p.1, p.2) (c.in_err-t.ensures (λ x y z. Ok (side (bounds_at x y z))))
 
 pub returns : goal.returns
 unfolding bounds_of
@@ -21,4 +21,4 @@ returns c = λ side.
     let r : to_z w64 (of_z w64 t.x) ≡ t.x = search rules in
     let g : to_z w64 (of_z w64 t.y) ≡ t.y = search rules in
     let b : to_z w64 (of_z w64 t.z) ≡ t.z = search rules in
-    rw (r, g, b) (c.in_ok-t.ensures (λ x y z. Says (side (bounds_at x y z))))
+    rw (r, g, b) (c.in_ok-t.ensures (λ x y z. Ok (side (bounds_at x y z))))

@@ -7,21 +7,21 @@ use lib.ListN.{length}
 use Rattle.rules.specs.Units.{place_limit}
 use Rattle.rules.specs.Reading.{check, read}
 use Rattle.rules.specs.Boundary.{Crossable}
-use Rattle.rules.specs.declared.Read.{Read}
-use Rattle.rules.specs.declared.Read.TheVariants.{Accepted, Refused}
 use Rattle.rules.proofs.Answers.{checks-is}
 use Rattle.rules.proofs.Reading.Bridge.{accepted-in-range}
 use Rattle.rules.proofs.Boundary.Fits.{description-fits}
 use Rattle.crossing.specs.Layout.{Countable}
 use Rattle.erythmoda.proofs.erythmoda_check.Goals as goal
+use Rattle.std.specs.Prelude.{Err, Ok}
+use Rattle.rules.specs.Results.{Read}
 
 countable : (file : List ℕ) → Countable (check file)
 unfolding check
 countable file = by (read file place_limit) refl
   where
     by : (r : Read) → read file place_limit ≡ r → Countable r
-    by (Accepted d) e = accepted-in-range file place_limit d e
-    by (Refused reason n) e = tt
+    by (Ok d) e = accepted-in-range file place_limit d e
+    by (Err x) e = tt
 
 -- a machine holds no file of 2 to the 63 bytes
 pub eleven_of-requires : goal.eleven_of-requires

@@ -1,16 +1,15 @@
 -- Eleven numbers that name a kind, and a number that names a colour, are searched by their description and their colour.
 use mathlib.Core.Path.{◌≡◌, sym, ap}
-use mathlib.Core.Option.{Option, none, some}
-use Rattle.std.specs.Prelude.{Some}
+use Rattle.std.specs.Prelude.{Some, None, Option}
 use Rattle.rules.specs.Answers.{inverse_number, inverse_code, inverse_count}
 use Rattle.rules.specs.Boundary.{described_in, colour_in, inverse_in}
 use Rattle.rules.proofs.Answers.{inverts-is}
 use Rattle.crossing.specs.Layout.{crossed}
 use Rattle.erythmoda.proofs.inverse_in.Goals as goal
 
-found : {A : Type 0} (o : Option A) (x : A) → crossed o ≡ Some x → o ≡ some x
-found none x e = cc
-found (some y) x e = cc
+found : {A : Type 0} (o : Option A) (x : A) → crossed o ≡ Some x → o ≡ Some x
+found None x e = cc
+found (Some y) x e = cc
 
 pub returns : goal.returns
 returns c =

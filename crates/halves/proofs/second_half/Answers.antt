@@ -1,14 +1,22 @@
-use mathlib.Core.Path.{sym, ap, ◌∙◌}
+use mathlib.Core.Path.{◌≡◌, sym, ap, refl, ◌∙◌}
+use mathlib.Core.Bool.{false}
 use Rattle.rules.specs.Units.{raw_m}
 use Rattle.rules.specs.Looking.{judged_all}
-use Rattle.rules.specs.declared.SecondHalf.TheVariants.{Accepted}
 use Rattle.rules.proofs.Answers.{is-gives}
 use Rattle.rules.proofs.Looking.Halves.{second-24, second-20, second-26, second-0}
 use Rattle.rules.proofs.Looking.Judging.{all-weighable}
+use Rattle.rules.proofs.Tests.{no_true}
+use Rattle.rules.specs.Results.{Judged}
 use Rattle.colour.proofs.Plans.{planned}
 use Rattle.colour.proofs.Ratios.{ratio-known}
 use Rattle.colour.proofs.Weighing.{plan-weighable}
 use Rattle.halves.proofs.second_half.Goals as goal
+use Rattle.std.specs.Prelude.{Ok, Err, is_err}
+
+-- fit, where nothing is wrong
+no_error : (j : Judged) → is_err j ≡ false → j ≡ Ok tt
+no_error (Ok _) e = refl
+no_error (Err _) e = absurd (no_true e)
 
 -- The checks run 24, 20, 26; what each has shown goes on to the next, and to the plan and the codes.
 pub returns-then-not-could_be_read : goal.returns-then-not-could_be_read
@@ -18,37 +26,37 @@ pub returns-in_default : goal.returns-in_default
 returns-in_default c =
     let could = sym c.could_be_read.ensures ∙ c.if-not-could_be_read.false in is-gives (sym (second-20 _ _ _ _ could (sym c.of.ensures ∙ c.in_default.is)))
 
-pub returns-in_default-judged_shares : goal.returns-in_default-judged_shares
-returns-in_default-judged_shares c =
+pub returns-then-is_err : goal.returns-then-is_err
+returns-then-is_err c =
     let a = c.args in
     let could = sym c.could_be_read.ensures ∙ c.if-not-could_be_read.false in
-    let known = sym c.of.ensures ∙ c.in-Both.is in
+    let known = sym c.of.ensures ∙ c.in-Some.is in
     let judging = c.judged_shares.ensures ∙ ap (λ m. judged_all a.d m a.shares) c.greatest.ensures in
-    is-gives (sym (second-26 _ _ _ _ c.in-Both.depths could known (λ e. c.in_default-judged_shares.not-Fit (judging ∙ e))))
+    is-gives (sym (second-26 _ _ _ _ c.in-Some.depths could known (λ e. no_true (sym (ap is_err (sym (judging ∙ e)) ∙ sym c.is_err.ensures.value ∙ c.if-is_err.true)))))
 
 pub plan_of-requires-clause-in_terms : goal.plan_of-requires-clause-in_terms
-plan_of-requires-clause-in_terms c = ratio-known c.args.bits c.in-Both.depths (sym c.of.ensures ∙ c.in-Both.is)
+plan_of-requires-clause-in_terms c = ratio-known c.args.bits c.in-Some.depths (sym c.of.ensures ∙ c.in-Some.is)
 
 pub codes_of-requires-clause-planned : goal.codes_of-requires-clause-planned
 codes_of-requires-clause-planned c =
     let could = sym c.could_be_read.ensures ∙ c.if-not-could_be_read.false in
-    let known = sym c.of.ensures ∙ c.in-Both.is in
+    let known = sym c.of.ensures ∙ c.in-Some.is in
     planned c.args.d c.args.bits could known c.plan_of.ensures
 
 pub codes_of-requires-clause-weighable : goal.codes_of-requires-clause-weighable
 codes_of-requires-clause-weighable c =
     let a = c.args in
     let could = sym c.could_be_read.ensures ∙ c.if-not-could_be_read.false in
-    let known = sym c.of.ensures ∙ c.in-Both.is in
+    let known = sym c.of.ensures ∙ c.in-Some.is in
     let judging = c.judged_shares.ensures ∙ ap (λ m. judged_all a.d m a.shares) c.greatest.ensures in
-    plan-weighable (planned a.d a.bits could known c.plan_of.ensures) a.shares (all-weighable a.d (raw_m c.in-Both.depths) a.shares (sym judging ∙ c.in-Fit.is))
+    plan-weighable (planned a.d a.bits could known c.plan_of.ensures) a.shares (all-weighable a.d (raw_m c.in-Some.depths) a.shares (sym judging ∙ no_error _ (sym c.is_err.ensures.value ∙ c.if-is_err.false)))
 
 pub returns : goal.returns
 returns c =
     let a = c.args in
     let could = sym c.could_be_read.ensures ∙ c.if-not-could_be_read.false in
-    let known = sym c.of.ensures ∙ c.in-Both.is in
+    let known = sym c.of.ensures ∙ c.in-Some.is in
     let judging = c.judged_shares.ensures ∙ ap (λ m. judged_all a.d m a.shares) c.greatest.ensures in
     is-gives
-    (ap Accepted (c.codes_of.ensures (planned a.d a.bits could known c.plan_of.ensures))
-    ∙ sym (second-0 a.d a.table.now a.bits a.shares c.in-Both.depths could known (sym judging ∙ c.in-Fit.is)))
+    (ap Ok (c.codes_of.ensures (planned a.d a.bits could known c.plan_of.ensures))
+    ∙ sym (second-0 a.d a.table.now a.bits a.shares c.in-Some.depths could known (sym judging ∙ no_error _ (sym c.is_err.ensures.value ∙ c.if-is_err.false))))

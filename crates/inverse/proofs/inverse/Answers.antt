@@ -12,7 +12,6 @@ use Rattle.rules.specs.declared.Bits.{Bits}
 use Rattle.rules.specs.declared.Description.{Description}
 use Rattle.rules.specs.declared.Colour.{Colour}
 use Rattle.rules.specs.declared.Depths.{Depths}
-use Rattle.rules.specs.declared.DepthsFound.TheVariants.{Both}
 use Rattle.rules.specs.declared.Kind.TheVariants.{OneD}
 use Rattle.rules.proofs.Answers.{is-inverts}
 use Rattle.rules.proofs.Inverting.Checks.{inverse-24-cube, inverse-24, inverse-20, inverse-23, inverse-searched}
@@ -24,11 +23,12 @@ use Rattle.colour.proofs.Plans.{planned}
 use Rattle.colour.proofs.Ratios.{ratio-known}
 use Rattle.inverse.specs.Finding.{search_of}
 use Rattle.inverse.proofs.inverse.Goals as goal
+use Rattle.std.specs.Prelude.{Some}
 
 -- The checks run 24, 20, 23; what each has shown goes on to the next, and to the line that is searched.
 -- so there is a line, of the colour that is asked for
 abbrev lined : (d : Description) {table : List ℤ} (bits : Bits) {depths : Depths} {c : Colour} (plan : Plan) (line : Line) → d.kind ≡ OneD → could_be_read d table ≡ true →
-    depths_of bits ≡ Both depths → plan ≡ plan_of d depths → line ≡ line_of plan c → Lined line table
+    depths_of bits ≡ Some depths → plan ≡ plan_of d depths → line ≡ line_of plan c → Lined line table
 lined d {table} bits plan line one_d could known made is = record {
   plan = plan;
   planned = planned d bits could known made;
@@ -51,27 +51,27 @@ returns-in_default-of c =
 pub returns-then-greatest-aim : goal.returns-then-greatest-aim
 returns-then-greatest-aim c =
     let could = sym c.could_be_read.ensures ∙ c.if-not-could_be_read.false in
-    let known = sym c.of.ensures ∙ c.in-Both.is in
+    let known = sym c.of.ensures ∙ c.in-Some.is in
     is-inverts
     (c.untried-then-greatest-aim.ensures
-    ∙ sym (inverse-23 _ _ _ _ c.in-OneD.is could c.in-Both.depths known (subst (λ m. m < c.args.aim.wanted) c.greatest.ensures c.if-greatest-aim.true)))
+    ∙ sym (inverse-23 _ _ _ _ c.in-OneD.is could c.in-Some.depths known (subst (λ m. m < c.args.aim.wanted) c.greatest.ensures c.if-greatest-aim.true)))
 
 pub plan_of-requires-clause-in_terms : goal.plan_of-requires-clause-in_terms
-plan_of-requires-clause-in_terms c = ratio-known c.args.bits c.in-Both.depths (sym c.of.ensures ∙ c.in-Both.is)
+plan_of-requires-clause-in_terms c = ratio-known c.args.bits c.in-Some.depths (sym c.of.ensures ∙ c.in-Some.is)
 
 pub search-requires : goal.search-requires
 search-requires c =
     let could = sym c.could_be_read.ensures ∙ c.if-not-could_be_read.false in
-    let known = sym c.of.ensures ∙ c.in-Both.is in
+    let known = sym c.of.ensures ∙ c.in-Some.is in
     lined c.args.d c.args.bits c.plan_of.result c.line_of-line.result c.in-OneD.is could known c.plan_of.ensures c.line_of-line.ensures
 
 pub returns : goal.returns
 returns c =
     let a = c.args in
     let table = a.table.now in
-    let depths = c.in-Both.depths in
+    let depths = c.in-Some.depths in
     let could = sym c.could_be_read.ensures ∙ c.if-not-could_be_read.false in
-    let known = sym c.of.ensures ∙ c.in-Both.is in
+    let known = sym c.of.ensures ∙ c.in-Some.is in
     let line = lined c.args.d c.args.bits c.plan_of.result c.line_of-line.result c.in-OneD.is could known c.plan_of.ensures c.line_of-line.ensures in
     let inside : a.aim.wanted ≤ corrected_m depths = subst (λ m. a.aim.wanted ≤ m) c.greatest.ensures c.if-greatest-aim.false in
     is-inverts

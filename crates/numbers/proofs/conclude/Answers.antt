@@ -3,10 +3,10 @@ use mathlib.Core.Path.{ap, ◌∙◌}
 use native.Mathlib.Omega.{arith}
 use borrow.Author.Tests.{lt-ltb, le-ltb, eq-eqb, ne_eqb}
 use lib.IntN.{pos, +ℤ_idl}
-use Rattle.rules.specs.declared.Number.TheVariants.{Value}
 use Rattle.whole.proofs.Held.{Held, cast, sub}
 use Rattle.numbers.specs.Cuts.{answer, most_limit}
 use Rattle.numbers.proofs.conclude.Goals as goal
+use Rattle.std.specs.Prelude.{Ok}
 
 -- The tests in the order of the definition; a quotient within the limit fits an i64, and so does its negative.
 zero_held : Held 0 (pos 0) 0
@@ -23,13 +23,13 @@ pub returns-then-negative : goal.returns-then-negative
 unfolding answer
 returns-then-negative c =
     rw (le-ltb _ _ c.before.before.if-limit-q.false, eq-eqb _ _ c.before.if-r-eq0.true, c.if-negative.true)
-    (ap Value ((sub zero_held (held c.before.before.before.args.q (omega arith)) (omega arith)).reads ∙ +ℤ_idl _))
+    (ap Ok ((sub zero_held (held c.before.before.before.args.q (omega arith)) (omega arith)).reads ∙ +ℤ_idl _))
 
 pub returns-then-r-eq0 : goal.returns-then-r-eq0
 unfolding answer
 returns-then-r-eq0 c =
     rw (le-ltb _ _ c.before.before.if-limit-q.false, eq-eqb _ _ c.before.if-r-eq0.true, c.if-negative.false)
-    (ap Value (held c.before.before.before.args.q (omega arith)).reads)
+    (ap Ok (held c.before.before.before.args.q (omega arith)).reads)
 
 pub returns-then-q-limit : goal.returns-then-q-limit
 unfolding answer

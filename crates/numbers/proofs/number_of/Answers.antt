@@ -1,7 +1,6 @@
 use Prim.Native.Nat.{ℕ, ◌-◌, ◌≤◌}
 use mathlib.Core.Path.{sym, ap, ◌∙◌}
 use mathlib.Core.List.{List}
-use mathlib.Core.Option.{some}
 use native.Mathlib.Omega.{arith}
 use lib.ListN.{length, drop, length-drop, length-take}
 use Rattle.rules.specs.Reading.Numbers.{number_of, value_of}
@@ -9,6 +8,7 @@ use Rattle.numbers.specs.Parts.{numeral, part}
 use Rattle.numbers.proofs.Grammar.{numeral-digits}
 use Rattle.scan.proofs.Runs.{part_to_end}
 use Rattle.numbers.proofs.number_of.Goals as goal
+use Rattle.std.specs.Prelude.{Some}
 
 -- No numeral is no number; else the value of the numeral that stands where the grammar found it.
 -- a part is no longer than the word
@@ -40,5 +40,5 @@ returns c =
     let p = c.in-Some.p in
     let a = c.args in
     c.value.ensures
-    ∙ ap (λ l. value_of a.places a.limit (some (numeral p.negative (part w p.whole p.point) (part w p.fraction p.end) p.down l))) (part_to_end w p.power)
+    ∙ ap (λ l. value_of a.places a.limit (Some (numeral p.negative (part w p.whole p.point) (part w p.fraction p.end) p.down l))) (part_to_end w p.power)
     ∙ ap (value_of a.places a.limit) c.in-Some.ensures.says

@@ -2,7 +2,6 @@ use Prim.Native.Nat.{ℕ, ◌+◌}
 use mathlib.Core.Path.{◌≡◌, refl, sym, ap, ◌∙◌}
 use mathlib.Core.Bool.{Bool, true, cond, ◌||◌}
 use mathlib.Core.List.{List}
-use mathlib.Core.Option.{Option, none}
 use native.Mathlib.Omega.{arith}
 use borrow.Author.Tests.{le-ltb, lt-ltb}
 use lib.Dec.{ltb}
@@ -19,12 +18,13 @@ use Rattle.scan.specs.RunEnds.{run_end}
 use Rattle.scan.proofs.Runs.{part_to_end}
 use Rattle.numbers.proofs.numeral_in.Goals as goal
 use Rattle.numbers.proofs.numeral_in.Goals.{then-whole-point, else-whole-point}
+use Rattle.std.specs.Prelude.{None, Option}
 
 -- Each place is found from the one before; what stands between them is what the definition reads.
 read : (w : List ℕ) (negative : Bool) (a b : ℕ) (p : Bool) (d : ℕ) (there : Bool) → negative ≡ starts minus_byte w → drop a w ≡ unsigned w → b ≡ run_end digit w a
     → p ≡ starts point_byte (part w b (length w)) → d ≡ run_end digit w (b + bool_byte p) → there ≡ (ltb a b || ltb (b + bool_byte p) d)
     → (e : Option Exponent) → e ≡ exponent_of (part w d (length w))
-    → cond there (assemble true negative (part w a b) (part w (b + bool_byte p) d) e) none ≡ numeral_of w
+    → cond there (assemble true negative (part w a b) (part w (b + bool_byte p) d) e) None ≡ numeral_of w
 read w negative a b p d there sign skip whole-end point end enough e f =
     rw (enough, f, part_to_end w d) (numeral-by w negative a b d p sign skip whole-end (point ∙ ap (starts point_byte) (part_to_end w b)) end)
 
@@ -64,7 +64,7 @@ returns-in_err-down-clause-says c =
     let r =
     read c.args.w.now c.starts_with-negative.result a b c.starts_with-pointed.result c.run_end-end.result c.if-whole-point.there
     c.starts_with-negative.ensures c.sign_length-whole.ensures.skips c.run_end-point.ensures.ends c.starts_with-pointed.ensures c.run_end-end.ensures.ends
-    tested none (c.in_err-down.ensures.says)
+    tested None (c.in_err-down.ensures.says)
     in
     rw c.from_residual.ensures (rw c.if-not-there.false at r)
 

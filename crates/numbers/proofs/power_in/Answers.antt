@@ -2,7 +2,6 @@ use Prim.Native.Nat.{ℕ, ◌+◌}
 use mathlib.Core.Path.{◌≡◌, sym, ap, ◌∙◌}
 use mathlib.Core.Bool.{Bool, cond, ◌&&◌, and-false}
 use mathlib.Core.List.{List}
-use mathlib.Core.Option.{none, some}
 use native.Mathlib.Omega.{arith}
 use lib.ListN.{length, get_or, drop}
 use Rattle.rules.specs.Reading.Lines.{e_byte, minus_byte, starts}
@@ -12,13 +11,14 @@ use Rattle.numbers.specs.Parts.{part}
 use Rattle.numbers.proofs.Grammar.{exponent-absent, exponent-by, exponent-there}
 use Rattle.scan.proofs.Runs.{part_to_end}
 use Rattle.numbers.proofs.power_in.Goals as goal
+use Rattle.std.specs.Prelude.{None, Some}
 
 -- No text is no exponent; else the tests in the order of the definition, on what stands after the first byte.
 -- what the tests say together
 read : (e : List ℕ) (marked down whole : Bool) (n : ℕ) → (length e ≡ 0 → ⊥)
     → let s = part e 1 (length e) in
     marked ≡ e_byte (get_or e 0 0) → down ≡ starts minus_byte s → drop n s ≡ unsigned s → whole ≡ digits (part s n (length s))
-    → cond (marked && whole) (some (record { down = down; power = drop (1 + n) e })) none ≡ exponent_of e
+    → cond (marked && whole) (Some (record { down = down; power = drop (1 + n) e })) None ≡ exponent_of e
 read e marked down whole n h m d u w =
     let t = part_to_end e 1 in
     exponent-by e marked down whole n h m (d ∙ ap (starts minus_byte) t) (rw t at u)

@@ -13,9 +13,7 @@ use Rattle.rules.specs.Picturing.{each_pixel, picture, output_after}
 use Rattle.rules.specs.Promises.{Pictures}
 use Rattle.rules.specs.declared.Bits.{Bits}
 use Rattle.rules.specs.declared.Depths.{Depths}
-use Rattle.rules.specs.declared.DepthsFound.TheVariants.{Both}
 use Rattle.rules.specs.declared.Description.{Description}
-use Rattle.rules.specs.declared.Picture.TheVariants.{Accepted, Refused}
 use Rattle.rules.specs.declared.Refusal.{Refusal}
 use Rattle.rules.proofs.Picturing.Checks.{within_all, picture-24, picture-20, picture-21, picture-22, picture-23, picture-0, corrected-is}
 use Rattle.rules.proofs.Answers.{is-pictures}
@@ -23,18 +21,19 @@ use Rattle.colour.proofs.Plans.{planned}
 use Rattle.colour.proofs.Ratios.{ratio-known}
 use Rattle.picture.specs.Filling.{Fillable}
 use Rattle.picture.proofs.picture.Goals as goal
+use Rattle.std.specs.Prelude.{Err, Ok, Some}
 
 -- The checks run 24, 20, 21, 22, 23; what each has shown goes on to the next, and what all have shown to the plan and the loop that writes.
 -- ---- an answer keeps the promise
 module _ {d : Description} {table : List ℤ} {bits : Bits} {src dst : List ℕ} where
   -- a refusal that writes nothing
-  refuses : {r : Refusal} → picture d table bits src (length dst) ≡ Refused r → Pictures d table bits src dst (Refused r) dst
+  refuses : {r : Refusal} → picture d table bits src (length dst) ≡ Err r → Pictures d table bits src dst (Err r) dst
   unfolding output_after
   refuses e = is-pictures (sym e) (ap (output_after d table bits src dst) (sym e))
 
   -- acceptance, with what the rule makes of each pixel in front of what was there
-  accepts : {depths : Depths} {dst' : List ℕ} → could_be_read d table ≡ true → depths_of bits ≡ Both depths → Fillable src (length dst) → within_all (raw_m depths) src ≡ true
-      → dst' ≡ each_pixel (correct d table depths) src ++ drop (length src) dst → Pictures d table bits src dst Accepted dst'
+  accepts : {depths : Depths} {dst' : List ℕ} → could_be_read d table ≡ true → depths_of bits ≡ Some depths → Fillable src (length dst) → within_all (raw_m depths) src ≡ true
+      → dst' ≡ each_pixel (correct d table depths) src ++ drop (length src) dst → Pictures d table bits src dst (Ok tt) dst'
   unfolding output_after
   accepts {depths} could known s inside made =
       let e = picture-0 d table bits src (length dst) depths could known s.whole s.room inside in
@@ -57,32 +56,32 @@ returns-in_default c = refuses (picture-20 _ _ _ _ _ (sym c.could_be_read.ensure
 pub returns-then-src-ne0 : goal.returns-then-src-ne0
 returns-then-src-ne0 c =
     refuses
-    (picture-21 _ _ _ _ _ c.in-Both.depths (sym c.could_be_read.ensures ∙ c.if-not-could_be_read.false) (sym c.of.ensures ∙ c.in-Both.is) c.if-src-ne0.true)
+    (picture-21 _ _ _ _ _ c.in-Some.depths (sym c.could_be_read.ensures ∙ c.if-not-could_be_read.false) (sym c.of.ensures ∙ c.in-Some.is) c.if-src-ne0.true)
 
 pub returns-then-dst-src : goal.returns-then-dst-src
 returns-then-dst-src c =
     refuses
-    (picture-22 _ _ _ _ _ c.in-Both.depths (sym c.could_be_read.ensures ∙ c.if-not-could_be_read.false) (sym c.of.ensures ∙ c.in-Both.is) c.if-src-ne0.false c.if-dst-src.true)
+    (picture-22 _ _ _ _ _ c.in-Some.depths (sym c.could_be_read.ensures ∙ c.if-not-could_be_read.false) (sym c.of.ensures ∙ c.in-Some.is) c.if-src-ne0.false c.if-dst-src.true)
 
 pub returns-then-greatest : goal.returns-then-greatest
 returns-then-greatest c =
     refuses
-    (picture-23 _ _ _ _ _ c.in-Both.depths (sym c.could_be_read.ensures ∙ c.if-not-could_be_read.false) (sym c.of.ensures ∙ c.in-Both.is) c.if-src-ne0.false c.if-dst-src.false
-    (sym (asked-within c.args.src.now c.in-Both.depths _ c.greatest-2.ensures c.greatest.ensures) ∙ lt-leb _ _ c.if-greatest.true))
+    (picture-23 _ _ _ _ _ c.in-Some.depths (sym c.could_be_read.ensures ∙ c.if-not-could_be_read.false) (sym c.of.ensures ∙ c.in-Some.is) c.if-src-ne0.false c.if-dst-src.false
+    (sym (asked-within c.args.src.now c.in-Some.depths _ c.greatest-2.ensures c.greatest.ensures) ∙ lt-leb _ _ c.if-greatest.true))
 
 pub plan_of-requires-clause-in_terms : goal.plan_of-requires-clause-in_terms
-plan_of-requires-clause-in_terms c = ratio-known c.args.bits c.in-Both.depths (sym c.of.ensures ∙ c.in-Both.is)
+plan_of-requires-clause-in_terms c = ratio-known c.args.bits c.in-Some.depths (sym c.of.ensures ∙ c.in-Some.is)
 
 pub correct_all-requires-clause-depths_value : goal.correct_all-requires-clause-depths_value
 correct_all-requires-clause-depths_value c = (
-  planned c.args.d c.args.bits (sym c.could_be_read.ensures ∙ c.if-not-could_be_read.false) (sym c.of.ensures ∙ c.in-Both.is) c.plan_of.ensures,
-  (refl, sym (asked-within c.args.src.now c.in-Both.depths _ c.greatest-2.ensures c.greatest.ensures) ∙ le-leb _ _ c.if-greatest.false),
+  planned c.args.d c.args.bits (sym c.could_be_read.ensures ∙ c.if-not-could_be_read.false) (sym c.of.ensures ∙ c.in-Some.is) c.plan_of.ensures,
+  (refl, sym (asked-within c.args.src.now c.in-Some.depths _ c.greatest-2.ensures c.greatest.ensures) ∙ le-leb _ _ c.if-greatest.false),
 )
 
 pub returns : goal.returns
 returns c =
     let could = sym c.could_be_read.ensures ∙ c.if-not-could_be_read.false in
-    let known = sym c.of.ensures ∙ c.in-Both.is in
+    let known = sym c.of.ensures ∙ c.in-Some.is in
     accepts could known (record { whole = c.if-src-ne0.false; room = c.if-dst-src.false })
-    (sym (asked-within c.args.src.now c.in-Both.depths _ c.greatest-2.ensures c.greatest.ensures) ∙ le-leb _ _ c.if-greatest.false)
+    (sym (asked-within c.args.src.now c.in-Some.depths _ c.greatest-2.ensures c.greatest.ensures) ∙ le-leb _ _ c.if-greatest.false)
     (c.correct_all.ensures (planned c.args.d c.args.bits could known c.plan_of.ensures) refl)

@@ -20,7 +20,7 @@ unfolding table_after
 returns c =
     let s = c.args.file.now in
     let old = c.args.table.now in
-    let a : Accepts s (length old) = record { description = c.in-Accepted.field-0; accepted = sym c.judge_file-answer.ensures ∙ c.in-Accepted.is } in
+    let a : Accepts s (length old) = record { description = c.in-Ok.field-0; accepted = sym c.judge_file-answer.ensures ∙ c.in-Ok.is } in
     is-reads c.judge_file-answer.ensures
     (c.fill.ensures
     ∙ splice_front old (samples_of (lines_of s))

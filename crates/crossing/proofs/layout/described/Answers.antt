@@ -1,7 +1,5 @@
 use mathlib.Core.Path.{◌≡◌, refl, sym, ◌∙◌}
-use Rattle.std.specs.Prelude.{List, ℤ, None, Some}
-use Rattle.std.proofs.Math.Option.{none, some}
-use Rattle.std.proofs.Math.Option as M
+use Rattle.std.specs.Prelude.{List, ℤ, None, Some, Option}
 use Rattle.rules.specs.Boundary.{described_in, description_in, kind_in}
 use Rattle.rules.specs.declared.Kind.{Kind}
 use Rattle.crossing.specs.Layout.{crossed}
@@ -9,15 +7,15 @@ use Rattle.crossing.proofs.layout.described.Goals as goal
 
 -- A description is found exactly if its kind is.
 module _ (eleven : List ℤ) where
-  unknown : (k : M.Option Kind) → kind_in eleven ≡ k → None ≡ crossed k → crossed (described_in eleven) ≡ None
+  unknown : (k : Option Kind) → kind_in eleven ≡ k → None ≡ crossed k → crossed (described_in eleven) ≡ None
   unfolding described_in
-  unknown none so e = rw so
-  unknown (some k) so e = cc
+  unknown None so e = rw so
+  unknown (Some k) so e = cc
 
-  known : (k : M.Option Kind) (kind : Kind) → kind_in eleven ≡ k → Some kind ≡ crossed k → crossed (described_in eleven) ≡ Some (description_in eleven kind)
+  known : (k : Option Kind) (kind : Kind) → kind_in eleven ≡ k → Some kind ≡ crossed k → crossed (described_in eleven) ≡ Some (description_in eleven kind)
   unfolding described_in
-  known none kind so e = cc
-  known (some k) kind so e = let same : k ≡ kind = cc in rw (so, same)
+  known None kind so e = cc
+  known (Some k) kind so e = let same : k ≡ kind = cc in rw (so, same)
 
 pub returns-in_err-kind : goal.returns-in_err-kind
 returns-in_err-kind c = c.from_residual.ensures ∙ sym (unknown _ _ refl c.in_err-kind.ensures)

@@ -2,10 +2,10 @@ use Rattle.desk.specs.Outcomes.{outcome_of}
 use borrow.Author.Rules.{rules}
 use Rattle.desk.proofs.reports.outcome_of.Goals as goal
 
-pub returns-in-Accepted : goal.returns-in-Accepted
+pub returns-in-Ok : goal.returns-in-Ok
 unfolding outcome_of
-returns-in-Accepted c = search rules
+returns-in-Ok c = search rules
 
-pub returns-in-Refused : goal.returns-in-Refused
+pub returns-in-Err : goal.returns-in-Err
 unfolding outcome_of
-returns-in-Refused c = search rules
+returns-in-Err c = search rules

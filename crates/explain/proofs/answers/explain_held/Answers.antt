@@ -12,14 +12,14 @@ returns-in_default c =
 
 pub show_pixel_look-written-requires : goal.show_pixel_look-written-requires
 show_pixel_look-written-requires c =
-    seen c.look.ensures c.in-Accepted.is c.in-Both.depths (sym c.of.ensures ∙ c.in-Both.is)
+    seen c.look.ensures c.in-Ok.is c.in-Some.depths (sym c.of.ensures ∙ c.in-Some.is)
 
-pub returns-in-Refused : goal.returns-in-Refused
+pub returns-in-Err : goal.returns-in-Err
 unfolding looked_as
-returns-in-Refused c =
-    ends-refused looked_as (looks-is c.look.ensures) c.refuse-in-Refused.ensures (ap looked_as c.in-Refused.is)
+returns-in-Err c =
+    ends-refused looked_as (looks-is c.look.ensures) c.refuse-in-Err.ensures (ap looked_as c.in-Err.is)
 
-pub returns-in-Accepted : goal.returns-in-Accepted
+pub returns-in-Ok : goal.returns-in-Ok
 unfolding looked_as
-returns-in-Accepted c =
-    ends-shown looked_as (looks-is c.look.ensures) (is_ok c.show_pixel_look-written.result) c.done_if.result c.done_if.ensures (ap looked_as c.in-Accepted.is)
+returns-in-Ok c =
+    ends-shown looked_as (looks-is c.look.ensures) (is_ok c.show_pixel_look-written.result) c.done_if.result c.done_if.ensures (ap looked_as c.in-Ok.is)

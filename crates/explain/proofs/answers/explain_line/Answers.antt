@@ -1,6 +1,5 @@
-use Rattle.std.specs.Prelude.{is_ok}
+use Rattle.std.specs.Prelude.{is_ok, Err}
 use mathlib.Core.Path.{sym, ap, ◌∙◌}
-use Rattle.rules.specs.declared.SecondHalf.TheVariants.{Refused}
 use Rattle.rules.proofs.Answers.{gives-is}
 use Rattle.explain.specs.Questions.{given_as}
 use Rattle.explain.proofs.Ends.{line-unknown, ends-refused, ends-shown}
@@ -13,18 +12,18 @@ returns-in_default c =
 
 pub refuse_line-requires : goal.refuse_line-requires
 refuse_line-requires c =
-    λ e. refused-readable c.second_half.ensures (c.in-Refused.is ∙ ap Refused e)
+    λ e. refused-readable c.second_half.ensures (c.in-Err.is ∙ ap Err e)
 
 pub show_look-written-requires : goal.show_look-written-requires
 show_look-written-requires c =
-    line-seen c.second_half.ensures c.in-Accepted.is c.in-Both.depths (sym c.of.ensures ∙ c.in-Both.is)
+    line-seen c.second_half.ensures c.in-Ok.is c.in-Some.depths (sym c.of.ensures ∙ c.in-Some.is)
 
-pub returns-in-Refused : goal.returns-in-Refused
+pub returns-in-Err : goal.returns-in-Err
 unfolding given_as
-returns-in-Refused c =
-    ends-refused given_as (gives-is c.second_half.ensures) c.refuse_line.ensures (ap given_as c.in-Refused.is)
+returns-in-Err c =
+    ends-refused given_as (gives-is c.second_half.ensures) c.refuse_line.ensures (ap given_as c.in-Err.is)
 
-pub returns-in-Accepted : goal.returns-in-Accepted
+pub returns-in-Ok : goal.returns-in-Ok
 unfolding given_as
-returns-in-Accepted c =
-    ends-shown given_as (gives-is c.second_half.ensures) (is_ok c.show_look-written.result) c.done_if.result c.done_if.ensures (ap given_as c.in-Accepted.is)
+returns-in-Ok c =
+    ends-shown given_as (gives-is c.second_half.ensures) (is_ok c.show_look-written.result) c.done_if.result c.done_if.ensures (ap given_as c.in-Ok.is)

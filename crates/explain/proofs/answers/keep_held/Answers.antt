@@ -5,12 +5,12 @@ use Rattle.explain.specs.Questions.{kept_as}
 use Rattle.explain.proofs.Ends.{ends-refused, ends-shown}
 use Rattle.explain.proofs.answers.keep_held.Goals as goal
 
-pub returns-in-Refused : goal.returns-in-Refused
+pub returns-in-Err : goal.returns-in-Err
 unfolding kept_as
-returns-in-Refused c =
-    ends-refused kept_as (finds-is c.first_half.ensures) c.refuse.ensures (ap kept_as c.in-Refused.is)
+returns-in-Err c =
+    ends-refused kept_as (finds-is c.first_half.ensures) c.refuse.ensures (ap kept_as c.in-Err.is)
 
-pub returns-in-Accepted : goal.returns-in-Accepted
+pub returns-in-Ok : goal.returns-in-Ok
 unfolding kept_as
-returns-in-Accepted c =
-    ends-shown kept_as (finds-is c.first_half.ensures) (is_ok c.show_line-written.result) c.done_if.result c.done_if.ensures (ap kept_as c.in-Accepted.is)
+returns-in-Ok c =
+    ends-shown kept_as (finds-is c.first_half.ensures) (is_ok c.show_line-written.result) c.done_if.result c.done_if.ensures (ap kept_as c.in-Ok.is)

@@ -9,10 +9,10 @@ returns-in_default c = λ corrected aim h. c.untried.ensures ∙ beyond-24-cube 
 pub returns-then-not-could_be_read : goal.returns-then-not-could_be_read
 returns-then-not-could_be_read c = λ corrected aim h. c.untried-then-not-could_be_read.ensures ∙ beyond-24 _ _ _ corrected aim h (sym c.could_be_read.ensures ∙ c.if-not-could_be_read.true)
 
-pub returns-in-Both : goal.returns-in-Both
-returns-in-Both c = λ corrected aim h.
-    c.untried-in-Both.ensures ∙ beyond-23 _ _ _ corrected aim h c.in-OneD.is (sym c.could_be_read.ensures ∙ c.if-not-could_be_read.false) _ (sym c.of.ensures ∙ c.in-Both.is)
+pub returns-in-Some : goal.returns-in-Some
+returns-in-Some c = λ corrected aim h.
+    c.untried-in-Some.ensures ∙ beyond-23 _ _ _ corrected aim h c.in-OneD.is (sym c.could_be_read.ensures ∙ c.if-not-could_be_read.false) _ (sym c.of.ensures ∙ c.in-Some.is)
 
-pub returns-in-NotBoth : goal.returns-in-NotBoth
-returns-in-NotBoth c = λ corrected aim h.
-    c.untried-in-NotBoth.ensures ∙ beyond-20 _ _ _ corrected aim h c.in-OneD.is (sym c.could_be_read.ensures ∙ c.if-not-could_be_read.false) (sym c.of.ensures ∙ c.in-NotBoth.is)
+pub returns-in-None : goal.returns-in-None
+returns-in-None c = λ corrected aim h.
+    c.untried-in-None.ensures ∙ beyond-20 _ _ _ corrected aim h c.in-OneD.is (sym c.could_be_read.ensures ∙ c.if-not-could_be_read.false) (sym c.of.ensures ∙ c.in-None.is)

@@ -1,13 +1,13 @@
 use mathlib.Core.Path.{◌≡◌, refl, ap, ◌∙◌}
 use mathlib.Core.Bool.{Bool, true, false, cond}
-use mathlib.Core.Option.{none, some}
 use Rattle.rules.specs.Reading.Judge.{Fault, first, head_fault, need, order_fault}
 use Rattle.rules.specs.declared.Refusal.TheVariants.{TooManyRows}
 use Rattle.reading.specs.View.{view}
 use Rattle.reading.proofs.checks.data_fault.Goals as goal
+use Rattle.std.specs.Prelude.{None, Some}
 
 -- One row more where rows are left to come, and else 14.
-room-needed : (t : Bool) → ◌≡◌ {A = Fault} (cond t none (some TooManyRows)) (need t TooManyRows none)
+room-needed : (t : Bool) → ◌≡◌ {A = Fault} (cond t None (Some TooManyRows)) (need t TooManyRows None)
 unfolding need
 room-needed true = refl
 room-needed false = refl

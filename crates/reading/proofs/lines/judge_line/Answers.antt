@@ -4,12 +4,12 @@ use mathlib.Core.List.{List}
 use Rattle.std.proofs.lemmas.Result.{err_from_is_err_and}
 use Rattle.rules.specs.Reading.Contents.{content_by, content_of, form_of}
 use Rattle.rules.specs.Reading.Judge.{Fault, State, go, judge, order_fault, take_in, unless}
-use Rattle.rules.specs.declared.Content.{Content}
 use Rattle.rules.specs.declared.Form.{Form}
 use Rattle.reading.specs.View.{view}
 use Rattle.reading.proofs.Fits.{fit}
 use Rattle.reading.proofs.Welcomed.{short-line, welcomed}
 use Rattle.reading.proofs.lines.judge_line.Goals as goal
+use Rattle.rules.specs.Results.{Content}
 
 -- The checks in the judge's order: the first fault is the verdict, and a line with none adds its item, which the state can take in.
 -- the fault of a line's place, and what it says, by the form that was found
@@ -38,17 +38,17 @@ pub with_item-requires : goal.with_item-requires
 with_item-requires c =
     let l = c.args.l.now in
     welcomed c.args.places c.args.place l _ (sym c.in_ok-byte_fault.ensures) (place-fault l c.args.places (view c.args.st) c.in_ok-order_fault.ensures c.form_of-form.ensures)
-    (said l c.args.place c.in-Says.ensures c.form_of-form.ensures) (fit c.args.st)
+    (said l c.args.place c.in-Ok.ensures c.form_of-form.ensures) (fit c.args.st)
 
-pub returns-in-Wrong : goal.returns-in-Wrong
+pub returns-in-Err : goal.returns-in-Err
 unfolding judge unless take_in
-returns-in-Wrong c =
+returns-in-Err c =
     let l = c.args.l.now in
-    rw (sym c.in_ok-byte_fault.ensures, place-fault l c.args.places (view c.args.st) c.in_ok-order_fault.ensures c.form_of-form.ensures, said l c.args.place c.in-Wrong.ensures c.form_of-form.ensures)
+    rw (sym c.in_ok-byte_fault.ensures, place-fault l c.args.places (view c.args.st) c.in_ok-order_fault.ensures c.form_of-form.ensures, said l c.args.place c.in-Err.ensures c.form_of-form.ensures)
 
-pub returns-in-Says : goal.returns-in-Says
+pub returns-in-Ok : goal.returns-in-Ok
 unfolding judge unless take_in
-returns-in-Says c =
+returns-in-Ok c =
     let l = c.args.l.now in
-    rw (sym c.in_ok-byte_fault.ensures, place-fault l c.args.places (view c.args.st) c.in_ok-order_fault.ensures c.form_of-form.ensures, said l c.args.place c.in-Says.ensures c.form_of-form.ensures)
+    rw (sym c.in_ok-byte_fault.ensures, place-fault l c.args.places (view c.args.st) c.in_ok-order_fault.ensures c.form_of-form.ensures, said l c.args.place c.in-Ok.ensures c.form_of-form.ensures)
     (ap go c.with_item.ensures)
