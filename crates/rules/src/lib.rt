@@ -10,6 +10,7 @@ mod words;
 // ---- units and depths
 
 // A domain bound, in thousandths.
+// Stays: this and TenMillionths are no `Units<PLACES>`: their limits don't follow from their places, so that each would be a parameter too.
 #[derive(Clone, Copy, Debug, PartialEq, Eq)]
 pub struct Thousandths(pub i64);
 
@@ -175,6 +176,7 @@ pub struct Domain {
 }
 
 // Whether there is a title, its first byte's place in the file, counted from 0, and its length.
+// Stays: a flag, and no Option: a description that C gives may have any place and length where there is no title, and has them still (`title_at`).
 #[derive(Clone, Copy, Debug, PartialEq, Eq)]
 pub struct Title {
     pub there: bool,
@@ -336,6 +338,7 @@ pub enum Refusal {
 
 impl Refusal {
     // The number of document 01's table, and of the requests that add to it.
+    // Stays: a number for a refusal, since document 01 and the C calls have these (`refusal_number`).
     #[tactic(auto, unfolding(crate::specs::Answers::refusal_number))]
     pub fn number(self) -> u32
         ensures { result ≡ refusal_number self }
