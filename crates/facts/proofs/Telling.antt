@@ -16,6 +16,7 @@ use Rattle.rules.specs.declared.Codes.{Codes}
 use Rattle.rules.specs.declared.Colour.{Colour}
 use Rattle.rules.specs.declared.Depths.{Depths}
 use Rattle.rules.specs.declared.Description.{Description}
+use Rattle.rules.specs.declared.Looked.{Looked}
 use Rattle.rules.specs.declared.Shares.{Shares}
 use Rattle.rules.proofs.Answers.{looks-is, refused-not-0}
 use Rattle.rules.proofs.Looking.Checks.{look-passed, look-joins}
@@ -80,6 +81,11 @@ module _ (d : Description) (table : List ℤ) (depths : Depths) (shares : Shares
 
 -- ---- of a look that is accepted
 
+-- what a look answers, if it is accepted
+abbrev looked_or : Looked → Look → Looked
+looked_or other (Ok x) = x
+looked_or other (Err _) = other
+
 module _ {d : Description} {table : List ℤ} {bits : Bits} {pixel : Codes} {r : Look} (l : Looks d table bits pixel r)
     {codes : Codes} {shares : Shares} (e : r ≡ look_of codes shares) (depths : Depths) (known : depths_of bits ≡ Some depths) where
   -- its codes are those of its rows and weights
@@ -91,9 +97,8 @@ module _ {d : Description} {table : List ℤ} {bits : Bits} {pixel : Codes} {r :
 
       by : (f : FirstHalf) → look_by d table depths f ≡ look_of codes shares → codes ≡ codes_by d table depths shares
       by (Ok found) q =
-          let same : found ≡ shares = cc in
-          let made : codes_by d table depths found ≡ codes = cc in
-          sym made ∙ ap (codes_by d table depths) same
+          let same = ap (looked_or (record { codes = codes; shares = shares })) q in
+          sym (ap (λ x. x.codes) same) ∙ ap (λ x. codes_by d table depths x.shares) same
       by (Err reason) q = absurd (refused-not-0 reason (ap look_number q))
 
   pub look-told : (c : Colour) {given : ℕ} {f : Facts} → FactsOf d table depths shares c given f

@@ -34,7 +34,7 @@ use Rattle.colour.proofs.Weighing.{row-stands, rows-stand, carried-is}
 use Rattle.halves.specs.Listed.{listed, four_of}
 use Rattle.halves.specs.declared.fours.Four.{Four}
 use Rattle.placing.specs.Shown.{Summed}
-use Rattle.std.specs.Prelude.{Ok, Some}
+use Rattle.std.specs.Prelude.{Err, Ok, Some}
 use Rattle.rules.specs.Results.{Look, look_of}
 
 -- ---- two that carry nothing
@@ -96,6 +96,11 @@ module _ (d : Description) (table : List ℤ) (depths : Depths) (could : could_b
   pub fit-summed : {shares : Shares} → judged_all d (raw_m depths) shares ≡ (Ok tt) → Summed d table depths shares
   fit-summed {shares} e = record { could = could; deep = deep.0; most = deep.1; weighable = all-weighable d (raw_m depths) shares e }
 
+-- the rows and weights of a look, if it is accepted
+abbrev shares_or : Shares → Look → Shares
+shares_or other (Ok x) = x.shares
+shares_or other (Err _) = other
+
 -- of a look that is accepted
 pub look-summed : {d : Description} {table : List ℤ} {bits : Bits} {pixel : Codes} {r : Look} → Looks d table bits pixel r
     → {codes : Codes} {shares : Shares} → r ≡ look_of codes shares → (depths : Depths) → depths_of bits ≡ Some depths → Summed d table depths shares
@@ -111,5 +116,4 @@ look-summed {d} {table} {bits} {pixel} l {codes} {shares} e depths known =
     shares-shown : shares ≡ shown d (raw_m depths) pixel d.kind
     shares-shown =
         let q = sym e ∙ looks-is l ∙ look-0 d table bits pixel passed.depths passed.could passed.known passed.inside in
-        let found : shares ≡ shown d (raw_m passed.depths) pixel d.kind = cc in
-        found ∙ ap (λ x. shown d (raw_m x) pixel d.kind) depths-same
+        ap (shares_or shares) q ∙ ap (λ x. shown d (raw_m x) pixel d.kind) depths-same
