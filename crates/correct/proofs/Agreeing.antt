@@ -15,9 +15,8 @@ use Rattle.ppm.specs.Written.{header_text}
 use Rattle.ppm.specs.declared.depth.Scale.{Scale}
 use Rattle.ppm.specs.declared.header.Frame.{Frame}
 use Rattle.ppm.proofs.Scaling.{scale-fits}
-use Rattle.desk.specs.declared.arguments.Last.{Last}
 use Rattle.correct.specs.Headers.{longest_header}
-use Rattle.correct.specs.Jobs.{Agrees, bits_in, depths_in, job_of, maxval_wanted, with_corrected, with_picture, with_raw}
+use Rattle.correct.specs.Jobs.{Wanted, Agrees, bits_in, depths_in, job_of, maxval_wanted, with_corrected, with_picture, with_raw}
 use Rattle.correct.specs.declared.jobs.Job.{Job}
 use Rattle.correct.specs.declared.jobs.NoDepth.{NoDepth}
 
@@ -37,7 +36,7 @@ module _ (frame : Frame) (sized : SizedFrame frame) (maxval : ℕ) where
   picture-agrees (Some raw) e = output-agrees raw e (scale_of maxval) refl
   picture-agrees None e = tt
 
-pub job-agrees : (frame : Frame) (wanted : Last) {job : Job} → SizedFrame frame → job_of frame wanted ≡ Ok job → Agrees job
+pub job-agrees : (frame : Frame) (wanted : Wanted) {job : Job} → SizedFrame frame → job_of frame wanted ≡ Ok job → Agrees job
 unfolding job_of
 job-agrees frame wanted sized e = subst Agreed e (picture-agrees frame sized (maxval_wanted wanted frame.maxval) (scale_of frame.maxval) refl)
 

@@ -7,8 +7,8 @@ use Rattle.ppm.specs.Header.{SizedFrame}
 use Rattle.ppm.specs.Scales.{scale_of}
 use Rattle.ppm.specs.declared.depth.Scale.{Scale}
 use Rattle.ppm.specs.declared.header.Frame.{Frame}
-use Rattle.desk.specs.declared.arguments.Last.{Last}
-use Rattle.desk.specs.declared.arguments.Last.TheVariants.{Nothing, Number, TooGreat, Unclear}
+use Rattle.desk.specs.declared.arguments.Unfit.{Unfit}
+use Rattle.desk.specs.declared.arguments.Unfit.TheVariants.{TooGreat, Unclear}
 use Rattle.correct.specs.declared.jobs.Job.{Job}
 use Rattle.correct.specs.declared.jobs.NoDepth.{NoDepth}
 use Rattle.correct.specs.declared.jobs.NoDepth.TheVariants.{Picture, Output}
@@ -21,12 +21,16 @@ bits_in s = bits_of s.raw.depth.bits s.corrected.depth.bits
 abbrev pub depths_in : Scales → Depths
 depths_in s = record { raw = s.raw.depth; corrected = s.corrected.depth }
 
+-- what the option says: nothing, a number, or one that is too great or unclear
+abbrev pub Wanted : Type 0
+Wanted = Result (Option ℕ) Unfit
+
 -- the output's maxval: the number that is wanted, one above all depths for a number that is too great, and else the picture's
-abbrev pub maxval_wanted : Last → ℕ → ℕ
-maxval_wanted Nothing picture = picture
-maxval_wanted (Number n) picture = n
-maxval_wanted TooGreat picture = 65_536
-maxval_wanted Unclear picture = picture
+abbrev pub maxval_wanted : Wanted → ℕ → ℕ
+maxval_wanted (Ok None) picture = picture
+maxval_wanted (Ok (Some n)) picture = n
+maxval_wanted (Err TooGreat) picture = 65_536
+maxval_wanted (Err Unclear) picture = picture
 
 -- ---- a picture's job
 
@@ -42,7 +46,7 @@ with_picture frame maxval (Some raw) = with_raw frame maxval raw
 with_picture frame maxval None = Err Picture
 
 -- the picture's maxval is tried first
-unfoldable pub job_of : Frame → Last → Result Job NoDepth
+unfoldable pub job_of : Frame → Wanted → Result Job NoDepth
 job_of frame wanted = with_picture frame (maxval_wanted wanted frame.maxval) (scale_of frame.maxval)
 
 -- the scales are those of the maxvals: of the picture's header, and of the one that is written; and the frame is within its limits

@@ -1,10 +1,9 @@
 -- How the work ends: by what became of the pictures, and whether something of them is left in the output.
 use Rattle.std.specs.Prelude.{ℕ, ◌≡◌, Bool, true, false, cond, ◌&&◌, ◌||◌, ◌⊎◌, ltb, Result, Ok, Err, ⊤}
 use Rattle.ppm.specs.declared.header.Frame.{Frame}
-use Rattle.desk.specs.declared.arguments.Last.{Last}
 use Rattle.desk.specs.declared.outcomes.Outcome.{Outcome}
 use Rattle.desk.specs.declared.outcomes.Outcome.TheVariants.{Done, Refused, Failed}
-use Rattle.correct.specs.Jobs.{job_of}
+use Rattle.correct.specs.Jobs.{Wanted, job_of}
 use Rattle.correct.specs.declared.headers.NoHeader.{NoHeader}
 use Rattle.correct.specs.declared.headers.NoHeader.TheVariants as H
 use Rattle.correct.specs.declared.jobs.Job.{Job}
@@ -21,8 +20,8 @@ use Rattle.correct.specs.declared.pieces.Stop.TheVariants as P
 abbrev pub fate_at : Stop → Fate
 fate_at (P.Cut pixel) = Stopped
 fate_at (P.TooGreat pixel excess) = Stopped
-fate_at (P.Unread pixel) = Broken
-fate_at P.Unwritten = Broken
+fate_at (P.Unread pixel error) = Broken
+fate_at (P.Unwritten error) = Broken
 
 unfoldable pub fate_of : Result ⊤ Stop → Result ⊤ Fate
 fate_of (Ok done) = Ok tt
@@ -38,10 +37,10 @@ abbrev pub fate_without : NoHeader → Fate
 fate_without (H.Wrong fault) = Unfit
 fate_without H.TooLong = Unfit
 fate_without H.Empty = Missing
-fate_without H.Unread = Broken
+fate_without (H.Unread error) = Broken
 
 -- any, by what came of reading its header
-abbrev pub Becomes : Last → Result Frame NoHeader → Result ⊤ Fate → Type 0
+abbrev pub Becomes : Wanted → Result Frame NoHeader → Result ⊤ Fate → Type 0
 Becomes wanted (Ok frame) r = BecomesOf (job_of frame wanted) r
 Becomes wanted (Err none) r = r ≡ Err (fate_without none)
 

@@ -1,5 +1,5 @@
 -- A piece of a picture: the pixels that its bytes are, up to the first that has a code above the greatest, corrected.
-use Rattle.std.specs.Prelude.{ℕ, ◌+◌, ◌*◌, ◌/◌, ◌≤◌, ◌<◌, ◌≡◌, Bool, true, false, cond, List, ◌⊎◌, ltb, ℤ, length, take, Option, Some, None, Result, Ok, Err, ⊤}
+use Rattle.std.specs.Prelude.{ℕ, ◌+◌, ◌*◌, ◌/◌, ◌≤◌, ◌<◌, ◌≡◌, Bool, true, false, cond, List, ◌⊎◌, ltb, ℤ, length, take, Option, Some, None, Result, Ok, Err, IsErrAnd, ⊤}
 use Rattle.rules.specs.Descriptions.{could_be_read}
 use Rattle.rules.specs.Picturing.{corrected}
 use Rattle.rules.specs.Units.{depths_of}
@@ -72,16 +72,23 @@ pub record WentSoFar (d : Description) (table : List ℤ) (s : Scales) (first wa
   pub corrects : Corrects d table s input piece bytes
   pub told : r ≡ passed_of piece first want
 
+-- the system could not read a piece, which is told at its first pixel, or not write it
+abbrev pub BySystem : ℕ → Stop → Type 0
+BySystem first (Cut pixel) = ⊥
+BySystem first (TooGreat pixel excess) = ⊥
+BySystem first (Unread pixel error) = pixel ≡ first
+BySystem first (Unwritten error) = Unit {0}
+
 -- what becomes of a piece: it cannot be read, or not be written, or it goes so far
 abbrev pub PieceGoes : Description → List ℤ → Scales → ℕ → ℕ → Result ⊤ Stop → Type 0
-PieceGoes d table s first want r = (r ≡ Err (Unread first)) ⊎ ((r ≡ Err Unwritten) ⊎ WentSoFar d table s first want r)
+PieceGoes d table s first want r = IsErrAnd r (BySystem first) ⊎ WentSoFar d table s first want r
 
 -- a code that is told as too great is above m
 abbrev pub StopTruly : ℕ → Stop → Type 0
 StopTruly m (Cut pixel) = Unit {0}
 StopTruly m (TooGreat pixel excess) = m < excess.code
-StopTruly m (Unread pixel) = Unit {0}
-StopTruly m Unwritten = Unit {0}
+StopTruly m (Unread pixel error) = Unit {0}
+StopTruly m (Unwritten error) = Unit {0}
 
 abbrev pub TrulyTold : ℕ → Result ⊤ Stop → Type 0
 TrulyTold m (Ok done) = Unit {0}

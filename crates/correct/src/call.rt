@@ -2,14 +2,17 @@
 ghost use Rattle.std.specs.Prelude.{◌≡◌};
 ghost use Rattle.correct.specs.Calls.{begins_as_option};
 
-use desk::{Host, Last, argument, option_at};
+use desk::{Host, Unfit, argument, optional_number};
 use rules::Depth;
+
+// The maxval that is wanted of the output, if one is. One that is too great is of no depth, which is said with the first picture.
+pub type Wanted = Result<Option<u64>, Unfit>;
 
 // Whether the files IN and OUT are named, and the maxval that is wanted of the output.
 #[derive(Clone, Copy)]
 pub struct Call {
     pub named: bool,
-    pub wanted: Last,
+    pub wanted: Wanted,
 }
 
 // Whether a word begins with two hyphens.
@@ -32,21 +35,21 @@ fn are_names(host: &Host) -> bool {
 }
 
 // What stands last, from a place on.
-fn maxval_at(host: &Host, place: usize) -> Last {
-    option_at(host, place, b"--maxval", Depth::BITS_16 as u64)
+fn maxval_at(host: &Host, place: usize) -> Wanted {
+    optional_number(host, place, b"--maxval", Depth::BITS_16 as u64)
 }
 
 // After the table's name IN and OUT, or neither, and then perhaps the option. With them no name may look like an option.
 pub fn asked_for(host: &Host) -> Option<Call> {
     let unnamed = maxval_at(host, 3);
-    let Last::Unclear = unnamed else {
+    let Err(Unfit::Unclear) = unnamed else {
         return Some(Call {
             named: false,
             wanted: unnamed,
         });
     };
     let wanted = maxval_at(host, 5);
-    if matches!(wanted, Last::Unclear) || !are_names(host) {
+    if matches!(wanted, Err(Unfit::Unclear)) || !are_names(host) {
         return None;
     }
     Some(Call {

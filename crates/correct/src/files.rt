@@ -6,15 +6,15 @@ ghost use Rattle.desk.specs.Outcomes.{EndsAs};
 ghost use Rattle.correct.specs.Outcomes.{outcome_of};
 ghost use Rattle.correct.specs.Parts.{most_name, part_name};
 
+use crate::call::Wanted;
 use crate::ends::Ends;
 use crate::outcomes::{Story, outcome_of};
 use crate::pictures::pass_pictures;
 use crate::space::{Space, Table};
 use crate::words;
-use crate::words::Trouble;
+use crate::words::{Failure, Trouble};
 use desk::{
-    Host, Input, Last, Outcome, Output, is_link, is_missing, is_no_file, is_taken, say_error,
-    word_at,
+    Host, Input, Outcome, Output, is_link, is_missing, is_no_file, is_taken, say_error, word_at,
 };
 use lettering::Pen;
 use std::io::Error;
@@ -55,7 +55,10 @@ fn unwritable(error: Error) -> Trouble {
     if is_no_file(Some(error)) {
         return Trouble::NoFile;
     }
-    Trouble::System(CANNOT_WRITE, error)
+    Trouble::System(Failure {
+        what: CANNOT_WRITE,
+        error,
+    })
 }
 
 // Whether the output can take this name, which is new or that of a file. A file stays as it is. What is written by renaming would take a link's place and not
@@ -142,8 +145,10 @@ fn settle(host: &mut Host, story: Story, to: Output, part: &[u8], path: &[u8]) -
 fn open_in(host: &mut Host) -> Result<Input, Trouble> {
     let mut path = io::buffer();
     let n = name_at(host, 3, "IN", &mut path)?;
-    host.open(&path[..n])
-        .map_err(|error| Trouble::System("cannot open IN", error))
+    host.open(&path[..n]).map_err(|error| Trouble::System(Failure {
+        what: "cannot open IN",
+        error,
+    }))
 }
 
 // From an open file to the one of this name, by way of a part.
@@ -152,16 +157,16 @@ fn correct_to(
     from: Input,
     path: &[u8],
     table: Table<'_>,
-    wanted: Last,
+    wanted: Wanted,
     space: &mut Space<'_>,
 ) -> Result<Outcome, Trouble>
     requires path_len_bound { length path.now ≤ most_name }
 {
     let mut part = [0u8; 4104];
-    let to = make_part(host, path, &mut part).map_err(|error| Trouble::System(
-        "cannot make a file beside OUT",
+    let to = make_part(host, path, &mut part).map_err(|error| Trouble::System(Failure {
+        what: "cannot make a file beside OUT",
         error,
-    ))?;
+    }))?;
     let mut ends = Ends {
         from,
         to,
@@ -176,7 +181,7 @@ fn correct_to(
 fn correct_named(
     host: &mut Host,
     table: Table<'_>,
-    wanted: Last,
+    wanted: Wanted,
     space: &mut Space<'_>,
 ) -> Result<Outcome, Trouble> {
     let mut path = io::buffer();
@@ -190,7 +195,7 @@ fn correct_named(
 pub fn correct_files(
     host: &mut Host,
     table: Table<'_>,
-    wanted: Last,
+    wanted: Wanted,
     space: &mut Space<'_>,
 ) -> Outcome {
     match correct_named(host, table, wanted, space) {

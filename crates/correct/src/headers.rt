@@ -8,17 +8,18 @@ ghost use Rattle.correct.specs.Jobs.{Agrees};
 ghost use Rattle.correct.specs.Pieces.{most_pixels};
 
 use crate::jobs::Job;
-use desk::{Filled, Input, Output, fill};
+use desk::{Input, Output};
 use ppm::{Fault, Frame, header_of, put_header};
+use std::io::{Error, Write};
 
 // Why a picture has no header: what was read of it is wrong; it does not end within the space that there is for it; there is not one byte of it; or the
 // system could not read.
-#[derive(Clone, Copy, Debug, PartialEq, Eq)]
+#[derive(Clone, Copy)]
 pub enum NoHeader {
     Wrong(Fault),
     TooLong,
     Empty,
-    Unread,
+    Unread(Error),
 }
 
 // Whether more bytes cannot change what a header says.
@@ -42,8 +43,9 @@ fn read_into(from: &mut Input, bytes: &mut [u8]) -> Result<Frame, NoHeader>
     ensures { SizedHeading result }
 {
     for n in 0..bytes.len() {
-        let Filled::Bytes(more) = fill(&mut *from, &mut bytes[n..n + 1]) else {
-            return Err(NoHeader::Unread);
+        let more = match from.fill(&mut bytes[n..n + 1]) {
+            Ok(more) => more,
+            Err(error) => return Err(NoHeader::Unread(error)),
         };
         if more == 0 {
             return Err(ended_after(n));
@@ -74,12 +76,12 @@ fn put_text(job: Job, text: &mut [u8]) -> usize
     put_header(text, frame.width, frame.height, job.maxval)
 }
 
-pub fn write(to: &mut Output, job: Job) -> bool
+pub fn write(to: &mut Output, job: Job) -> Result<(), Error>
     requires { Agrees job }
 {
     let mut text = [0u8; 31];
     let n = put_text(job, &mut text);
-    to.write(&text[..n])
+    to.write_all(&text[..n])
 }
 
 pub fn pixels(frame: Frame) -> u64

@@ -2,7 +2,8 @@
 ghost use Rattle.std.specs.Prelude.{◌≡◌};
 ghost use Rattle.correct.specs.Jobs.{depths_in, job_of, maxval_wanted};
 
-use desk::Last;
+use crate::call::Wanted;
+use desk::Unfit;
 use ppm::{Frame, Scale, scale_of};
 use rules::Depths;
 
@@ -37,19 +38,19 @@ pub fn depths_in(scales: Scales) -> Depths
 }
 
 // The output's maxval: the picture's, where no other is wanted; one above all depths is none of theirs.
-fn maxval_wanted(wanted: Last, picture: u64) -> u64
+fn maxval_wanted(wanted: Wanted, picture: u64) -> u64
     ensures { result ≡ maxval_wanted wanted picture }
 {
     match wanted {
-        Last::Number(n) => n,
-        Last::TooGreat => 65_536,
-        Last::Nothing | Last::Unclear => picture,
+        Ok(Some(n)) => n,
+        Err(Unfit::TooGreat) => 65_536,
+        Ok(None) | Err(Unfit::Unclear) => picture,
     }
 }
 
 // The picture's maxval is tried first.
 #[tactic(auto, unfolding(crate::specs::Jobs::job_of, crate::specs::Jobs::with_raw))]
-pub fn job_of(frame: Frame, wanted: Last) -> Result<Job, NoDepth>
+pub fn job_of(frame: Frame, wanted: Wanted) -> Result<Job, NoDepth>
     ensures { result ≡ job_of frame wanted }
 {
     let Some(raw) = scale_of(frame.maxval) else {

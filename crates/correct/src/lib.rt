@@ -13,8 +13,8 @@ mod pieces;
 mod space;
 mod words;
 
-use call::{Call, asked_for};
-use desk::{Host, Input, Last, Outcome, Output, load_argument};
+use call::{Call, Wanted, asked_for};
+use desk::{Host, Input, Outcome, Output, load_argument};
 use ends::Ends;
 use files::correct_files;
 use outcomes::outcome_on_output;
@@ -27,7 +27,7 @@ pub use words::help;
 fn correct_input(
     host: &mut Host,
     table: Table<'_>,
-    wanted: Last,
+    wanted: Wanted,
     space: &mut Space<'_>,
 ) -> Outcome {
     let mut ends = Ends {

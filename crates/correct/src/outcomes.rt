@@ -32,7 +32,7 @@ pub fn fate_of(passed: Result<(), Stop>) -> Result<(), Fate>
         Ok(()) => Ok(()),
         Err(Stop::Cut(_)) => Err(Fate::Stopped),
         Err(Stop::TooGreat { .. }) => Err(Fate::Stopped),
-        Err(Stop::Unread(_) | Stop::Unwritten) => Err(Fate::Broken),
+        Err(Stop::Unread { .. } | Stop::Unwritten(_)) => Err(Fate::Broken),
     }
 }
 
@@ -43,7 +43,7 @@ pub fn fate_without(none: NoHeader) -> Fate
     match none {
         NoHeader::Wrong(_) | NoHeader::TooLong => Fate::Unfit,
         NoHeader::Empty => Fate::Missing,
-        NoHeader::Unread => Fate::Broken,
+        NoHeader::Unread(_) => Fate::Broken,
     }
 }
 

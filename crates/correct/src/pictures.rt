@@ -5,6 +5,7 @@ ghost use Rattle.correct.specs.Headers.{SizedHeading};
 ghost use Rattle.correct.specs.Jobs.{Agrees, job_of};
 ghost use Rattle.correct.specs.Outcomes.{Becomes, BecomesOf};
 
+use crate::call::Wanted;
 use crate::ends::Ends;
 use crate::headers::NoHeader;
 use crate::jobs::{Job, NoDepth, depths_in, job_of};
@@ -13,7 +14,7 @@ use crate::pieces::pass_all;
 use crate::space::{Space, Table};
 use crate::{headers, words};
 use colour::plan_of;
-use desk::{Host, Last};
+use desk::Host;
 use ppm::Frame;
 
 // More pictures than this are not counted.
@@ -31,8 +32,8 @@ fn pass_job(
     requires agrees { Agrees job }
     ensures { BecomesOf (Ok job) result }
 {
-    if !headers::write(&mut ends.to, job) {
-        words::say_unwritten(host, ends, number);
+    if let Err(error) = headers::write(&mut ends.to, job) {
+        words::say_unwritten(host, ends, number, error);
         return Err(Fate::Broken);
     }
     let plan = plan_of(table.description, depths_in(job.scales));
@@ -50,7 +51,7 @@ fn pass_frame(
     number: u64,
     table: Table<'_>,
     frame: Frame,
-    wanted: Last,
+    wanted: Wanted,
     space: &mut Space<'_>,
 ) -> Result<(), Fate>
     requires sized_frame { SizedFrame frame }
@@ -76,7 +77,7 @@ fn pass_headed(
     number: u64,
     table: Table<'_>,
     heading: Result<Frame, NoHeader>,
-    wanted: Last,
+    wanted: Wanted,
     space: &mut Space<'_>,
 ) -> Result<(), Fate>
     requires sized_heading { SizedHeading heading }
@@ -97,7 +98,7 @@ fn pass_picture(
     ends: &mut Ends,
     number: u64,
     table: Table<'_>,
-    wanted: Last,
+    wanted: Wanted,
     space: &mut Space<'_>,
 ) -> Result<(), Fate> {
     let heading = headers::read(&mut ends.from);
@@ -109,7 +110,7 @@ pub fn pass_pictures(
     host: &mut Host,
     ends: &mut Ends,
     table: Table<'_>,
-    wanted: Last,
+    wanted: Wanted,
     space: &mut Space<'_>,
 ) -> Story {
     for whole in 0..MOST_PICTURES {

@@ -10,17 +10,17 @@ use crate::headers::pixels;
 use crate::jobs::{Job, Scales, depths_in};
 use crate::space::Space;
 use colour::Plan;
-use desk::{Filled, fill};
 use picture::correct_all;
 use ppm::{Excess, bytes_from, codes_from, count_within, excess_at};
+use std::io::{Error, Write};
 
 // Why not all pixels are written, and at which pixel it stopped.
-#[derive(Clone, Copy, Debug, PartialEq, Eq)]
+#[derive(Clone, Copy)]
 pub enum Stop {
     Cut(u64),
     TooGreat { pixel: u64, excess: Excess },
-    Unread(u64),
-    Unwritten,
+    Unread { pixel: u64, error: Error },
+    Unwritten(Error),
 }
 
 // How many pixels of a piece were corrected, how many bytes those are, and the code that is too great after them, if there is one.
@@ -119,8 +119,14 @@ fn pass_piece(
     ensures { (d : Description) → Readable d table.now scales plan → PieceGoes d table.now scales first want result }
 {
     let size = pixel_bytes(scales.raw.wide);
-    let Filled::Bytes(got) = fill(&mut ends.from, &mut space.bytes[..want * size]) else {
-        return Err(Stop::Unread(first));
+    let got = match ends.from.fill(&mut space.bytes[..want * size]) {
+        Ok(got) => got,
+        Err(error) => {
+            return Err(Stop::Unread {
+                pixel: first,
+                error,
+            });
+        }
     };
     let piece = correct_piece(
         plan,
@@ -131,8 +137,8 @@ fn pass_piece(
         &mut *space.raw,
         &mut *space.corrected,
     );
-    if !ends.to.write(&space.bytes[..piece.bytes]) {
-        return Err(Stop::Unwritten);
+    if let Err(error) = ends.to.write_all(&space.bytes[..piece.bytes]) {
+        return Err(Stop::Unwritten(error));
     }
     passed_of(piece, first, want)
 }
@@ -157,12 +163,9 @@ pub fn pass_all(
     ensures { TrulyTold job.scales.raw.depth.greatest result }
 {
     let pixels = pixels(job.frame);
-    let mut left = pixels;
-    // Stays: `for first in (0..pixels).step_by(PIECE_PIXELS)` would work out what is left all the same, at every turn.
-    while left > 0 {
-        let want = next_piece(left);
-        pass_piece(ends, plan, table, job.scales, pixels - left, want, space)?;
-        left -= want as u64;
+    for first in (0..pixels).step_by(PIECE_PIXELS) {
+        let want = next_piece(pixels - first);
+        pass_piece(ends, plan, table, job.scales, first, want, space)?;
     }
     Ok(())
 }

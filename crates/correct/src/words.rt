@@ -68,26 +68,22 @@ pub fn say_line(host: &mut Host, line: &str) {
 
 // ---- what the system could not do
 
-// What could not be done, and the system's own words for why, where it had some.
+// What could not be done, and the system's own words for why.
 #[derive(Clone, Copy)]
-struct Failure {
-    what: &'static str,
-    error: Option<io::Error>,
+pub struct Failure {
+    pub what: &'static str,
+    pub error: io::Error,
 }
 
 impl fmt::Display for Failure {
     fn fmt<W: fmt::Write>(&self, f: &mut fmt::Formatter<W>) -> fmt::Result {
         let what = self.what;
-        write!(f, "{what}: ")?;
-        match self.error {
-            Some(error) => write!(f, "{}", Reason(error)),
-            None => Ok(()),
-        }
+        let reason = Reason(self.error);
+        write!(f, "{what}: {reason}")
     }
 }
 
-fn unread(ends: &Ends) -> Failure {
-    let error = ends.from.failure();
+fn unread(ends: &Ends, error: io::Error) -> Failure {
     let what = if ends.named {
         "cannot read IN"
     } else {
@@ -96,9 +92,8 @@ fn unread(ends: &Ends) -> Failure {
     Failure { what, error }
 }
 
-pub fn say_unwritten(host: &mut Host, ends: &Ends, number: u64) {
+pub fn say_unwritten(host: &mut Host, ends: &Ends, number: u64, error: io::Error) {
     let start = started(host, number);
-    let error = ends.to.failure();
     let what = if ends.named {
         "cannot write OUT"
     } else {
@@ -113,8 +108,7 @@ pub fn say_unwritten(host: &mut Host, ends: &Ends, number: u64) {
 // What stops the work before a picture is read.
 #[derive(Clone, Copy)]
 pub enum Trouble {
-    // What the system could not do, and why.
-    System(&'static str, io::Error),
+    System(Failure),
     LongName(&'static str),
     EmptyName(&'static str),
     Link,
@@ -124,10 +118,7 @@ pub enum Trouble {
 impl fmt::Display for Trouble {
     fn fmt<W: fmt::Write>(&self, f: &mut fmt::Formatter<W>) -> fmt::Result {
         match self {
-            Trouble::System(what, error) => {
-                let reason = Reason(*error);
-                write!(f, "{what}: {reason}")
-            }
+            Trouble::System(failure) => failure.fmt(f),
             Trouble::LongName(what) => write!(f, "the name of {what} is longer than 4,095 bytes"),
             Trouble::EmptyName(what) => write!(f, "the name of {what} is empty"),
             Trouble::Link => f.write_str("OUT is a link: name the file itself"),
@@ -158,8 +149,8 @@ pub fn say_no_header(host: &mut Host, ends: &Ends, number: u64, none: NoHeader) 
             writeln!(host.err, "{start}there is no picture: the input is empty")
         }
         NoHeader::Empty => Ok(()),
-        NoHeader::Unread => {
-            let failure = unread(ends);
+        NoHeader::Unread(error) => {
+            let failure = unread(ends, error);
             writeln!(host.err, "{start}{failure}")
         }
     };
@@ -219,13 +210,13 @@ pub fn say_stop(host: &mut Host, ends: &Ends, number: u64, stop: Stop, frame: Fr
             let maxval = frame.maxval;
             writeln!(host.err, "{start}{place}{colour} is {code}, above {maxval}")
         }
-        Stop::Unread(pixel) => {
+        Stop::Unread { pixel, error } => {
             let place = Place { pixel, width };
-            let failure = unread(ends);
+            let failure = unread(ends, error);
             writeln!(host.err, "{start}{place}{failure}")
         }
-        Stop::Unwritten => {
-            say_unwritten(host, ends, number);
+        Stop::Unwritten(error) => {
+            say_unwritten(host, ends, number, error);
             Ok(())
         }
     };

@@ -8,12 +8,11 @@ use Rattle.correct.proofs.pieces.pass_piece.Goals as goal
 pub returns : goal.returns
 returns c = λ d readable.
     let a = c.args in
-    let got = c.in-Bytes.got in
+    let got = c.in-Ok.got in
     let asked = a.want * c.pixel_bytes-size.result in
     let read = take got (c.fill.new.space ++ drop asked a.space.now.bytes.now) in
-    let few : length read ≤ asked = omega (arith, length-take got (c.fill.new.space ++ drop asked a.space.now.bytes.now), c.in-Bytes.ensures, c.fill.auto.space, length-take asked a.space.now.bytes.now) in
+    let few : length read ≤ asked = omega (arith, length-take got (c.fill.new.space ++ drop asked a.space.now.bytes.now), c.in-Ok.ensures, c.fill.auto.space, length-take asked a.space.now.bytes.now) in
     inr
-    (inr
     (record {
       input = read;
       piece = c.correct_piece-piece.result;
@@ -21,4 +20,4 @@ returns c = λ d readable.
       within_piece = subst (λ size. length read ≤ a.want * size) c.pixel_bytes-size.ensures few;
       corrects = c.correct_piece-piece.ensures.corrects d readable;
       told = c.passed_of.ensures;
-    }))
+    })
