@@ -39,9 +39,9 @@ fn show_help(host: &mut Host, verb: Verb) -> Outcome {
     let written = match verb {
         Verb::Report => words::report_help(&mut host.out),
         Verb::Explain => explain::help(&mut host.out),
-        Verb::Correct => correct::help(&mut host.out).is_ok(),
+        Verb::Correct => correct::help(&mut host.out),
         Verb::Rewrite => rewrite::help(&mut host.out),
-        Verb::Invert => invert::help(&mut host.out).is_ok(),
+        Verb::Invert => invert::help(&mut host.out),
         Verb::Check => checking::help(&mut host.out),
         Verb::Help | Verb::Version | Verb::Unknown => words::help(&mut host.out),
     };

@@ -19,6 +19,7 @@ use Rattle.rules.specs.declared.Codes.{Codes}
 use Rattle.rules.specs.declared.Colour.{Colour}
 use Rattle.rules.specs.declared.Depths.{Depths}
 use Rattle.rules.specs.declared.Description.{Description}
+use Rattle.rules.specs.declared.Looked.{Looked}
 use Rattle.rules.specs.declared.Share.{Share}
 use Rattle.rules.specs.declared.Shares.{Shares}
 use Rattle.rules.proofs.Looking.Checks.{look-passed}
@@ -90,11 +91,14 @@ module _ {d : Description} {table : List ℤ} {bits : Bits} {pixel : Codes} {r :
   depths-same : all.depths ≡ depths
   depths-same = let q = sym all.known ∙ known in cc
 
+  looked-same : ◌≡◌ {A = Looked} (record { codes = all.codes; shares = all.shares }) (record { codes = codes; shares = shares })
+  looked-same = let q = sym all.accepted ∙ e in cc
+
   codes_same : all.codes ≡ codes
-  codes_same = let q = sym all.accepted ∙ e in cc
+  codes_same = ap (λ l. l.codes) looked-same
 
   shares-same : all.shares ≡ shares
-  shares-same = let q = sym all.accepted ∙ e in cc
+  shares-same = ap (λ l. l.shares) looked-same
 
   right : (c : Colour) → LookRight d table depths pixel codes shares c
   right c = right-same depths-same codes_same shares-same (all.all_right c)

@@ -10,11 +10,18 @@ ghost use Rattle.explain.specs.Questions.{looked_as, kept_as, given_as, held_as,
 use crate::kept::show_line;
 use crate::question::Question;
 use crate::show::{show_look, show_pixel_look};
-use desk::{Host, Outcome, refuse};
+use desk::{Host, Outcome};
 use halves::{first_half, judged_shares, look, second_half};
 use rules::{Bits, Codes, Depths, Description, Looked, Misfit, Refusal, Shares};
 use std::io;
 use std::io::Write;
+
+// Any question that is refused ends so, once the desk has said why.
+fn refuse(host: &mut Host, reason: Refusal) -> Outcome
+    ensures { result ≡ Refused }
+{
+    desk::refuse(host, reason)
+}
 
 // What is shown is done with, unless it could not be written.
 fn done_if(host: &mut Host, written: io::Result<()>) -> Outcome
@@ -103,13 +110,10 @@ fn keep_pixel(
 {
     match pixel {
         Some(codes) => keep_held(host, d, table, raw, codes),
-        None => refuse_beyond(
-            host,
-            Bits {
-                raw,
-                corrected: raw,
-            },
-        ),
+        None => {
+            let corrected = raw;
+            refuse_beyond(host, Bits { raw, corrected })
+        }
     }
 }
 
