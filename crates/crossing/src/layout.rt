@@ -2,7 +2,6 @@
 ghost use Rattle.std.specs.Prelude.{◌≡◌, map, ◌<◌};
 ghost use Rattle.rules.specs.Answers.{codes_of, shares_of};
 ghost use Rattle.rules.specs.Boundary.{Crossable, RowsFit, eleven_of, description_in, described_in, domain_in, count_in, kind_in, title_at, pixel_in, share_in, shares_in, kind_number, colour_in};
-ghost use Rattle.crossing.specs.Layout.{crossed};
 
 use rules::{Codes, Colour, Description, Domain, Kind, Share, Shares, Thousandths, Title};
 use whole::Whole;
@@ -85,7 +84,7 @@ fn description_in(eleven: &[i64; 11], kind: Kind) -> Description
 
 // The first number names the kind, by 1 or 3.
 fn kind_at(eleven: &[i64; 11]) -> Option<Kind>
-    ensures { result ≡ crossed (kind_in eleven.now) }
+    ensures { result ≡ kind_in eleven.now }
 {
     match eleven[0] {
         1 => Some(Kind::OneD),
@@ -96,7 +95,7 @@ fn kind_at(eleven: &[i64; 11]) -> Option<Kind>
 
 // What eleven numbers describe, if the first names a kind.
 pub fn described(eleven: &[i64; 11]) -> Option<Description>
-    ensures { result ≡ crossed (described_in eleven.now) }
+    ensures { result ≡ described_in eleven.now }
 {
     let kind = kind_at(eleven)?;
     Some(description_in(eleven, kind))
@@ -183,7 +182,7 @@ pub fn shares_in(rows: &[u32; 6], weights: &[i64; 6]) -> Shares
 
 // Stays: as with kinds, `Colour` belongs to rules.
 pub fn colour_of(number: u32) -> Option<Colour>
-    ensures { result ≡ crossed (colour_in number) }
+    ensures { result ≡ colour_in number }
 {
     match number {
         0 => Some(Colour::Red),

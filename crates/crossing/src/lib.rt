@@ -2,9 +2,8 @@
 #![tactic(auto)]
 
 pub use answers::{
-    description_of, first_number, first_shares, inverse_code, inverse_count, inverse_number,
-    look_codes, look_number, look_shares, picture_number, places_needed, read_line, read_number,
-    second_codes, second_number, write_number, written_length,
+    description_of, first_shares, inverse_code, inverse_count, inverse_number, look_codes,
+    look_shares, number_of, places_needed, read_line, read_number, second_codes, written_length,
 };
 pub use layout::{
     codes_laid, colour_of, described, eleven_of, pixel_of, rows_laid, shares_in, weights_laid,

@@ -1,22 +1,30 @@
 // The C boundary: what loggers link, by way of erythmoda_c. Each call asks the proved call behind it and lays the answer out in lent memory.
 #![tactic(auto)]
 
+ghost use Rattle.std.specs.Prelude.{◌≡◌, ok_or};
 ghost use Rattle.rules.specs.Units.{bits_of};
-ghost use Rattle.rules.specs.Boundary.{ReadsC, ChecksC, LooksC, FindsRowsC, GivesCodesC, PicturesC, WritesC, InvertsC};
-ghost use Rattle.erythmoda.specs.Described.{LooksIn, FindsRowsIn, GivesCodesIn, WritesIn, InvertsIn};
+ghost use Rattle.rules.specs.declared.Refusal.TheVariants.{CouldNotBeRead};
+ghost use Rattle.rules.specs.Boundary.{described_in, ReadsC, ChecksC, LooksC, FindsRowsC, GivesCodesC, PicturesC, WritesC, InvertsC};
+ghost use Rattle.erythmoda.specs.Described.{LooksIn, FindsRowsIn, GivesCodesIn, PicturesIn, WritesIn, InvertsIn};
 
 use crossing::{
-    codes_laid, colour_of, described, description_of, eleven_of, first_number, first_shares,
-    inverse_code, inverse_count, inverse_number, look_codes, look_number, look_shares,
-    picture_number, pixel_of, places_needed, read_line, read_number, rows_laid, second_codes,
-    second_number, shares_in, weights_laid, write_number, written_length,
+    codes_laid, colour_of, described, description_of, eleven_of, first_shares, inverse_code,
+    inverse_count, inverse_number, look_codes, look_shares, number_of, pixel_of, places_needed,
+    read_line, read_number, rows_laid, second_codes, shares_in, weights_laid, written_length,
 };
 use halves::{first_half, look, second_half};
 use inverse::inverse;
 use picture::picture;
 use reading::{check, read};
-use rules::{Aim, Bits, Codes, Inverted, Looked, NotInverted, Refusal, Shares};
+use rules::{Aim, Bits, Codes, Description, Inverted, Looked, NotInverted, Refusal, Shares};
 use writing::write;
+
+// What eleven numbers describe, or 24.
+fn described_as(eleven: &[i64; 11]) -> Result<Description, Refusal>
+    ensures { result ≡ ok_or (described_in eleven.now) CouldNotBeRead }
+{
+    described(eleven).ok_or(Refusal::CouldNotBeRead)
+}
 
 // Reads a file into the lent table; the description as eleven numbers, and the line of a refusal.
 pub fn erythmoda_read(
@@ -58,10 +66,7 @@ fn look_in(
 ) -> Result<Looked, Refusal>
     ensures { LooksIn description.now table.now bits pixel result }
 {
-    let Some(d) = described(description) else {
-        return Err(Refusal::CouldNotBeRead);
-    };
-    look(d, table, bits, pixel)
+    look(described_as(description)?, table, bits, pixel)
 }
 
 // One pixel to three corrected codes, with the six rows and weights; the widths in bits are those of raw and of corrected codes.
@@ -83,7 +88,7 @@ pub fn erythmoda_look(
     *codes = codes_laid(look_codes(answer));
     *rows = rows_laid(shares);
     *weights = weights_laid(shares);
-    look_number(answer)
+    number_of(answer)
 }
 
 // The first half, of a description as eleven numbers.
@@ -95,10 +100,7 @@ fn rows_in(
 ) -> Result<Shares, Refusal>
     ensures { FindsRowsIn description.now table.now raw pixel result }
 {
-    let Some(d) = described(description) else {
-        return Err(Refusal::CouldNotBeRead);
-    };
-    first_half(d, table, raw, pixel)
+    first_half(described_as(description)?, table, raw, pixel)
 }
 
 // One pixel to six rows and weights: the first half of a look.
@@ -116,7 +118,7 @@ pub fn erythmoda_rows(
     let shares = first_shares(answer);
     *rows = rows_laid(shares);
     *weights = weights_laid(shares);
-    first_number(answer)
+    number_of(answer)
 }
 
 // The second half, of a description as eleven numbers.
@@ -128,10 +130,7 @@ fn codes_in(
 ) -> Result<Codes, Refusal>
     ensures { GivesCodesIn description.now table.now bits shares result }
 {
-    let Some(d) = described(description) else {
-        return Err(Refusal::CouldNotBeRead);
-    };
-    second_half(d, table, bits, shares)
+    second_half(described_as(description)?, table, bits, shares)
 }
 
 // Six rows and weights to three corrected codes: the second half of a look.
@@ -149,7 +148,20 @@ pub fn erythmoda_codes(
     let bits = Bits { raw, corrected };
     let answer = codes_in(description, table, bits, shares_in(rows, weights));
     *codes = codes_laid(second_codes(answer));
-    second_number(answer)
+    number_of(answer)
+}
+
+// Picture, of a description as eleven numbers.
+fn picture_in(
+    description: &[i64; 11],
+    table: &[i64],
+    bits: Bits,
+    src: &[u16],
+    dst: &mut [u16],
+) -> Result<(), Refusal>
+    ensures { PicturesIn description.now table.now bits src.now dst.old result dst.new }
+{
+    picture(described_as(description)?, table, bits, src, dst)
 }
 
 // A run of pixels to corrected codes.
@@ -163,11 +175,8 @@ pub fn erythmoda_picture(
 ) -> u32
     ensures { PicturesC description.now table.now (bits_of raw corrected) src.now dst.old result dst.new }
 {
-    let Some(d) = described(description) else {
-        return picture_number(Err(Refusal::CouldNotBeRead));
-    };
     let bits = Bits { raw, corrected };
-    picture_number(picture(d, table, bits, src, dst))
+    number_of(picture_in(description, table, bits, src, dst))
 }
 
 // Write, of a description as eleven numbers.
@@ -179,10 +188,7 @@ fn write_in(
 ) -> Result<usize, Refusal>
     ensures { WritesIn description.now table.now title.now out.old result out.new }
 {
-    let Some(d) = described(description) else {
-        return Err(Refusal::CouldNotBeRead);
-    };
-    write(d, table, title, out)
+    write(described_as(description)?, table, title, out)
 }
 
 // A table as the bytes of a file, and their length.
@@ -197,7 +203,7 @@ pub fn erythmoda_write(
 {
     let answer = write_in(description, table, title, out);
     *length = written_length(answer);
-    write_number(answer)
+    number_of(answer)
 }
 
 // The inverse, of a description as eleven numbers and a colour as one.
@@ -211,18 +217,14 @@ fn inverse_in(
 ) -> Result<Inverted, NotInverted>
     ensures { InvertsIn description.now table.now bits colour wanted tolerance result }
 {
-    let none = Err(NotInverted {
+    let none = NotInverted {
         reason: Refusal::CouldNotBeRead,
         count: 0,
-    });
-    let Some(d) = described(description) else {
-        return none;
     };
-    let Some(c) = colour_of(colour) else {
-        return none;
-    };
+    let d = described(description).ok_or(none)?;
+    let colour = colour_of(colour).ok_or(none)?;
     let aim = Aim {
-        colour: c,
+        colour,
         wanted,
         tolerance,
     };
