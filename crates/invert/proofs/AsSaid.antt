@@ -25,11 +25,10 @@ use Rattle.rules.proofs.Inverting.Right.{InverseGiven, not-read, unknown, too-gr
 use Rattle.rules.proofs.KnownDepths.{depths-one}
 use Rattle.rules.proofs.Looking.Checks.{look-0}
 use Rattle.rules.proofs.Looking.Demand3.{line-looked}
-use Rattle.invert.specs.Saying.{corrected_to, found_said, said_by, aim_of, said_of}
-use Rattle.invert.specs.declared.answers.Said.{Said}
-use Rattle.invert.specs.declared.answers.Said.TheVariants.{Hit, Near, Refused}
+use Rattle.invert.specs.Saying.{Said, corrected_to, found_by, said_by, aim_of, said_of}
+use Rattle.invert.specs.declared.answers.Found.TheVariants.{Hit, Near}
 use Rattle.invert.specs.declared.question.Question.{Question}
-use Rattle.std.specs.Prelude.{Some}
+use Rattle.std.specs.Prelude.{Some, Ok, Err}
 use Rattle.rules.specs.Results.{Inverse}
 
 -- ---- a look at a grey pixel has the code that the inverse tries
@@ -50,18 +49,18 @@ module _ (d : Description) (table : List ℤ) (q : Question) (depths : Depths) (
   to = corrected_to d table q.bits q.colour
 
   abbrev pub SaidSo : Said → Type 0
-  SaidSo (Hit code count) = (to code ≡ q.wanted) × (count ≡ suc code)
-  SaidSo (Near code corrected far count) = (corrected ≡ to code) × (far ≡ apart corrected q.wanted) × (count ≡ suc (raw_m depths))
-  SaidSo (Refused r count) = r ≡ NoneWithinTolerance → count ≡ suc (raw_m depths)
+  SaidSo (Ok (Hit code count)) = (to code ≡ q.wanted) × (count ≡ suc code)
+  SaidSo (Ok (Near code corrected far count)) = (corrected ≡ to code) × (far ≡ apart corrected q.wanted) × (count ≡ suc (raw_m depths))
+  SaidSo (Err none) = none.reason ≡ NoneWithinTolerance → none.count ≡ suc (raw_m depths)
 
   by-off : (code count : ℕ) → (apart (to code) q.wanted ≡ 0 → count ≡ suc code) → ((apart (to code) q.wanted ≡ 0 → ⊥) → count ≡ suc (raw_m depths))
-      → (t : Bool) → eqb (apart (to code) q.wanted) 0 ≡ t → SaidSo (cond t (Hit code count) (Near code (to code) (apart (to code) q.wanted) count))
+      → (t : Bool) → eqb (apart (to code) q.wanted) 0 ≡ t → SaidSo (Ok (cond t (Hit code count) (Near code (to code) (apart (to code) q.wanted) count)))
   by-off code count hit missed true e = let z = eqb-true (apart (to code) q.wanted) 0 e in (omega (arith, z), hit z)
   by-off code count hit missed false e = (refl, refl, missed (eqb-false (apart (to code) q.wanted) 0 e))
 
   -- an inverse that is answered, where each answer is given
   by_answer : (r : Inverse) → InverseGiven d table q.bits (aim_of q) r → SaidSo (said_by to q.wanted r)
-  unfolding said_by found_said
+  unfolding said_by found_by
   by_answer r (answered p {code} {count} so) =
       let right = right-at (record { passed = p; right = so }) depths known in
       let same = looked-so d table p.line p.could q.bits depths known q.colour code right.nearest.inside in

@@ -1,10 +1,9 @@
 // What is to be said of a question: the raw code that was found, what it is corrected to and how many codes were tried; or why there is none.
-ghost use Rattle.std.specs.Prelude.{◌≡◌, ℕ, ◌<◌};
+ghost use Rattle.std.specs.Prelude.{◌≡◌, ℕ, ◌<◌, Err};
 ghost use Rattle.rules.specs.Units.{code_in};
 ghost use Rattle.rules.specs.Inverting.{inverse};
 ghost use Rattle.rules.specs.declared.Aim.{Aim};
-ghost use Rattle.invert.specs.Saying.{corrected_to, found_said, said_by, said_of};
-ghost use Rattle.invert.specs.declared.answers.Said.TheVariants as S;
+ghost use Rattle.invert.specs.Saying.{corrected_to, found_by, said_by, said_of};
 
 use crate::question::Question;
 use given::MOST;
@@ -13,12 +12,12 @@ use inverse::{apart, inverse};
 use judge::could_be_read;
 use rules::{
     Aim, Bits, Codes, Colour, Depths, Description, Inverted, Kind, Looked, NotInverted, Refusal,
-    Refused,
 };
 
-#[derive(Clone, Copy)]
-pub enum Said {
-    // A raw code that is corrected to the wanted one.
+// A raw code, and how it was found.
+#[derive(Clone, Copy, Debug, PartialEq, Eq)]
+pub enum Found {
+    // One that is corrected to the wanted code.
     Hit {
         code: u16,
         count: u64,
@@ -28,10 +27,6 @@ pub enum Said {
         code: u16,
         corrected: u16,
         off: u16,
-        count: u64,
-    },
-    Refused {
-        reason: Refusal,
         count: u64,
     },
 }
@@ -63,14 +58,14 @@ fn corrected_to(d: Description, table: &[i64], bits: Bits, c: Colour, code: u16)
     }
 }
 
-fn found_said(corrected: u16, wanted: u16, code: u16, count: u64) -> Said
-    ensures { result ≡ found_said corrected wanted code count }
+fn found_by(corrected: u16, wanted: u16, code: u16, count: u64) -> Found
+    ensures { result ≡ found_by corrected wanted code count }
 {
     let off = apart(corrected, wanted);
     if off == 0 {
-        return Said::Hit { code, count };
+        return Found::Hit { code, count };
     }
-    Said::Near {
+    Found::Near {
         code,
         corrected,
         off,
@@ -81,15 +76,15 @@ fn found_said(corrected: u16, wanted: u16, code: u16, count: u64) -> Said
 // ---- by what is wanted
 
 // A refusal before any code was tried.
-fn untried(reason: Refusal) -> Said
-    ensures { result ≡ S.Refused reason 0 }
+fn untried(reason: Refusal) -> NotInverted
+    ensures { result ≡ record { reason = reason; count = 0 } }
 {
-    Said::Refused { reason, count: 0 }
+    NotInverted { reason, count: 0 }
 }
 
 // A code that no depth has: 24 and 20 come before 23.
-fn beyond_said(d: Description, table: &[i64], bits: Bits) -> Said
-    ensures { (corrected : ℕ → ℕ) (aim : Aim) → 65_535 < aim.wanted → result ≡ said_by corrected aim.wanted (inverse d table.now bits aim) }
+fn beyond_said(d: Description, table: &[i64], bits: Bits) -> NotInverted
+    ensures { (corrected : ℕ → ℕ) (aim : Aim) → 65_535 < aim.wanted → Err result ≡ said_by corrected aim.wanted (inverse d table.now bits aim) }
 {
     let Kind::OneD = d.kind else {
         return untried(Refusal::CouldNotBeRead);
@@ -104,26 +99,21 @@ fn beyond_said(d: Description, table: &[i64], bits: Bits) -> Said
 }
 
 // A code that 16 bits hold.
-fn aimed_said(d: Description, table: &[i64], bits: Bits, aim: Aim) -> Said
+fn aimed_said(d: Description, table: &[i64], bits: Bits, aim: Aim) -> Result<Found, NotInverted>
     ensures { result ≡ said_by (corrected_to d table.now bits aim.colour) aim.wanted (inverse d table.now bits aim) }
 {
-    match inverse(d, table, bits, aim) {
-        Ok(Inverted { code, count }) => {
-            let c = aim.colour;
-            let corrected = corrected_to(d, table, bits, c, code);
-            found_said(corrected, aim.wanted, code, count)
-        }
-        Err(NotInverted { reason, count }) => Said::Refused { reason, count },
-    }
+    let Inverted { code, count } = inverse(d, table, bits, aim)?;
+    let corrected = corrected_to(d, table, bits, aim.colour, code);
+    Ok(found_by(corrected, aim.wanted, code, count))
 }
 
-pub fn find(d: Description, table: &[i64], question: Question) -> Said
+pub fn find(d: Description, table: &[i64], question: Question) -> Result<Found, NotInverted>
     ensures { result ≡ said_of d table.now question }
 {
     let bits = question.bits;
     let colour = question.colour;
     if question.wanted > MOST {
-        return beyond_said(d, table, bits);
+        return Err(beyond_said(d, table, bits));
     }
     let aim = Aim {
         colour,

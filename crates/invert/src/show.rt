@@ -4,14 +4,12 @@ ghost use Rattle.desk.specs.Outcomes.{EndsAs};
 ghost use Rattle.desk.specs.declared.outcomes.Outcome.TheVariants.{Refused};
 ghost use Rattle.invert.specs.Saying.{end_of};
 
-use crate::answers::Said;
+use crate::answers::Found;
 use crate::question::Question;
-use desk::{Host, Outcome, Output, say_refusal};
-use rules::{Colour, Refusal};
+use desk::{Host, Outcome, Output};
+use rules::{Colour, NotInverted, Refusal};
 use std::io::Write;
 use std::{fmt, io};
-
-pub const PROGRAM: [u8; 16] = *b"erythmoda invert";
 
 // As `4096 codes tried`.
 #[derive(Clone, Copy)]
@@ -73,30 +71,34 @@ fn say_more(host: &mut Host, reason: Refusal, count: u64) {
 fn refuse(host: &mut Host, reason: Refusal, count: u64) -> Outcome
     ensures { result ≡ Refused }
 {
-    say_refusal(host, &PROGRAM, reason);
+    let outcome = desk::refuse(host, reason);
     say_more(host, reason, count);
-    Outcome::Refused
+    outcome
 }
 
-pub fn show_said(host: &mut Host, question: Question, said: Said) -> Outcome
+pub fn show_said(
+    host: &mut Host,
+    question: Question,
+    said: Result<Found, NotInverted>,
+) -> Outcome
     ensures { EndsAs (end_of said) result }
 {
     let c = question.colour;
     let wanted = question.wanted;
     match said {
-        Said::Hit { code, count } => {
+        Ok(Found::Hit { code, count }) => {
             let shown = show_hit(&mut host.out, c, wanted, code, count);
             Outcome::Done.when_written(host, shown)
         }
-        Said::Near {
+        Ok(Found::Near {
             code,
             corrected,
             off,
             count,
-        } => {
+        }) => {
             let shown = show_near(&mut host.out, c, wanted, code, corrected, off, count);
             Outcome::Done.when_written(host, shown)
         }
-        Said::Refused { reason, count } => refuse(host, reason, count),
+        Err(NotInverted { reason, count }) => refuse(host, reason, count),
     }
 }

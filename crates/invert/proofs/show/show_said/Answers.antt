@@ -8,14 +8,14 @@ use Rattle.desk.proofs.Ends.{ends_as}
 use Rattle.invert.specs.Saying.{end_of}
 use Rattle.invert.proofs.show.show_said.Goals as goal
 
-pub returns-in-Hit : goal.returns-in-Hit
+pub returns-in-Ok-Hit : goal.returns-in-Ok-Hit
 unfolding end_of
-returns-in-Hit c = subst (λ s. EndsAs (end_of s) c.when_written.result) (sym c.in-Hit.is) (ends_as (is_ok c.show_hit-shown.result) Done _ c.when_written.ensures)
+returns-in-Ok-Hit c = subst (λ s. EndsAs (end_of s) c.when_written.result) (sym c.in-Ok-Hit.is) (ends_as (is_ok c.show_hit-shown.result) Done _ c.when_written.ensures)
 
-pub returns-in-Near : goal.returns-in-Near
+pub returns-in-Ok-Near : goal.returns-in-Ok-Near
 unfolding end_of
-returns-in-Near c = subst (λ s. EndsAs (end_of s) c.when_written-in-Near.result) (sym c.in-Near.is) (ends_as (is_ok c.show_near-shown.result) Done _ c.when_written-in-Near.ensures)
+returns-in-Ok-Near c = subst (λ s. EndsAs (end_of s) c.when_written-in-Ok-Near.result) (sym c.in-Ok-Near.is) (ends_as (is_ok c.show_near-shown.result) Done _ c.when_written-in-Ok-Near.ensures)
 
-pub returns-in-Refused : goal.returns-in-Refused
+pub returns-in-Err : goal.returns-in-Err
 unfolding end_of
-returns-in-Refused c = subst (λ s. EndsAs (end_of s) c.refuse.result) (sym c.in-Refused.is) (inl c.refuse.ensures)
+returns-in-Err c = subst (λ s. EndsAs (end_of s) c.refuse.result) (sym c.in-Err.is) (inl c.refuse.ensures)
