@@ -1,9 +1,8 @@
 -- What the answers say in the rules' terms.
-use Rattle.std.specs.Prelude.{ℕ, ◌≤◌, ◌≡◌, List, [], ◌∷◌, length, drop, Option, None, Some, Result, Ok, Err}
+use Rattle.std.specs.Prelude.{ℕ, ◌≤◌, ◌≡◌, List, [], ◌∷◌, length, drop, Option, None, Some}
 use Rattle.rules.specs.Reading.Lines.{words_of}
 use Rattle.rules.specs.Reading.Numbers.{number_of}
-use Rattle.rules.specs.declared.Refusal.{Refusal}
-use Rattle.rules.specs.Results.{Content, Number}
+use Rattle.rules.specs.Results.{Number}
 
 -- the first word from a place on is a number, and the other words are those from its end on
 pub record NumberFrom (places limit : ℕ) (l : List ℕ) (from : ℕ) (number : Number) (end : ℕ) : Type 0 where
@@ -16,8 +15,3 @@ pub record NumberFrom (places limit : ℕ) (l : List ℕ) (from : ℕ) (number :
 abbrev pub NextFrom : ℕ → ℕ → List ℕ → ℕ → Option (Number × ℕ) → Type 0
 NextFrom places limit l from None = words_of (drop from l) ≡ []
 NextFrom places limit l from (Some found) = NumberFrom places limit l from found.0 found.1
-
--- what a value found says, or its refusal
-abbrev pub said : {A : Type 0} → Result A Refusal → (A → Content) → Content
-said (Ok a) next = next a
-said (Err r) next = Err r

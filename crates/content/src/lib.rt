@@ -1,7 +1,8 @@
 // What a line says by itself, whatever stands before it: three numbers, a size, a title, by the line's form.
 #![tactic(auto)]
 
-ghost use Rattle.std.specs.Prelude.{◌≡◌, cond, ◌&&◌, [], ◌∷◌, ◌+◌, ◌≤◌, ℤ, length, drop, None, Ok, Some};
+ghost use Rattle.std.specs.Prelude.{◌≡◌, cond, ◌&&◌, [], ◌∷◌, ◌+◌, ◌≤◌, ℤ, length, drop, MatchResult, None, Ok, Err, Some};
+ghost use Rattle.std.specs.Result.{result_map_both};
 ghost use Rattle.numbers.specs.Cuts.{most_limit, most_places};
 ghost use Rattle.rules.specs.Reading.Lines.{line_limit, words_of};
 ghost use Rattle.rules.specs.Reading.Contents.{formed, three_of, valued, values, bounds_of, samples_on, size_of, parameters, content_by};
@@ -9,8 +10,7 @@ ghost use Rattle.rules.specs.declared.Bounds.{Bounds};
 ghost use Rattle.rules.specs.declared.Form.TheVariants.{Keyed};
 ghost use Rattle.rules.specs.declared.Item.{Item};
 ghost use Rattle.rules.specs.declared.Item.TheVariants.{OfRow, OfSize};
-ghost use Rattle.text.specs.Answers.{told};
-ghost use Rattle.content.specs.Found.{NextFrom, said};
+ghost use Rattle.content.specs.Found.{NextFrom};
 ghost use Rattle.rules.specs.Results.{Content};
 
 use judge::in_range;
@@ -35,8 +35,8 @@ struct Asked {
     ghost low_limit: { limit ≤ most_limit },
 }
 
-// Whether a word has the form of a number.
-fn is_formed(n: Result<i64, NumberFault>) -> bool
+// Whether a word has the form of a number, whatever its value.
+pub fn is_formed(n: Result<i64, NumberFault>) -> bool
     ensures { result ≡ formed n }
 {
     !matches!(n, Err(NumberFault::Malformed))
@@ -48,7 +48,7 @@ fn three_formed(
     second: Result<i64, NumberFault>,
     third: Result<i64, NumberFault>,
 ) -> Option<Three>
-    ensures { told result ≡ cond (formed first && (formed second && formed third)) (Some (record { first = first; second = second; third = third })) None }
+    ensures { result ≡ cond (formed first && (formed second && formed third)) (Some (record { first = first; second = second; third = third })) None }
 {
     if !(is_formed(first) && is_formed(second) && is_formed(third)) {
         return None;
@@ -73,7 +73,7 @@ fn next_number(l: &[u8], from: usize, asked: Asked) -> Option<(Result<i64, Numbe
 // Three words from a place on, each a number, and no word more.
 fn three_numbers(l: &[u8], from: usize, asked: Asked) -> Option<Three>
     requires { (length l.now ≤ line_limit) × (from ≤ length l.now) }
-    ensures { told result ≡ three_of asked.places asked.limit (words_of (drop from l.now)) }
+    ensures { result ≡ three_of asked.places asked.limit (words_of (drop from l.now)) }
 {
     let (first, a) = next_number(l, from, asked)?;
     let (second, b) = next_number(l, a, asked)?;
@@ -96,20 +96,19 @@ struct Triple {
 
 // The value of a number, or why it is refused.
 fn value_of(n: Result<i64, NumberFault>, asked: Asked) -> Result<i64, Refusal>
-    ensures { (next : ℤ → Content) → said result next ≡ valued asked.unformed asked.beyond asked.finer n next }
+    ensures { (next : ℤ → Content) → MatchResult result (λ v. next v ≡ valued asked.unformed asked.beyond asked.finer n next) (λ r. Err r ≡ valued asked.unformed asked.beyond asked.finer n next) }
 {
-    match n {
-        Ok(v) => Ok(v),
-        Err(NumberFault::Malformed) => Err(asked.unformed),
-        Err(NumberFault::Beyond) => Err(asked.beyond),
-        Err(NumberFault::Finer) => Err(asked.finer),
-    }
+    n.map_err(|fault| match fault {
+        NumberFault::Malformed => asked.unformed,
+        NumberFault::Beyond => asked.beyond,
+        NumberFault::Finer => asked.finer,
+    })
 }
 
 // The values of the three numbers that stand from a place on: the form of all three comes first, then each in turn, left to right.
 fn values_on(l: &[u8], from: usize, asked: Asked) -> Result<Triple, Refusal>
     requires { (length l.now ≤ line_limit) × (from ≤ length l.now) }
-    ensures { (next : ℤ → ℤ → ℤ → Content) → said result (λ t. next t.x t.y t.z) ≡ values asked.unformed asked.beyond asked.finer (three_of asked.places asked.limit (words_of (drop from l.now))) next }
+    ensures { (next : ℤ → ℤ → ℤ → Content) → MatchResult result (λ t. next t.x t.y t.z ≡ values asked.unformed asked.beyond asked.finer (three_of asked.places asked.limit (words_of (drop from l.now))) next) (λ r. Err r ≡ values asked.unformed asked.beyond asked.finer (three_of asked.places asked.limit (words_of (drop from l.now))) next) }
 {
     let three = three_numbers(l, from, asked).ok_or(asked.unformed)?;
     let x = value_of(three.first, asked)?;
@@ -123,7 +122,7 @@ fn values_on(l: &[u8], from: usize, asked: Asked) -> Result<Triple, Refusal>
 // The three bounds that stand from a place on.
 fn bounds_on(l: &[u8], from: usize) -> Result<Bounds, Refusal>
     requires { (length l.now ≤ line_limit) × (from ≤ length l.now) }
-    ensures { (side : Bounds → Item) → said result (λ b. Ok (side b)) ≡ bounds_of side (words_of (drop from l.now)) }
+    ensures { (side : Bounds → Item) → result_map_both side (λ r. r) result ≡ bounds_of side (words_of (drop from l.now)) }
 {
     let asked = Asked {
         places: Thousandths::PLACES,
@@ -143,7 +142,7 @@ fn bounds_on(l: &[u8], from: usize) -> Result<Bounds, Refusal>
 // The row of a data line.
 pub fn row_on(l: &[u8]) -> Result<Row, Refusal>
     requires { length l.now ≤ line_limit }
-    ensures { said result (λ r. Ok (OfRow r)) ≡ samples_on (words_of l.now) }
+    ensures { result_map_both OfRow (λ r. r) result ≡ samples_on (words_of l.now) }
 {
     let asked = Asked {
         places: TenMillionths::PLACES,
@@ -165,7 +164,7 @@ pub fn row_on(l: &[u8]) -> Result<Row, Refusal>
 // The size that a word gives: digits alone, in range. Digits of any length are kept at one past the greatest N of either kind, which is as far out of
 // range as they are.
 fn size_in(kind: Kind, w: &[u8]) -> Result<Size, Refusal>
-    ensures { said result (λ s. Ok (OfSize s)) ≡ size_of kind (w.now ∷ []) }
+    ensures { result_map_both OfSize (λ r. r) result ≡ size_of kind (w.now ∷ []) }
 {
     if !is_digits(w) {
         return Err(Refusal::ParametersWrong);
@@ -180,11 +179,9 @@ fn size_in(kind: Kind, w: &[u8]) -> Result<Size, Refusal>
 // The size that stands from a place on: one word.
 fn size_on(kind: Kind, l: &[u8], from: usize) -> Result<Size, Refusal>
     requires { from ≤ length l.now }
-    ensures { said result (λ s. Ok (OfSize s)) ≡ size_of kind (words_of (drop from l.now)) }
+    ensures { result_map_both OfSize (λ r. r) result ≡ size_of kind (words_of (drop from l.now)) }
 {
-    let Some(word) = next_word(l, from) else {
-        return Err(Refusal::ParametersWrong);
-    };
+    let word = next_word(l, from).ok_or(Refusal::ParametersWrong)?;
     let None = next_word(l, word.end) else {
         return Err(Refusal::ParametersWrong);
     };
@@ -204,16 +201,6 @@ fn after_first_word(l: &[u8]) -> usize
     }
 }
 
-// What an item says, or its refusal.
-fn content_of(found: Result<Item, Refusal>) -> Result<Item, Refusal>
-    ensures { result ≡ said found Ok }
-{
-    match found {
-        Ok(item) => Ok(item),
-        Err(reason) => Err(reason),
-    }
-}
-
 // What a keyword's line says; it begins at a place of the file.
 fn keyed_content(keyword: Keyword, l: &[u8], place: usize) -> Result<Item, Refusal>
     requires { (length l.now ≤ line_limit) × (place + length l.now ≤ 18_446_744_073_709_551_615) }
@@ -222,9 +209,9 @@ fn keyed_content(keyword: Keyword, l: &[u8], place: usize) -> Result<Item, Refus
     let rest = after_first_word(l);
     match keyword {
         Keyword::ATitle => title_of(l, place),
-        Keyword::ALower => content_of(bounds_on(l, rest).map(Item::OfLower)),
-        Keyword::AnUpper => content_of(bounds_on(l, rest).map(Item::OfUpper)),
-        Keyword::ASize(kind) => content_of(size_on(kind, l, rest).map(Item::OfSize)),
+        Keyword::ALower => bounds_on(l, rest).map(Item::OfLower),
+        Keyword::AnUpper => bounds_on(l, rest).map(Item::OfUpper),
+        Keyword::ASize(kind) => size_on(kind, l, rest).map(Item::OfSize),
     }
 }
 
@@ -236,7 +223,7 @@ pub fn content_by(form: Form, l: &[u8], place: usize) -> Result<Item, Refusal>
     match form {
         Form::Idle => Ok(Item::Nothing),
         Form::Keyed(keyword) => keyed_content(keyword, l, place),
-        Form::Data => content_of(row_on(l).map(Item::OfRow)),
+        Form::Data => row_on(l).map(Item::OfRow),
         Form::Neither => Err(Refusal::NeitherDataNorKeyword),
     }
 }

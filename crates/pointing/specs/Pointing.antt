@@ -1,5 +1,5 @@
 -- What a refusal points at: a part of the line that it names, as a place and a length.
-use Rattle.std.specs.Prelude.{ℕ, zero, suc, ◌+◌, ◌-◌, min, Bool, true, false, cond, List, [], ◌∷◌, eqb, leb, length, take, drop, Err, Ok}
+use Rattle.std.specs.Prelude.{ℕ, zero, suc, ◌+◌, ◌-◌, min, Bool, cond, List, [], ◌∷◌, eqb, leb, length, take, drop, is_ok}
 use Rattle.rules.specs.Units.{sample_places, sample_limit, bound_places, bound_limit}
 use Rattle.rules.specs.Demands.{is_data}
 use Rattle.rules.specs.Reading.Lines.{line_limit, permitted, run, lines_of}
@@ -15,7 +15,6 @@ use Rattle.pointing.specs.declared.aims.Aim.TheVariants.{Byte, FirstWord, Parame
 use Rattle.pointing.specs.declared.spots.Spot.{Spot}
 use Rattle.pointing.specs.declared.words.Wanted.{Wanted}
 use Rattle.pointing.specs.declared.words.Wanted.TheVariants as W
-use Rattle.rules.specs.declared.NumberFault.TheVariants.{Beyond, Finer, Malformed}
 use Rattle.rules.specs.Results.{Number}
 
 -- ---- parts of a line
@@ -43,10 +42,7 @@ byte_spot l = let p = length (run permitted l) in record { place = p; length = m
 -- ---- the first word that is wrong
 
 abbrev pub is_value : Number → Bool
-is_value (Ok v) = true
-is_value (Err Malformed) = false
-is_value (Err Beyond) = false
-is_value (Err Finer) = false
+is_value n = is_ok n
 
 -- whether a word is what is wanted
 unfoldable pub right : Wanted → List ℕ → Bool

@@ -1,7 +1,6 @@
 // How many rows a file has, and the size that it gives.
 ghost use Rattle.std.specs.Prelude.{◌≡◌};
 ghost use Rattle.rules.specs.Reading.Lines.{lines_of};
-ghost use Rattle.text.specs.Answers.{told};
 ghost use Rattle.pointing.specs.Counts.{rows_in, size_on, first_size, size_said};
 
 use crate::lines::is_data;
@@ -37,7 +36,7 @@ pub fn rows_in(file: &[u8]) -> usize
 
 // The size among what a line says.
 fn size_said(content: Result<Item, Refusal>) -> Option<Size>
-    ensures { told result ≡ size_said content }
+    ensures { result ≡ size_said content }
 {
     match content {
         Ok(Item::OfSize(size)) => Some(size),
@@ -47,7 +46,7 @@ fn size_said(content: Result<Item, Refusal>) -> Option<Size>
 
 // The size that a line gives.
 fn size_on(l: &[u8]) -> Option<Size>
-    ensures { told result ≡ size_on l.now }
+    ensures { result ≡ size_on l.now }
 {
     if l.len() > LINE_LIMIT {
         return None;
@@ -57,7 +56,7 @@ fn size_on(l: &[u8]) -> Option<Size>
 
 // The first size that a file gives.
 pub fn size_in(file: &[u8]) -> Option<Size>
-    ensures { told result ≡ first_size (lines_of file.now) }
+    ensures { result ≡ first_size (lines_of file.now) }
 {
     let mut c = Cursor::new();
     while let Some(

@@ -3,10 +3,10 @@ ghost use Rattle.std.specs.Prelude.{◌≡◌, ◌+◌, ◌≤◌, length};
 ghost use Rattle.rules.specs.Reading.Lines.{line_limit};
 ghost use Rattle.rules.specs.Units.{sample_places, sample_limit, bound_places, bound_limit};
 ghost use Rattle.rules.specs.Reading.Numbers.{number_of};
-ghost use Rattle.rules.specs.Reading.Contents.{formed};
-ghost use Rattle.pointing.specs.Pointing.{is_value, right, first_wrong};
+ghost use Rattle.pointing.specs.Pointing.{right, first_wrong};
 
 use crate::spots::{Spot, word_from};
+use content::is_formed;
 use numbers::{is_digits, number_of};
 use rules::{NumberFault, TenMillionths, Thousandths};
 
@@ -18,18 +18,6 @@ pub enum Wanted {
     BoundValue,
     SampleForm,
     SampleValue,
-}
-
-fn is_formed(n: Result<i64, NumberFault>) -> bool
-    ensures { result ≡ formed n }
-{
-    !matches!(n, Err(NumberFault::Malformed))
-}
-
-fn is_value(n: Result<i64, NumberFault>) -> bool
-    ensures { result ≡ is_value n }
-{
-    matches!(n, Ok(_))
 }
 
 fn bound_of(w: &[u8]) -> Result<i64, NumberFault>
@@ -55,9 +43,9 @@ fn is_right(wanted: Wanted, w: &[u8]) -> bool
     match wanted {
         Wanted::Digits => is_digits(w),
         Wanted::BoundForm => is_formed(bound_of(w)),
-        Wanted::BoundValue => is_value(bound_of(w)),
+        Wanted::BoundValue => bound_of(w).is_ok(),
         Wanted::SampleForm => is_formed(sample_of(w)),
-        Wanted::SampleValue => is_value(sample_of(w)),
+        Wanted::SampleValue => sample_of(w).is_ok(),
     }
 }
 

@@ -12,26 +12,25 @@ use Rattle.rules.specs.declared.Bounds.{Bounds}
 use Rattle.rules.specs.declared.Size.{Size}
 use Rattle.rules.proofs.Tests.{both-and}
 use Rattle.rules.proofs.Sound.{within-bounds}
-use Rattle.text.specs.Answers.{told}
 use Rattle.reading.specs.Within.{BoundsWithin}
 use Rattle.reading.specs.View.{view, Fit, RowsWelcome, counting}
 use Rattle.reading.specs.declared.state.State.{State}
 
-within : (o : Option Bounds) (default : Bounds) → BoundsWithin default → ForSome o (λ b. BoundsWithin b) → BoundsWithin (given_or default (told o))
+within : (o : Option Bounds) (default : Bounds) → BoundsWithin default → ForSome o (λ b. BoundsWithin b) → BoundsWithin (given_or default o)
 within None default d h = d
 within (Some b) default d h = h b refl
 
-sized : (o : Option Size) → ForSome o (λ s. in_range s.kind s.n ≡ true) → given (told o) ≡ true → in_range (given_or no_size (told o)).kind (given_or no_size (told o)).n ≡ true
+sized : (o : Option Size) → ForSome o (λ s. in_range s.kind s.n ≡ true) → given o ≡ true → in_range (given_or no_size o).kind (given_or no_size o).n ≡ true
 sized None h e = cc
 sized (Some s) h e = h s refl
 
 -- what is there is given
-pub given-told : {A : Type 0} (o : Option A) → given (told o) ≡ is_some o
-given-told None = refl
-given-told (Some a) = refl
+pub given-there : {A : Type 0} (o : Option A) → given o ≡ is_some o
+given-there None = refl
+given-there (Some a) = refl
 
 -- or else the default is
-pub given-default : {A : Type 0} (o : Option A) (default : A) → unwrap_or o default ≡ given_or default (told o)
+pub given-default : {A : Type 0} (o : Option A) (default : A) → unwrap_or o default ≡ given_or default o
 given-default None default = refl
 given-default (Some a) default = refl
 
@@ -40,7 +39,7 @@ fit st = record {
   lower_within = within st.lower lowest (omega arith, omega arith, omega arith) st.lower_within;
   upper_within = within st.upper highest (omega arith, omega arith, omega arith) st.upper_within;
   size_within = sized st.size st.size_within;
-  after_size = λ h. given-told st.size ∙ st.after_size h;
+  after_size = λ h. given-there st.size ∙ st.after_size h;
   few = st.few;
 }
 

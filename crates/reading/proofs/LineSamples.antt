@@ -17,7 +17,7 @@ use Rattle.rules.specs.declared.Row.{Row}
 use Rattle.rules.proofs.Reading.Acceptance.{lines-samples}
 use Rattle.rules.proofs.Reading.OneLine.{found}
 use Rattle.rules.proofs.Reading.Order.{form_for}
-use Rattle.content.specs.Found.{said}
+use Rattle.std.specs.Result.{result_map_both}
 use Rattle.reading.specs.Tables.{LineKeeps}
 use Rattle.rules.specs.Results.{Content}
 
@@ -46,9 +46,9 @@ no-samples {l} k h =
 
 -- what a row found says
 abbrev row-said : Result Row Refusal → Content
-row-said answer = said answer (λ r. Ok (OfRow r))
+row-said answer = result_map_both OfRow (λ r. r) answer
 
-module _ (l : List ℕ) (answer : Result Row Refusal) (data-line : form_of l ≡ Data) (says : said answer (λ r. Ok (OfRow r)) ≡ samples_on (words_of l)) where
+module _ (l : List ℕ) (answer : Result Row Refusal) (data-line : form_of l ≡ Data) (says : result_map_both OfRow (λ r. r) answer ≡ samples_on (words_of l)) where
   data-samples : samples_in (content_of 0 l) ≡ samples_in (row-said answer)
   unfolding content_by
   data-samples = ap (λ (f : Form). samples_in (content_by f 0 l)) data-line ∙ ap samples_in (sym says)

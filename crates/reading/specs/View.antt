@@ -6,16 +6,15 @@ use Rattle.rules.specs.Reading.Judge.{given, given_or, no_size, State as Given}
 use Rattle.rules.specs.declared.Item.{Item}
 use Rattle.rules.specs.declared.Item.TheVariants.{Nothing, OfTitle, OfLower, OfUpper, OfSize, OfRow}
 use Rattle.rules.specs.declared.Size.{Size}
-use Rattle.text.specs.Answers.{told}
 use Rattle.reading.specs.Within.{BoundsWithin}
 use Rattle.reading.specs.declared.state.State.{State}
 
 abbrev pub view : State → Given
 view st = record {
-  title = told st.title;
-  lower = told st.lower;
-  upper = told st.upper;
-  size = told st.size;
+  title = st.title;
+  lower = st.lower;
+  upper = st.upper;
+  size = st.size;
   rows = st.rows;
 }
 

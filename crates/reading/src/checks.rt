@@ -1,11 +1,11 @@
 // The checks that a line's place among the others, and the end of the file, have to pass.
 ghost use Rattle.std.specs.Prelude.{◌≡◌, ℕ, true, cond, ltb};
+ghost use Rattle.std.specs.Result.{result_err};
 ghost use Rattle.rules.specs.Units.{in_range};
 ghost use Rattle.rules.specs.Descriptions.{rows, every_colour, bounds_fit};
 ghost use Rattle.rules.specs.Reading.Judge.{describe, first, domain_fault, head_fault, order_fault, end_fault};
 ghost use Rattle.rules.specs.Reading.{finish};
 ghost use Rattle.rules.specs.declared.Form.TheVariants.{Keyed, Data};
-ghost use Rattle.text.specs.Answers.{fault_of};
 ghost use Rattle.reading.specs.View.{view};
 
 use crate::state::State;
@@ -17,7 +17,7 @@ use rules::{Description, Form, Keyword, Refusal, Refused};
 fn domain_fault(d: Description, places: usize) -> Result<(), Refusal>
     requires n_value { in_range d.kind d.n ≡ true }
     requires d_value { every_colour bounds_fit d ≡ true }
-    ensures { fault_of result ≡ domain_fault places d }
+    ensures { result_err result ≡ domain_fault places d }
 {
     if !domains_keep(ordered, d) {
         return Err(Refusal::LowerNotBelowUpper);
@@ -37,7 +37,7 @@ fn domain_fault(d: Description, places: usize) -> Result<(), Refusal>
 // 9, 19, 10 to 13, where there was no data line yet.
 #[tactic(auto, unfolding(rules::specs::Reading::Judge::head_fault, rules::specs::Reading::Judge::given_fault, rules::specs::Reading::Judge::need))]
 fn head_fault(st: State, places: usize) -> Result<(), Refusal>
-    ensures { fault_of result ≡ head_fault places (view st) }
+    ensures { result_err result ≡ head_fault places (view st) }
 {
     if st.rows != 0 {
         return Ok(());
@@ -54,7 +54,7 @@ fn head_fault(st: State, places: usize) -> Result<(), Refusal>
 // A keyword: 4, 5.
 #[tactic(auto, unfolding(rules::specs::Reading::Judge::order_fault, rules::specs::Reading::Judge::need))]
 fn keyword_fault(st: State, k: Keyword) -> Result<(), Refusal>
-    ensures { (places : ℕ) → fault_of result ≡ order_fault places (view st) (Keyed k) }
+    ensures { (places : ℕ) → result_err result ≡ order_fault places (view st) (Keyed k) }
 {
     let late = st.rows != 0;
     let again = st.repeats(k);
@@ -74,7 +74,7 @@ fn by_rows(
     left: Result<(), Refusal>,
     full: Result<(), Refusal>,
 ) -> Result<(), Refusal>
-    ensures { fault_of result ≡ first (head_fault places (view st)) (cond (ltb st.rows (rows (describe (view st)))) (fault_of left) (fault_of full)) }
+    ensures { result_err result ≡ first (head_fault places (view st)) (cond (ltb st.rows (rows (describe (view st)))) (result_err left) (result_err full)) }
 {
     head_fault(st, places)?;
     let size = st.size.unwrap();
@@ -87,14 +87,14 @@ fn by_rows(
 
 // A data line: 9, 19, 10 to 13, then 14.
 fn data_fault(st: State, places: usize) -> Result<(), Refusal>
-    ensures { fault_of result ≡ order_fault places (view st) Data }
+    ensures { result_err result ≡ order_fault places (view st) Data }
 {
     by_rows(st, places, Ok(()), Err(Refusal::TooManyRows))
 }
 
 // Whether a line of a form may stand here.
 pub fn order_fault(st: State, form: Form, places: usize) -> Result<(), Refusal>
-    ensures { fault_of result ≡ order_fault places (view st) form }
+    ensures { result_err result ≡ order_fault places (view st) form }
 {
     match form {
         Form::Idle => Ok(()),
@@ -106,7 +106,7 @@ pub fn order_fault(st: State, form: Form, places: usize) -> Result<(), Refusal>
 
 // The end: 9, 19, 10 to 13 where there was no data line, then 18.
 fn end_fault(st: State, places: usize) -> Result<(), Refusal>
-    ensures { fault_of result ≡ end_fault places (view st) }
+    ensures { result_err result ≡ end_fault places (view st) }
 {
     by_rows(st, places, Err(Refusal::TooFewRows), Ok(()))
 }
@@ -115,8 +115,6 @@ fn end_fault(st: State, places: usize) -> Result<(), Refusal>
 pub fn conclude(st: State, line: usize, places: usize) -> Result<Description, Refused>
     ensures { result ≡ finish line (view st) (end_fault places (view st)) }
 {
-    match end_fault(st, places) {
-        Ok(()) => Ok(st.describe()),
-        Err(reason) => Err(Refused { reason, line }),
-    }
+    end_fault(st, places).map_err(|reason| Refused { reason, line })?;
+    Ok(st.describe())
 }

@@ -33,10 +33,8 @@ pub fn judge_file(file: &[u8], places: usize) -> Result<Description, Refused>
         else {
             return conclude(st, c.line, places);
         };
-        match judge_line(st, &file[start..end], start, places) {
-            Ok(after) => st = after,
-            Err(reason) => return Err(Refused { reason, line }),
-        }
+        let judged = judge_line(st, &file[start..end], start, places);
+        st = judged.map_err(|reason| Refused { reason, line })?;
         c = next;
     }
 }

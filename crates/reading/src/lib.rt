@@ -18,12 +18,9 @@ use second_pass::fill;
 pub fn read(file: &[u8], table: &mut [i64]) -> Result<Description, Refused>
     ensures { Reads file.now table.old result table.new }
 {
-    let answer = judge_file(file, table.len());
-    let Ok(_) = answer else {
-        return answer;
-    };
+    let description = judge_file(file, table.len())?;
     fill(file, &mut *table);
-    answer
+    Ok(description)
 }
 
 // A file judged with no table: what reading it answers where there is room for every table.

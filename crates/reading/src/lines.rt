@@ -18,8 +18,6 @@ pub fn judge_line(st: State, l: &[u8], place: usize, places: usize) -> Result<St
     byte_fault(l)?;
     let form = form_of(l);
     order_fault(st, form, places)?;
-    match content_by(form, l, place) {
-        Ok(item) => Ok(st.with_item(item)),
-        Err(reason) => Err(reason),
-    }
+    let item = content_by(form, l, place)?;
+    Ok(st.with_item(item))
 }

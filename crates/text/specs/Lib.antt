@@ -1,4 +1,3 @@
--- Places in text: what a cursor finds, where words stand; and what the answers say.
+-- Places in text: what a cursor finds, where words stand.
 pub mod LinesFrom
 pub mod WordsFrom
-pub mod Answers

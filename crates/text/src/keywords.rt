@@ -2,7 +2,6 @@
 ghost use Rattle.std.specs.Prelude.{◌≡◌};
 ghost use Rattle.rules.specs.Reading.Lines.{same};
 ghost use Rattle.rules.specs.Reading.Contents.{keyword_of};
-ghost use Rattle.text.specs.Answers.{told};
 
 use rules::{Keyword, Kind};
 
@@ -18,7 +17,7 @@ const LUT_3D_SIZE: [u8; 11] = *b"LUT_3D_SIZE";
 
 // The keyword that a word is.
 pub fn keyword_of(w: &[u8]) -> Option<Keyword>
-    ensures { told result ≡ keyword_of w.now }
+    ensures { result ≡ keyword_of w.now }
 {
     if is_named(w, &TITLE) {
         return Some(Keyword::ATitle);

@@ -1,9 +1,9 @@
 // A line by itself: whether its bytes are permitted, and its form.
 ghost use Rattle.std.specs.Prelude.{◌≡◌, [], ◌∷◌};
+ghost use Rattle.std.specs.Result.{result_err};
 ghost use Rattle.rules.specs.Reading.Lines.{number_byte, starts};
 ghost use Rattle.rules.specs.Reading.Contents.{form_of, word_form};
 ghost use Rattle.rules.specs.Reading.Judge.{byte_fault};
-ghost use Rattle.text.specs.Answers.{fault_of};
 
 use crate::keywords::keyword_of;
 use crate::runs::every;
@@ -16,7 +16,7 @@ const LINE_LIMIT: usize = 250;
 
 // The checks 1 and 2: the length of a line, then its bytes.
 pub fn byte_fault(l: &[u8]) -> Result<(), Refusal>
-    ensures { fault_of result ≡ byte_fault l.now }
+    ensures { result_err result ≡ byte_fault l.now }
 {
     if l.len() > LINE_LIMIT {
         return Err(Refusal::LineTooLong);

@@ -10,7 +10,7 @@ returns-in-Idle c = rw c.in-Idle.is
 
 pub returns-in-Data : goal.returns-in-Data
 unfolding content_by
-returns-in-Data c = rw c.in-Data.is (c.content_of.ensures ∙ mapped c.row_on.result c.map.result OfRow _ (λ a i p. p) c.map.ensures.cases ∙ c.row_on.ensures)
+returns-in-Data c = rw c.in-Data.is (mapped c.row_on.result c.map.result OfRow _ (λ a i p. p) c.map.ensures.cases ∙ c.row_on.ensures)
 
 pub returns-in-Neither : goal.returns-in-Neither
 unfolding content_by

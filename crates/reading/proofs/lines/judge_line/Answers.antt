@@ -38,17 +38,18 @@ pub with_item-requires : goal.with_item-requires
 with_item-requires c =
     let l = c.args.l.now in
     welcomed c.args.places c.args.place l _ (sym c.in_ok-byte_fault.ensures) (place-fault l c.args.places (view c.args.st) c.in_ok-order_fault.ensures c.form_of-form.ensures)
-    (said l c.args.place c.in-Ok.ensures c.form_of-form.ensures) (fit c.args.st)
+    (said l c.args.place c.in_ok-item.ensures c.form_of-form.ensures) (fit c.args.st)
 
-pub returns-in-Err : goal.returns-in-Err
+pub returns-in_err-item : goal.returns-in_err-item
 unfolding judge unless take_in
-returns-in-Err c =
+returns-in_err-item c =
     let l = c.args.l.now in
-    rw (sym c.in_ok-byte_fault.ensures, place-fault l c.args.places (view c.args.st) c.in_ok-order_fault.ensures c.form_of-form.ensures, said l c.args.place c.in-Err.ensures c.form_of-form.ensures)
+    let p = err_from_is_err_and c.from_residual-in_err-item.result c.from_residual-in_err-item.ensures.1 in
+    rw (p.1, p.2, sym c.in_ok-byte_fault.ensures, place-fault l c.args.places (view c.args.st) c.in_ok-order_fault.ensures c.form_of-form.ensures, said l c.args.place c.in_err-item.ensures c.form_of-form.ensures)
 
-pub returns-in-Ok : goal.returns-in-Ok
+pub returns : goal.returns
 unfolding judge unless take_in
-returns-in-Ok c =
+returns c =
     let l = c.args.l.now in
-    rw (sym c.in_ok-byte_fault.ensures, place-fault l c.args.places (view c.args.st) c.in_ok-order_fault.ensures c.form_of-form.ensures, said l c.args.place c.in-Ok.ensures c.form_of-form.ensures)
+    rw (sym c.in_ok-byte_fault.ensures, place-fault l c.args.places (view c.args.st) c.in_ok-order_fault.ensures c.form_of-form.ensures, said l c.args.place c.in_ok-item.ensures c.form_of-form.ensures)
     (ap go c.with_item.ensures)
