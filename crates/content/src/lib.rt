@@ -61,6 +61,8 @@ fn three_formed(
 }
 
 // The first word from a place on as a number, and where the word ends.
+// Stays: a line and a place in it go together here and in three functions below, with the same two bounds; as a struct Rest<'a> { l: &'a [u8], from: usize }
+// that keeps them, a new one would be made for each word, `Rest { l: rest.l, from: word.end }`, and each contract would say `rest.l.now` for `l.now`.
 fn next_number(l: &[u8], from: usize, asked: Asked) -> Option<(Result<i64, NumberFault>, usize)>
     requires { (length l.now ≤ line_limit) × (from ≤ length l.now) }
     ensures { NextFrom asked.places asked.limit l.now from result }

@@ -29,6 +29,8 @@ fn digit_value(b: u8) -> u64
 }
 
 // One digit more, kept at limit + 1 once it is past the limit.
+// Stays: `limit ≤ most_limit` is asked here and in five contracts below; a struct Limit with that as a ghost field would be made in number_of and in spelt,
+// which take a u64 from other crates, and each contract would say `kept limit.0` for `kept limit`.
 fn one_more(m: u64, b: u8, limit: u64) -> u64
     requires { (m ≤ limit + 1) × (limit ≤ most_limit) }
     ensures { result ≡ kept limit (m * 10 + (b - 48)) }

@@ -59,6 +59,7 @@ pub fn pass_rows(s: &[u8], from: usize, most: usize) -> Run
     let mut red = 0;
     let mut green = 0;
     let mut blue = 0;
+    // Stays: as `for rows in 0..most`, here and in fill_rows, a file of 33 × 33 × 33 rows of seven decimals was read in 1.95 ms; as it is, in 1.57 ms.
     while rows < most {
         if at > last {
             return Run { rows, at };
@@ -74,6 +75,8 @@ pub fn pass_rows(s: &[u8], from: usize, most: usize) -> Run
 }
 
 // The same with the samples of each row, put into a table from a place on.
+// Stays: one function for both, `each_row(s, from, most, |red, green, blue| ..)`, would tell its callers of the table by a fold over the closure's steps,
+// `FoldsTo (λ p r q. F.step p r tt q) f rows last`, from which each would have to show Passed or Put again; here the contract says it.
 pub fn fill_rows(s: &[u8], from: usize, most: usize, table: &mut [i64], to: usize) -> Run
     requires { to + 3 * most ≤ length table.old }
     ensures { Put s.now from most result table.old to table.new }
@@ -88,6 +91,7 @@ pub fn fill_rows(s: &[u8], from: usize, most: usize, table: &mut [i64], to: usiz
     let mut red = 0;
     let mut green = 0;
     let mut blue = 0;
+    // Stays: by the figures at the loop of pass_rows.
     while rows < most {
         if at > last {
             return Run { rows, at };

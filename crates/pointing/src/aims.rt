@@ -29,6 +29,7 @@ pub enum Aim {
 const LINE_LIMIT: usize = 250;
 
 // By the refusal's number.
+// Stays: a number, by the contract of point_at.
 #[tactic(auto, unfolding(crate::specs::Pointing::aim_of))]
 fn aim_of(number: u32) -> Aim
     ensures { result ≡ aim_of number }

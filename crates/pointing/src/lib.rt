@@ -25,6 +25,7 @@ pub fn line_spot(file: &[u8], line: usize) -> Spot
 }
 
 // What the refusal with a number and a line points at.
+// Stays: a number and no Refusal, since `pointed file.now number line` is promised for any number, and to-the-point is about that.
 pub fn point_at(file: &[u8], number: u32, line: usize) -> Spot
     ensures is { result ≡ pointed file.now number line }
     ensures within { result.place + result.length ≤ length file.now }

@@ -11,6 +11,7 @@ use numbers::{is_digits, number_of};
 use rules::{NumberFault, TenMillionths, Thousandths};
 
 // What a word has to be: digits alone; a number by its form, or also within the limits, of a domain or of a row.
+// Stays: the definitions right and first_wrong, which to-the-point and the theorems of Falls and Inside are about, name it.
 #[derive(Clone, Copy)]
 pub enum Wanted {
     Digits,

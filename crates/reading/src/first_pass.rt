@@ -17,6 +17,8 @@ pub fn judge_file(file: &[u8], places: usize) -> Result<Description, Refused>
     let mut st = State::new();
     let mut c = Cursor::new();
     let mut pause = Pause::default();
+    // Stays: in `while let Some(..) = c.next_line(file)` the run of plain rows, which comes before the line in each turn, would stand twice: before the
+    // loop and at the end of its body.
     loop {
         let run = pass_rows(file, c.at, unless_paused(pause, st.left()));
         pause = pause_after(pause, run.rows);

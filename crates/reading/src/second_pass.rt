@@ -42,6 +42,7 @@ pub fn fill(file: &[u8], table: &mut [i64])
     let mut c = Cursor::new();
     let mut at = 0;
     let mut pause = Pause::default();
+    // Stays: as in the first pass, the run of plain rows comes before the line in each turn, and `while let` would need it twice.
     loop {
         let most = (table.len() - at) / 3;
         let run = fill_rows(file, c.at, unless_paused(pause, most), &mut *table, at);

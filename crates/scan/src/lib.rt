@@ -7,6 +7,8 @@ ghost use Rattle.scan.specs.Kinds.{kind_of};
 ghost use Rattle.scan.specs.RunEnds.{run_end};
 
 // The kinds of bytes that runs are made of.
+// Stays: with a closure, as in `run_end(s, from, is_blank)`, each of run_end, run_length, after and every would ask that
+// `F.post f b (kind b)` for every byte b, and name `kind` beside f; an enum says both in one word, `kind_of k`.
 #[derive(Clone, Copy)]
 pub enum ByteKind {
     InLine,
