@@ -9,9 +9,22 @@ mod signs;
 ghost use Rattle.std.specs.Prelude.{[], ◌∷◌, ◌++◌};
 ghost use Rattle.rules.specs.Decimals.{decimal};
 ghost use Rattle.lettering.specs.Pens.{HasRoom, Adds};
+ghost use Rattle.lettering.specs.Putting.{Room, Puts};
 
 pub use decimals::count_decimals;
 pub use digits::count_digits;
+
+// Bytes from a place on, and the place past them.
+// Stays: byte by byte, since copy_from_slice would ask for C's memmove, and the library asks for no name of C's.
+fn put_bytes(out: &mut [u8], at: usize, text: &[u8]) -> usize
+    requires { Room out.old at text.now }
+    ensures { Puts out.old at text.now result out.new }
+{
+    for i in 0..text.len() {
+        out[at + i] = text[i];
+    }
+    at + text.len()
+}
 
 // Lent bytes, and the place in them where the next text stands.
 #[derive(Drop)]
@@ -26,9 +39,7 @@ impl Pen<'_> {
         requires { HasRoom self.old text.now }
         ensures { Adds self.old text.now self.new }
     {
-        let end = self.at + text.len();
-        self.bytes[self.at..end].copy_from_slice(text);
-        self.at = end;
+        self.at = put_bytes(self.bytes, self.at, text);
     }
 
     pub fn put_byte(&mut self, byte: u8)
