@@ -24,7 +24,8 @@ use Rattle.colour.specs.Adding.{carried}
 use Rattle.colour.proofs.Weighing.{carried-is}
 use Rattle.halves.specs.Listed.{listed, four_of, NotNegative}
 use Rattle.halves.specs.declared.fours.Four.{Four}
-use Rattle.std.specs.Prelude.{Err, Ok}
+use Rattle.std.specs.Prelude.{Err, None, Ok, Option, Some, ok_or}
+use Rattle.rules.specs.declared.Misfit.{Misfit}
 use Rattle.rules.specs.declared.Misfit.TheVariants.{NegativeWeight, RowBeyond, WrongSum}
 use Rattle.rules.specs.Results.{Judged}
 
@@ -56,12 +57,28 @@ four_same count den h OneD Red shares = rw (idle-fit count h)
 four_same count den h OneD Green shares = rw (idle-fit count h)
 four_same count den h OneD Blue shares = rw (idle-fit count h)
 
+-- what is wrong is found first, and what is fit leaves what comes after it
+pub wrong-then : (j next : Judged) {e : Misfit} → j ≡ Err e → j and_then next ≡ Err e
+wrong-then (Ok _) next q = cc
+wrong-then (Err RowBeyond) next q = q
+wrong-then (Err NegativeWeight) next q = q
+wrong-then (Err WrongSum) next q = q
+
+pub fit-then : (j next : Judged) {u : Unit {0}} → j ≡ Ok u → j and_then next ≡ next
+fit-then (Ok _) next q = refl
+fit-then (Err _) next q = cc
+
 -- the last needs nothing after it
 pub last_then : (j : Judged) → j and_then (Ok tt) ≡ j
 last_then (Ok _) = refl
 last_then (Err RowBeyond) = refl
 last_then (Err NegativeWeight) = refl
 last_then (Err WrongSum) = refl
+
+-- what is absent is refused for the reason that is given
+pub only-reason : {A E : Type 0} (o : Option A) {given found : E} → Err found ≡ ok_or o given → found ≡ given
+only-reason None q = cc
+only-reason (Some _) q = cc
 
 -- ---- the sum
 

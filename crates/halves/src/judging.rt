@@ -2,7 +2,7 @@
 ghost use Rattle.std.specs.Prelude.{◌≡◌, suc, min, ◌≤◌};
 ghost use Rattle.whole.specs.Integers.{up};
 ghost use Rattle.rules.specs.Looking.{judged_for, judged_all};
-ghost use Rattle.rules.specs.Looking.Judging.{◌and_then◌, share_judged, each_judged, sum_judged, judged};
+ghost use Rattle.rules.specs.Looking.Judging.{share_judged, each_judged, sum_judged, judged};
 ghost use Rattle.colour.specs.Limits.{den_limit};
 ghost use Rattle.colour.specs.Plans.{Readable};
 ghost use Rattle.halves.specs.Listed.{listed, NotNegative};
@@ -13,19 +13,7 @@ use judge::count_rows;
 use rules::{Colour, Description, Misfit, Share, Shares};
 use whole::Whole;
 
-// ---- what is found of them
-
-// What is found first.
-fn and_then(found: Result<(), Misfit>, next: Result<(), Misfit>) -> Result<(), Misfit>
-    ensures { result ≡ found and_then next }
-{
-    match found {
-        Ok(()) => next,
-        Err(Misfit::RowBeyond) => Err(Misfit::RowBeyond),
-        Err(Misfit::NegativeWeight) => Err(Misfit::NegativeWeight),
-        Err(Misfit::WrongSum) => Err(Misfit::WrongSum),
-    }
-}
+// ---- what is found first of them
 
 // A row below the count, and a weight that is not negative.
 fn share_judged(count: usize, share: Share) -> Result<(), Misfit>
@@ -43,11 +31,10 @@ fn share_judged(count: usize, share: Share) -> Result<(), Misfit>
 fn each_judged(count: usize, four: Four) -> Result<(), Misfit>
     ensures { result ≡ each_judged count (listed four) }
 {
-    let first = share_judged(count, four.first);
-    let second = share_judged(count, four.second);
-    let third = share_judged(count, four.third);
-    let fourth = share_judged(count, four.fourth);
-    and_then(first, and_then(second, and_then(third, fourth)))
+    share_judged(count, four.first)?;
+    share_judged(count, four.second)?;
+    share_judged(count, four.third)?;
+    share_judged(count, four.fourth)
 }
 
 // A weight as a part of D. One above D counts as D + 1: the sum is as wrong, and four such parts can be added whatever was written.
@@ -79,13 +66,8 @@ fn four_judged(count: usize, den: u64, four: Four) -> Result<(), Misfit>
     requires { den ≤ den_limit }
     ensures { result ≡ judged count den (listed four) }
 {
-    let found = each_judged(count, four);
-    match found {
-        Ok(()) => sum_judged(den, four),
-        Err(Misfit::RowBeyond) => Err(Misfit::RowBeyond),
-        Err(Misfit::NegativeWeight) => Err(Misfit::NegativeWeight),
-        Err(Misfit::WrongSum) => Err(Misfit::WrongSum),
-    }
+    each_judged(count, four)?;
+    sum_judged(den, four)
 }
 
 // ---- of a colour, and of all three
@@ -104,8 +86,7 @@ pub fn judged_shares(d: Description, m: u16, shares: Shares) -> Result<(), Misfi
     requires { Readable d }
     ensures { result ≡ judged_all d m shares }
 {
-    let red = colour_judged(d, m, shares, Colour::Red);
-    let green = colour_judged(d, m, shares, Colour::Green);
-    let blue = colour_judged(d, m, shares, Colour::Blue);
-    and_then(red, and_then(green, blue))
+    colour_judged(d, m, shares, Colour::Red)?;
+    colour_judged(d, m, shares, Colour::Green)?;
+    colour_judged(d, m, shares, Colour::Blue)
 }

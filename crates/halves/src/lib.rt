@@ -42,9 +42,7 @@ pub fn first_half(d: Description, table: &[i64], raw: u32, pixel: Codes) -> Resu
     if !could_be_read(d, table) {
         return Err(Refusal::CouldNotBeRead);
     }
-    let Some(depth) = Depth::of(raw) else {
-        return Err(Refusal::DepthUnknown);
-    };
+    let depth = Depth::of(raw).ok_or(Refusal::DepthUnknown)?;
     let depths = Depths {
         raw: depth,
         corrected: depth,
@@ -64,11 +62,8 @@ pub fn second_half(
     if !could_be_read(d, table) {
         return Err(Refusal::CouldNotBeRead);
     }
-    let Some(depths) = Depths::of(bits) else {
-        return Err(Refusal::DepthUnknown);
-    };
-    let raw = depths.raw;
-    if judged_shares(d, raw.greatest(), shares).is_err() {
+    let depths = Depths::of(bits).ok_or(Refusal::DepthUnknown)?;
+    if judged_shares(d, depths.raw.greatest(), shares).is_err() {
         return Err(Refusal::RowsOrWeightsWrong);
     }
     Ok(codes_of(plan_of(d, depths), table, shares))
@@ -81,16 +76,9 @@ pub fn look(d: Description, table: &[i64], bits: Bits, pixel: Codes) -> Result<L
     if !could_be_read(d, table) {
         return Err(Refusal::CouldNotBeRead);
     }
-    let Some(depths) = Depths::of(bits) else {
-        return Err(Refusal::DepthUnknown);
-    };
-    let raw = depths.raw;
+    let depths = Depths::of(bits).ok_or(Refusal::DepthUnknown)?;
     let plan = plan_of(d, depths);
-    match rows_by(plan, raw.greatest(), pixel) {
-        Err(reason) => Err(reason),
-        Ok(shares) => {
-            let codes = codes_of(plan, table, shares);
-            Ok(Looked { codes, shares })
-        }
-    }
+    let shares = rows_by(plan, depths.raw.greatest(), pixel)?;
+    let codes = codes_of(plan, table, shares);
+    Ok(Looked { codes, shares })
 }

@@ -5,7 +5,6 @@
 ghost use Rattle.std.specs.Prelude.{◌≡◌, ◌<◌};
 ghost use Rattle.rules.specs.Inverting.{apart, off, try_next, search, if_within};
 ghost use Rattle.rules.specs.Promises.{Inverts};
-ghost use Rattle.rules.specs.Results.{no_inverse};
 ghost use Rattle.colour.specs.Lines.{Lined};
 ghost use Rattle.inverse.specs.Finding.{corrected_by, search_of, found_by, OffSo};
 
@@ -103,35 +102,29 @@ fn answer(found: Found, tolerance: u32) -> Result<Inverted, NotInverted>
 }
 
 // A refusal before any code was tried.
-fn untried(reason: Refusal) -> Result<Inverted, NotInverted>
-    ensures { result ≡ no_inverse reason 0 }
+fn untried(reason: Refusal) -> NotInverted
+    ensures { result ≡ record { reason = reason; count = 0 } }
 {
-    Err(NotInverted { reason, count: 0 })
+    NotInverted { reason, count: 0 }
 }
 
 // The checks run 24, which a 3D table is too, 20 for the raw depth and then for the corrected one, 23 for the wanted code, 28.
 pub fn inverse(d: Description, table: &[i64], bits: Bits, aim: Aim) -> Result<Inverted, NotInverted>
     ensures { Inverts d table.now bits aim result }
 {
-    let kind = d.kind;
-    let Kind::OneD = kind else {
-        return untried(Refusal::CouldNotBeRead);
+    let Kind::OneD = d.kind else {
+        return Err(untried(Refusal::CouldNotBeRead));
     };
     if !could_be_read(d, table) {
-        return untried(Refusal::CouldNotBeRead);
+        return Err(untried(Refusal::CouldNotBeRead));
     }
-    let Some(depths) = Depths::of(bits) else {
-        return untried(Refusal::DepthUnknown);
-    };
-    let raw = depths.raw;
-    let corrected = depths.corrected;
-    if corrected.greatest() < aim.wanted {
-        return untried(Refusal::CodeTooGreat);
+    let depths = Depths::of(bits).ok_or(untried(Refusal::DepthUnknown))?;
+    if depths.corrected.greatest() < aim.wanted {
+        return Err(untried(Refusal::CodeTooGreat));
     }
-    let c = aim.colour;
-    let line = line_of(plan_of(d, depths), c);
+    let line = line_of(plan_of(d, depths), aim.colour);
     answer(
-        search(line, table, aim.wanted, raw.greatest()),
+        search(line, table, aim.wanted, depths.raw.greatest()),
         aim.tolerance,
     )
 }

@@ -10,7 +10,9 @@ use Rattle.rules.specs.Results.{Judged}
 use Rattle.colour.proofs.Plans.{planned}
 use Rattle.colour.proofs.Ratios.{ratio-known}
 use Rattle.colour.proofs.Weighing.{plan-weighable}
+use Rattle.halves.proofs.Listing.{only-reason}
 use Rattle.halves.proofs.second_half.Goals as goal
+use Rattle.std.proofs.Common.{rules}
 use Rattle.std.specs.Prelude.{Ok, Err, is_err}
 
 -- fit, where nothing is wrong
@@ -22,41 +24,43 @@ no_error (Err _) e = absurd (no_true e)
 pub returns-then-not-could_be_read : goal.returns-then-not-could_be_read
 returns-then-not-could_be_read c = is-gives (sym (second-24 _ _ _ _ (sym c.could_be_read.ensures ∙ c.if-not-could_be_read.true)))
 
-pub returns-in_default : goal.returns-in_default
-returns-in_default c =
-    let could = sym c.could_be_read.ensures ∙ c.if-not-could_be_read.false in is-gives (sym (second-20 _ _ _ _ could (sym c.of.ensures ∙ c.in_default.is)))
+pub returns-in_err-depths : goal.returns-in_err-depths
+returns-in_err-depths c =
+    let could = sym c.could_be_read.ensures ∙ c.if-not-could_be_read.false in
+    let same : c.from_residual.result ≡ Err c.in_err-depths.field-0.0 = search rules in
+    is-gives (same ∙ ap Err (only-reason _ c.in_err-depths.ensures.value) ∙ sym (second-20 _ _ _ _ could (sym c.of.ensures ∙ c.in_err-depths.ensures.ok_part)))
 
 pub returns-then-is_err : goal.returns-then-is_err
 returns-then-is_err c =
     let a = c.args in
     let could = sym c.could_be_read.ensures ∙ c.if-not-could_be_read.false in
-    let known = sym c.of.ensures ∙ c.in-Some.is in
+    let known = sym c.of.ensures ∙ c.in_ok-depths.ensures.ok_part in
     let judging = c.judged_shares.ensures ∙ ap (λ m. judged_all a.d m a.shares) c.greatest.ensures in
-    is-gives (sym (second-26 _ _ _ _ c.in-Some.depths could known (λ e. no_true (sym (ap is_err (sym (judging ∙ e)) ∙ sym c.is_err.ensures.value ∙ c.if-is_err.true)))))
+    is-gives (sym (second-26 _ _ _ _ c.in_ok-depths.depths could known (λ e. no_true (sym (ap is_err (sym (judging ∙ e)) ∙ sym c.is_err.ensures.value ∙ c.if-is_err.true)))))
 
 pub plan_of-requires-clause-in_terms : goal.plan_of-requires-clause-in_terms
-plan_of-requires-clause-in_terms c = ratio-known c.args.bits c.in-Some.depths (sym c.of.ensures ∙ c.in-Some.is)
+plan_of-requires-clause-in_terms c = ratio-known c.args.bits c.in_ok-depths.depths (sym c.of.ensures ∙ c.in_ok-depths.ensures.ok_part)
 
 pub codes_of-requires-clause-planned : goal.codes_of-requires-clause-planned
 codes_of-requires-clause-planned c =
     let could = sym c.could_be_read.ensures ∙ c.if-not-could_be_read.false in
-    let known = sym c.of.ensures ∙ c.in-Some.is in
+    let known = sym c.of.ensures ∙ c.in_ok-depths.ensures.ok_part in
     planned c.args.d c.args.bits could known c.plan_of.ensures
 
 pub codes_of-requires-clause-weighable : goal.codes_of-requires-clause-weighable
 codes_of-requires-clause-weighable c =
     let a = c.args in
     let could = sym c.could_be_read.ensures ∙ c.if-not-could_be_read.false in
-    let known = sym c.of.ensures ∙ c.in-Some.is in
+    let known = sym c.of.ensures ∙ c.in_ok-depths.ensures.ok_part in
     let judging = c.judged_shares.ensures ∙ ap (λ m. judged_all a.d m a.shares) c.greatest.ensures in
-    plan-weighable (planned a.d a.bits could known c.plan_of.ensures) a.shares (all-weighable a.d (raw_m c.in-Some.depths) a.shares (sym judging ∙ no_error _ (sym c.is_err.ensures.value ∙ c.if-is_err.false)))
+    plan-weighable (planned a.d a.bits could known c.plan_of.ensures) a.shares (all-weighable a.d (raw_m c.in_ok-depths.depths) a.shares (sym judging ∙ no_error _ (sym c.is_err.ensures.value ∙ c.if-is_err.false)))
 
 pub returns : goal.returns
 returns c =
     let a = c.args in
     let could = sym c.could_be_read.ensures ∙ c.if-not-could_be_read.false in
-    let known = sym c.of.ensures ∙ c.in-Some.is in
+    let known = sym c.of.ensures ∙ c.in_ok-depths.ensures.ok_part in
     let judging = c.judged_shares.ensures ∙ ap (λ m. judged_all a.d m a.shares) c.greatest.ensures in
     is-gives
     (ap Ok (c.codes_of.ensures (planned a.d a.bits could known c.plan_of.ensures))
-    ∙ sym (second-0 a.d a.table.now a.bits a.shares c.in-Some.depths could known (sym judging ∙ no_error _ (sym c.is_err.ensures.value ∙ c.if-is_err.false))))
+    ∙ sym (second-0 a.d a.table.now a.bits a.shares c.in_ok-depths.depths could known (sym judging ∙ no_error _ (sym c.is_err.ensures.value ∙ c.if-is_err.false))))

@@ -23,7 +23,8 @@ use Rattle.colour.proofs.Plans.{planned}
 use Rattle.colour.proofs.Ratios.{ratio-known}
 use Rattle.inverse.specs.Finding.{search_of}
 use Rattle.inverse.proofs.inverse.Goals as goal
-use Rattle.std.specs.Prelude.{Some}
+use Rattle.std.specs.Prelude.{Err, None, Option, Some, ok_or}
+use Rattle.std.proofs.Common.{rules}
 
 -- The checks run 24, 20, 23; what each has shown goes on to the next, and to the line that is searched.
 -- so there is a line, of the colour that is asked for
@@ -37,41 +38,50 @@ lined d {table} bits plan line one_d could known made is = record {
 }
 
 pub returns-in_default : goal.returns-in_default
-returns-in_default c = is-inverts (c.untried.ensures ∙ sym (inverse-24-cube _ _ _ _ c.in_default.is))
+returns-in_default c = is-inverts (ap Err c.untried.ensures ∙ sym (inverse-24-cube _ _ _ _ c.in_default.is))
 
 pub returns-then-not-could_be_read : goal.returns-then-not-could_be_read
 returns-then-not-could_be_read c =
-    is-inverts (c.untried-then-not-could_be_read.ensures ∙ sym (inverse-24 _ _ _ _ (sym c.could_be_read.ensures ∙ c.if-not-could_be_read.true)))
+    is-inverts (ap Err c.untried-then-not-could_be_read.ensures ∙ sym (inverse-24 _ _ _ _ (sym c.could_be_read.ensures ∙ c.if-not-could_be_read.true)))
 
-pub returns-in_default-of : goal.returns-in_default-of
-returns-in_default-of c =
+-- what is absent is refused for the reason that is given
+only-reason : {A E : Type 0} (o : Option A) {given found : E} → Err found ≡ ok_or o given → found ≡ given
+only-reason None q = cc
+only-reason (Some _) q = cc
+
+pub returns-in_err-depths : goal.returns-in_err-depths
+returns-in_err-depths c =
     let could = sym c.could_be_read.ensures ∙ c.if-not-could_be_read.false in
-    is-inverts (c.untried-in_default-of.ensures ∙ sym (inverse-20 _ _ _ _ c.in-OneD.is could (sym c.of.ensures ∙ c.in_default-of.is)))
+    let same : c.from_residual.result ≡ Err c.in_err-depths.field-0.0 = search rules in
+    is-inverts
+    (same
+    ∙ ap Err (only-reason _ c.in_err-depths.ensures.value ∙ c.untried-2.ensures)
+    ∙ sym (inverse-20 _ _ _ _ c.in-OneD.is could (sym c.of.ensures ∙ c.in_err-depths.ensures.ok_part)))
 
 pub returns-then-greatest-aim : goal.returns-then-greatest-aim
 returns-then-greatest-aim c =
     let could = sym c.could_be_read.ensures ∙ c.if-not-could_be_read.false in
-    let known = sym c.of.ensures ∙ c.in-Some.is in
+    let known = sym c.of.ensures ∙ c.in_ok-depths.ensures.ok_part in
     is-inverts
-    (c.untried-then-greatest-aim.ensures
-    ∙ sym (inverse-23 _ _ _ _ c.in-OneD.is could c.in-Some.depths known (subst (λ m. m < c.args.aim.wanted) c.greatest.ensures c.if-greatest-aim.true)))
+    (ap Err c.untried-then-greatest-aim.ensures
+    ∙ sym (inverse-23 _ _ _ _ c.in-OneD.is could c.in_ok-depths.depths known (subst (λ m. m < c.args.aim.wanted) c.greatest.ensures c.if-greatest-aim.true)))
 
 pub plan_of-requires-clause-in_terms : goal.plan_of-requires-clause-in_terms
-plan_of-requires-clause-in_terms c = ratio-known c.args.bits c.in-Some.depths (sym c.of.ensures ∙ c.in-Some.is)
+plan_of-requires-clause-in_terms c = ratio-known c.args.bits c.in_ok-depths.depths (sym c.of.ensures ∙ c.in_ok-depths.ensures.ok_part)
 
 pub search-requires : goal.search-requires
 search-requires c =
     let could = sym c.could_be_read.ensures ∙ c.if-not-could_be_read.false in
-    let known = sym c.of.ensures ∙ c.in-Some.is in
+    let known = sym c.of.ensures ∙ c.in_ok-depths.ensures.ok_part in
     lined c.args.d c.args.bits c.plan_of.result c.line_of-line.result c.in-OneD.is could known c.plan_of.ensures c.line_of-line.ensures
 
 pub returns : goal.returns
 returns c =
     let a = c.args in
     let table = a.table.now in
-    let depths = c.in-Some.depths in
+    let depths = c.in_ok-depths.depths in
     let could = sym c.could_be_read.ensures ∙ c.if-not-could_be_read.false in
-    let known = sym c.of.ensures ∙ c.in-Some.is in
+    let known = sym c.of.ensures ∙ c.in_ok-depths.ensures.ok_part in
     let line = lined c.args.d c.args.bits c.plan_of.result c.line_of-line.result c.in-OneD.is could known c.plan_of.ensures c.line_of-line.ensures in
     let inside : a.aim.wanted ≤ corrected_m depths = subst (λ m. a.aim.wanted ≤ m) c.greatest.ensures c.if-greatest-aim.false in
     is-inverts
