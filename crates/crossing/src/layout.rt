@@ -121,6 +121,7 @@ pub fn codes_laid(codes: Codes) -> [u16; 3]
     [codes.red, codes.green, codes.blue]
 }
 
+// Stays: rows and weights are two arrays, as the C interface has them.
 pub fn rows_laid(shares: Shares) -> [u32; 6]
     requires { RowsFit (map (λ (s : Share). s.row) (shares_of shares)) }
     ensures { result ≡ map (λ (s : Share). s.row) (shares_of shares) }

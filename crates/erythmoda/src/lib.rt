@@ -1,4 +1,5 @@
 // The C boundary: what loggers link, by way of erythmoda_c. Each call asks the proved call behind it and lays the answer out in lent memory.
+// Stays: what goes together (the widths, rows and weights, the eleven numbers) comes apart in the calls, as the C interface has it.
 #![tactic(auto)]
 
 ghost use Rattle.std.specs.Prelude.{◌≡◌, ok_or};

@@ -33,6 +33,8 @@ pub fn apart(a: u16, b: u16) -> u16
 }
 
 // How far a raw code's corrected code is from the wanted one.
+// Stays: a line and its table come to three private functions; a struct of both, with `Lined` as its invariant, would be made once and be taken apart here, as in
+// `line_code(lined.line, lined.table, code)`.
 fn off_by(line: Line, table: &[i64], wanted: u16, code: u16) -> u16
     requires { Lined line table.now }
     ensures { (l : Lined line table.now) → result ≡ off (corrected_by l) wanted code }

@@ -28,6 +28,8 @@ pub fn in_range(kind: Kind, n: usize) -> bool
 }
 
 // A 1D table has N rows, a 3D table N·N·N.
+// Stays: a kind and an N, and no type of sizes in range: a description has both as fields of its own, so the type would be built at each call, as in
+// `count_rows(Size { kind: d.kind, n: d.n })`, and be taken apart at once.
 pub fn count_rows(kind: Kind, n: usize) -> usize
     requires { in_range kind n ≡ true }
     ensures { result ≡ rows_of kind n }

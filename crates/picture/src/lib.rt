@@ -40,6 +40,7 @@ fn greatest(codes: &[u16]) -> u16
 // ---- each picture by its shortest way
 
 // Pixel by pixel, by the way of look.
+// Stays: here and in the other ways table, picture and output come as they are lent; a struct of the three would be read as `lent.src` and `lent.dst` at each use.
 fn correct_each(plan: Plan, table: &[i64], src: &[u16], dst: &mut [u16])
     requires planned { Planned plan table.now }
     requires fillable { Fillable src.now (length dst.old) }
@@ -95,9 +96,7 @@ pub fn picture(
     if !could_be_read(d, table) {
         return Err(Refusal::CouldNotBeRead);
     }
-    let Some(depths) = Depths::of(bits) else {
-        return Err(Refusal::DepthUnknown);
-    };
+    let depths = Depths::of(bits).ok_or(Refusal::DepthUnknown)?;
     if src.len() % 3 != 0 {
         return Err(Refusal::PictureNotPixels);
     }

@@ -17,6 +17,8 @@ pub enum Side {
 }
 
 // 1000·c − lo·M, as it is before it is moved.
+// Stays: the limit is asked of a domain in the functions of this file alone; a type for it, `Limited(Domain)`, would be made for `side_of` and be read as
+// `domain.0.lower` here.
 fn from_lower(domain: Domain, m: u16, code: u16) -> Whole
     requires { nat_abs domain.lower.0 ≤ bound_limit }
     ensures { result.0 ≡ unmoved m domain code }

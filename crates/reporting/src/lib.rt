@@ -64,6 +64,7 @@ fn put_cube(pen: &mut Pen, kind: Kind, n: usize)
 }
 
 // Yes and the text, or no.
+// Stays: a mark beside a place and a length, and no Option, as rules' `Title` has them for the eleven numbers of the C interface.
 fn put_title(pen: &mut Pen, input: &[u8], title: Title)
     requires title_inside { TitleInside input.now title }
     requires room { HasRoom pen.old (title_line input.now title) }

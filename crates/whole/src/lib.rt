@@ -28,6 +28,7 @@ impl Whole {
     }
 
     // A weight times a value.
+    // Stays: in `impl Mul for Whole`, and `Add`, what is asked would stand in std's ghost members (`can_mul`, `mul_gives`) and not beside the function.
     pub fn times(self, value: Whole) -> Whole
         requires { nat_abs self.0 * nat_abs value.0 < 9_223_372_036_854_775_808 }
         ensures { result.0 ≡ self.0 *ℤ value.0 }
@@ -43,6 +44,7 @@ impl Whole {
     }
 
     // How often a number goes into it, towards 0.
+    // Stays: the bound is asked here and of exact's functions, and is no invariant of the type, since `above` and `size` promise of the least i64 too.
     pub fn over(self, by: u64) -> Whole
         requires self_bound { nat_abs self.0 < 9_223_372_036_854_775_808 }
         requires by_nonzero { 0 < by }
