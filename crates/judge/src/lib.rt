@@ -50,7 +50,7 @@ fn bound_fits(bound: Thousandths) -> bool
 
 // Both bounds lie from -10 to 10.
 #[tactic(auto, unfolding(rules::specs::Descriptions::bounds_fit))]
-fn bounds_fit(dom: Domain) -> bool
+pub fn bounds_fit(dom: Domain) -> bool
     ensures { result ≡ bounds_fit dom }
 {
     bound_fits(dom.lower) && bound_fits(dom.upper)
@@ -79,7 +79,7 @@ fn whole_bound(bound: Thousandths) -> bool
 
 // Both bounds are whole numbers.
 #[tactic(auto, unfolding(rules::specs::Descriptions::whole_bounds))]
-fn whole_bounds(dom: Domain) -> bool
+pub fn whole_bounds(dom: Domain) -> bool
     ensures { result ≡ whole_bounds dom }
 {
     whole_bound(dom.lower) && whole_bound(dom.upper)
