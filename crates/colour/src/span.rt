@@ -6,7 +6,8 @@ ghost use Rattle.colour.specs.Plans.{Readable};
 use judge::one_domain;
 use rules::{Colour, Description, Domain, Kind, Thousandths};
 
-// Stays: the three domains are named fields of rules' Description, so `match` is the way from a colour to one of them.
+// Stays: the three domains are named fields of rules' Description. A function for the fields of any struct, `by_colour(c, d.red, d.green, d.blue)`, would
+// write the three at each call all the same.
 pub fn domain_of(d: Description, c: Colour) -> Domain
     ensures { result ≡ domain d c }
 {

@@ -10,6 +10,8 @@ use rules::{Colour, Kind, Share, Shares, TenMillionths};
 use whole::Whole;
 
 // A sum of weight times sample for each colour.
+// Stays: `Three<Whole>` of a generic struct, with `Three<Lane>` for the lanes, would share the names of three fields and no function: nothing is done with
+// lanes that is done with sums.
 #[derive(Clone, Copy)]
 pub struct Sums {
     pub red: Whole,

@@ -33,6 +33,7 @@ pub enum Found {
 
 // ---- a raw code that was found
 
+// Stays: a function for the three fields of any struct, `by_colour(c, codes.red, codes.green, codes.blue)`, would write them at each call all the same.
 fn code_in(codes: Codes, c: Colour) -> u16
     ensures { result ≡ code_in codes c }
 {

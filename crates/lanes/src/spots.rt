@@ -9,20 +9,16 @@ use crate::lane::{Lane, WHOLE};
 fn lane_at(lanes: Lanes, place: usize) -> Lane
     ensures { result ≡ lane_at lanes place }
 {
-    let red = lanes.red;
-    let green = lanes.green;
-    let blue = lanes.blue;
-    let colour = place % 3;
-    if colour == 0 {
-        return red;
+    match place % 3 {
+        0 => lanes.red,
+        1 => lanes.green,
+        _ => lanes.blue,
     }
-    if colour == 1 {
-        return green;
-    }
-    blue
 }
 
 // The lanes one after another, colour by colour.
+// Stays: the numbers of the lanes are three slices and no struct of slices. `laid.times[j]`, `laid.from[j]`, `laid.strides[j]` would still need a clause that
+// the three are equally long, here and in every function that takes them.
 pub fn lay_lanes(lanes: Lanes, times: &mut [u64], from: &mut [u64], strides: &mut [u64])
     requires from_len { length from.old ≡ length times.old }
     requires strides_len { length strides.old ≡ length times.old }

@@ -5,6 +5,7 @@ ghost use Rattle.ppm.specs.Written.{header_text};
 use lettering::Pen;
 
 // Puts it at the start of `out` and answers its length.
+// Stays: a slice and a length, since the clause `Puts` (lettering, specs/Putting.antt) speaks of just those, and the library has no heap for a String.
 pub fn put_header(out: &mut [u8], width: u64, height: u64, maxval: u64) -> usize
     requires { Room out.old 0 (header_text width height maxval) }
     ensures { Puts out.old 0 (header_text width height maxval) result out.new }
