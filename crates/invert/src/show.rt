@@ -76,11 +76,7 @@ fn refuse(host: &mut Host, reason: Refusal, count: u64) -> Outcome
     outcome
 }
 
-pub fn show_said(
-    host: &mut Host,
-    question: Question,
-    said: Result<Found, NotInverted>,
-) -> Outcome
+pub fn show_said(host: &mut Host, question: Question, said: Result<Found, NotInverted>) -> Outcome
     ensures { EndsAs (end_of said) result }
 {
     let c = question.colour;
@@ -90,12 +86,14 @@ pub fn show_said(
             let shown = show_hit(&mut host.out, c, wanted, code, count);
             Outcome::Done.when_written(host, shown)
         }
-        Ok(Found::Near {
-            code,
-            corrected,
-            off,
-            count,
-        }) => {
+        Ok(
+            Found::Near {
+                code,
+                corrected,
+                off,
+                count,
+            },
+        ) => {
             let shown = show_near(&mut host.out, c, wanted, code, corrected, off, count);
             Outcome::Done.when_written(host, shown)
         }

@@ -1,7 +1,7 @@
 // 1D: by kept codes, or colour by colour, since each is a matter of its own codes: a pass for each colour over every third place.
 ghost use Rattle.std.specs.Prelude.{◌≡◌, true, List, ◌++◌, ◌≤◌, leb, ℤ, length, drop};
 ghost use Rattle.rules.specs.Reading.Lines.{every};
-ghost use Rattle.rules.specs.Units.{raw_m, colour_place};
+ghost use Rattle.rules.specs.Units.{raw_m, corrected_m, colour_place};
 ghost use Rattle.rules.specs.Looking.{line_code, correct};
 ghost use Rattle.rules.specs.Picturing.{each_pixel};
 ghost use Rattle.rules.specs.declared.Kind.TheVariants.{OneD};
@@ -72,9 +72,9 @@ fn pass_line(line: Line, table: &[i64], src: &[u16], dst: &mut [u16], first: usi
 const FEW_PIXELS: usize = 128;
 
 // The strip of a colour, if it is worth laying out: not for a few pixels, nor for fewer than there are cells.
-fn strip_for(line: Line, raw: u16, most: u16, pixels: usize) -> Option<Strip>
-    requires { (table : List ℤ) × LineAt line table raw most }
-    ensures { (table : List ℤ) (l : LineAt line table raw most) → StrippedIf l.lined.planned.d l.lined.planned.depths line.colour table result }
+fn strip_for(line: Line, depths: Depths, pixels: usize) -> Option<Strip>
+    requires { (table : List ℤ) × LineAt line table (raw_m depths) (corrected_m depths) }
+    ensures { (table : List ℤ) (l : LineAt line table (raw_m depths) (corrected_m depths)) → StrippedIf l.lined.planned.d l.lined.planned.depths line.colour table result }
 {
     if pixels < FEW_PIXELS {
         return None;
@@ -82,25 +82,24 @@ fn strip_for(line: Line, raw: u16, most: u16, pixels: usize) -> Option<Strip>
     if pixels < line.cells {
         return None;
     }
-    strip_of(line, raw, most)
+    strip_of(line, depths)
 }
 
 // By the strip, or else code by code.
 fn correct_line(
     line: Line,
-    raw: u16,
-    most: u16,
+    depths: Depths,
     table: &[i64],
     src: &[u16],
     dst: &mut [u16],
     first: usize,
 )
-    requires line_at { LineAt line table.now raw most }
-    requires inside { Inside raw src.now }
+    requires line_at { LineAt line table.now (raw_m depths) (corrected_m depths) }
+    requires inside { Inside (raw_m depths) src.now }
     requires passable { Passable first src.now (length dst.old) }
-    ensures { (l : LineAt line table.now raw most) → Passed (line_by l.lined) first src.now dst.old dst.new }
+    ensures { (l : LineAt line table.now (raw_m depths) (corrected_m depths)) → Passed (line_by l.lined) first src.now dst.old dst.new }
 {
-    match strip_for(line, raw, most, src.len() / 3) {
+    match strip_for(line, depths, src.len() / 3) {
         Some(strip) => correct_strip(strip, table, src, dst, first),
         None => pass_line(line, table, src, dst, first),
     }
@@ -112,15 +111,7 @@ fn correct_colour(line: Line, depths: Depths, table: &[i64], src: &[u16], dst: &
     requires src_in_bounds { length src.now ≤ length dst.old }
     ensures { (l : Lined line table.now) → l.planned.depths ≡ depths → Passed (line_code l.planned.d table.now depths line.colour) (colour_place line.colour) src.now dst.old dst.new }
 {
-    correct_line(
-        line,
-        depths.raw.greatest(),
-        depths.corrected.greatest(),
-        table,
-        src,
-        dst,
-        colour_place(line.colour),
-    );
+    correct_line(line, depths, table, src, dst, colour_place(line.colour));
 }
 
 // All three.

@@ -3,12 +3,13 @@
 #![tactic(auto)]
 
 ghost use Rattle.std.specs.Prelude.{◌≡◌, List, ◌≤◌, ◌<◌, ℤ, length};
+ghost use Rattle.rules.specs.Units.{raw_m, corrected_m};
 ghost use Rattle.rules.specs.Looking.{line_code};
 ghost use Rattle.strips.specs.Strips.{LineAt, Stripped, StrippedIf, PieceOf, LaidOut, StripAt};
 
 use colour::{Axis, Line, colour_place};
 use lanes::{Lane, WHOLE, common_in, lane_along, parted};
-use rules::Colour;
+use rules::{Colour, Depths};
 use whole::{Reciprocal, Whole};
 
 #[derive(Clone, Copy)]
@@ -43,9 +44,9 @@ impl Strip {
 }
 
 // The strip of a colour, if there are not too many cells, p of the ratio p / q of the two M is 1, as at equal depths, and all is exact.
-pub fn strip_of(line: Line, raw: u16, most: u16) -> Option<Strip>
-    requires { (table : List ℤ) × LineAt line table raw most }
-    ensures { (table : List ℤ) (l : LineAt line table raw most) → StrippedIf l.lined.planned.d l.lined.planned.depths line.colour table result }
+pub fn strip_of(line: Line, depths: Depths) -> Option<Strip>
+    requires { (table : List ℤ) × LineAt line table (raw_m depths) (corrected_m depths) }
+    ensures { (table : List ℤ) (l : LineAt line table (raw_m depths) (corrected_m depths)) → StrippedIf l.lined.planned.d l.lined.planned.depths line.colour table result }
 {
     let axis = line.axis;
     let cells = line.cells;
@@ -59,7 +60,7 @@ pub fn strip_of(line: Line, raw: u16, most: u16) -> Option<Strip>
     if parts.den * cells as u64 > Strip::MOST_PARTS {
         return None;
     }
-    let lane = lane_along(parts, raw, cells, 3)?;
+    let lane = lane_along(parts, depths.raw.greatest(), cells, 3)?;
     let half = parts.unit / 2;
     let unit = Reciprocal::of(parts.unit);
     let top = parts.full + half;
@@ -75,7 +76,7 @@ pub fn strip_of(line: Line, raw: u16, most: u16) -> Option<Strip>
         half,
         top,
         unit,
-        most,
+        most: depths.corrected.greatest(),
     })
 }
 

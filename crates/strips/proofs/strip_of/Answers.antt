@@ -59,7 +59,7 @@ lane_along-requires c =
     let some = c.common_in.ensures in
     let fits = (line-fits l).0 in
     record {
-      m_nonzero = subst (λ x. 0 < x) (sym c.requires.1.raw_is) l.planned.deep;
+      m_nonzero = subst (λ x. 0 < x) (sym (c.greatest.ensures ∙ c.requires.1.raw_is)) l.planned.deep;
       cells_bound = (line-fits l).1.most;
       den_nonzero = den-parts-some some parted fits.wide;
       each_le_each_limit = NatL.le_trans (each-parts-most some parted) fits.each;
@@ -81,10 +81,10 @@ returns c =
             g = c.common_in.result;
             some = some;
             parted = parted;
-            runs = subst (λ x. RunsAlong x _ _ _ _ _) l.raw_is c.in_ok-lane.ensures.0;
+            runs = subst (λ x. RunsAlong x _ _ _ _ _) (c.greatest.ensures ∙ l.raw_is) c.in_ok-lane.ensures.0;
             few = c.if-cells-gt-MOST_CELLS.false;
             small = c.if-parts-cells-gt-MOST_PARTS.false;
-            in_terms = in_terms l.lined some parted c.if-line-ne1.false ∙ ap (λ x. x * parts.unit) (sym l.most_is);
+            in_terms = in_terms l.lined some parted c.if-line-ne1.false ∙ ap (λ x. x * parts.unit) (sym (c.greatest-2.ensures ∙ l.most_is));
             half_is = refl;
             top_is = refl;
             unit_is = c.of-unit.ensures;
@@ -93,7 +93,7 @@ returns c =
                 ap (λ k. leb ((parts.full + parts.unit / 2) * excess k) 18_446_744_073_709_551_615) (sym (ap (λ x. x.by) c.of-unit.ensures))
                 ∙ sym c.divides.ensures
                 ∙ c.if-not-divides.false;
-            most_is = l.most_is;
+            most_is = c.greatest-2.ensures ∙ l.most_is;
           };
       d_is = refl;
       depths_are = refl;
