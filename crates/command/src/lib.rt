@@ -70,6 +70,8 @@ fn report(host: &mut Host) -> Outcome {
 }
 
 // The verb's work.
+// Stays: the lent memory lies apart, as `erythmoda_command` takes it, and a struct of it would be taken apart again in each arm, which lends another part.
+// Stays: `match` and no closure for each verb, as `|host| answer(host, file, table)`: each would borrow the same memory, and one alone is run.
 fn obey(
     host: &mut Host,
     verb: Verb,

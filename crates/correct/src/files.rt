@@ -13,11 +13,9 @@ use crate::pictures::pass_pictures;
 use crate::space::{Space, Table};
 use crate::words;
 use crate::words::{Failure, Trouble};
-use desk::{
-    Host, Input, Outcome, Output, is_link, is_missing, is_no_file, is_taken, say_error, word_at,
-};
+use desk::{Host, Input, Outcome, Output, is_link, is_no_file, say_error, word_at};
 use lettering::Pen;
-use std::io::Error;
+use std::io::{Error, ErrorKind};
 
 // The longest name that the system takes.
 const LAST: usize = 4095;
@@ -52,7 +50,7 @@ fn name_at(host: &Host, place: usize, what: &'static str, path: &mut [u8]) -> Re
 
 // Why OUT cannot be written, by what the system says: it may be a device or a pipe, and not a file that can be replaced.
 fn unwritable(error: Error) -> Trouble {
-    if is_no_file(Some(error)) {
+    if is_no_file(error) {
         return Trouble::NoFile;
     }
     Trouble::System(Failure {
@@ -69,12 +67,8 @@ fn check_out(host: &Host, path: &[u8]) -> Result<(), Trouble> {
     }
     match host.open_to_update(path) {
         Ok(file) => file.sync_all().map_err(|error| unwritable(error)),
-        Err(error) => {
-            if is_missing(Some(error)) {
-                return Ok(());
-            }
-            Err(unwritable(error))
-        }
+        Err(error) if error.kind() == ErrorKind::NotFound => Ok(()),
+        Err(error) => Err(unwritable(error)),
     }
 }
 
@@ -100,7 +94,7 @@ fn make_part(host: &Host, path: &[u8], part: &mut [u8]) -> Result<Output, Error>
     for number in 0..LAST_PART {
         let n = put_part_name(&mut *part, path, number);
         let made = host.create(&part[..n]);
-        if !matches!(made, Err(error) if is_taken(Some(error))) {
+        if !matches!(made, Err(error) if error.kind() == ErrorKind::AlreadyExists) {
             return made;
         }
     }

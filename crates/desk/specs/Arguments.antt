@@ -3,8 +3,6 @@ use Rattle.std.specs.Prelude.{ℕ, ◌≤◌, cond, List, leb, Option, Result, O
 use Rattle.rules.specs.Reading.Numerals.{digits, spell}
 use Rattle.desk.specs.declared.arguments.Unfit.{Unfit}
 use Rattle.desk.specs.declared.arguments.Unfit.TheVariants.{TooGreat, Unclear}
-use Rattle.desk.specs.declared.arguments.Last.{Last}
-use Rattle.desk.specs.declared.arguments.Last.TheVariants as L
 
 -- digits alone, at least one, spell a number, which is the argument's where it is at most `most`
 unfoldable pub argument_of : ℕ → List ℕ → Result ℕ Unfit
@@ -17,9 +15,3 @@ UpTo most r = IfOk r (λ n. n ≤ most)
 -- and so is an option's
 abbrev pub OptionUpTo : ℕ → Result (Option ℕ) Unfit → Type 0
 OptionUpTo most r = IfOk r (λ given. IfSome given (λ n. n ≤ most))
-
-abbrev pub LastUpTo : ℕ → Last → Type 0
-LastUpTo most L.Nothing = Unit {0}
-LastUpTo most (L.Number n) = n ≤ most
-LastUpTo most L.TooGreat = Unit {0}
-LastUpTo most L.Unclear = Unit {0}

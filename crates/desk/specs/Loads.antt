@@ -1,20 +1,13 @@
 -- What is fetched from an input, and what loading a table leaves in the lent memory.
 use Rattle.std.specs.Prelude.{ℕ, ◌≤◌, ◌≡◌, List, ℤ, length, take, Option, Result, Ok, Err, IfOk, IfSome}
 use Rattle.rules.specs.Promises.{Reads}
-use Rattle.desk.specs.declared.loading.Filled.{Filled}
-use Rattle.desk.specs.declared.loading.Filled.TheVariants as F
 use Rattle.desk.specs.declared.loading.Table.{Table}
 use Rattle.desk.specs.declared.loading.NoTable.{NoTable}
 use Rattle.desk.specs.declared.loading.NoTable.TheVariants.{Refused, Unread}
 use Rattle.desk.specs.declared.loading.Unfetched.{Unfetched}
 use Rattle.rules.specs.Results.{Read}
 
--- a count of bytes is one of the space's
-abbrev pub Fills : List ℕ → Filled → Type 0
-Fills space (F.Bytes n) = n ≤ length space
-Fills space F.Failed = Unit {0}
-
--- so is a name's of the space that it stands in
+-- a name's count of bytes is one of the space that it stands in
 abbrev pub NameWithin : List ℕ → Option ℕ → Type 0
 NameWithin space r = IfSome r (λ n. n ≤ length space)
 

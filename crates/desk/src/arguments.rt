@@ -1,7 +1,7 @@
 // An argument as a number: digits alone, up to a limit; and an option with a number, last on the command line.
 ghost use Rattle.std.specs.Prelude.{◌≡◌, ◌≤◌};
 ghost use Rattle.numbers.specs.Cuts.{most_limit};
-ghost use Rattle.desk.specs.Arguments.{argument_of, UpTo, OptionUpTo, LastUpTo};
+ghost use Rattle.desk.specs.Arguments.{argument_of, UpTo, OptionUpTo};
 
 use crate::host::{Host, argument, argument_count};
 use numbers::{is_digits, spelt};
@@ -34,6 +34,7 @@ fn number_at(host: &Host, place: usize, most: u64) -> Result<u64, Unfit>
     requires { most ≤ most_limit }
     ensures { UpTo most result }
 {
+    // Stays: here and where else an argument is read, fixed memory of the longest name. `Vec::new(host.alloc())` would be one more call that can fail.
     let mut text = io::buffer();
     let n = argument(host, place, &mut text);
     number_in(&text[..n], most)
@@ -65,26 +66,4 @@ pub fn optional_number(
     }
     let n = number_at(host, place + 1, most)?;
     Ok(Some(n))
-}
-
-// What stands last on the command line: nothing more, an option's number up to the limit or a greater one, or what is not understood.
-#[derive(Clone, Copy)]
-pub enum Last {
-    Nothing,
-    Number(u64),
-    TooGreat,
-    Unclear,
-}
-
-// The same in one answer.
-pub fn option_at(host: &Host, place: usize, name: &[u8], most: u64) -> Last
-    requires { most ≤ most_limit }
-    ensures { LastUpTo most result }
-{
-    match optional_number(host, place, name, most) {
-        Ok(None) => Last::Nothing,
-        Ok(Some(n)) => Last::Number(n),
-        Err(Unfit::TooGreat) => Last::TooGreat,
-        Err(Unfit::Unclear) => Last::Unclear,
-    }
 }

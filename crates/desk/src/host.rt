@@ -1,10 +1,10 @@
-// What a program at the desk runs on: its arguments, its files, the two streams that it writes, and why the system last failed.
+// What a program at the desk runs on: its arguments, its files, and the two streams that it writes.
 ghost use Rattle.std.specs.Prelude.{◌≤◌, IfOk, IfSome, length};
 
 use std::alloc::Global;
 use std::env::FillError;
 use std::fs::{File, OpenOptions};
-use std::io::{Read, Write};
+use std::io::{Cursor, Read, Write};
 use std::rt::{Env, Files};
 use std::{fmt, fs, io, str};
 
@@ -16,37 +16,18 @@ const NO_FILE: i32 = 22;
 
 // ---- where bytes come from
 
+// Stays: each of the three is a reader of its own type. `Box<dyn Read>` would ask for memory, and `Input<R: Read>` would make every caller generic.
 #[derive(Drop)]
 enum Source {
     Stream(io::Stdin),
     Opened(File),
-    Held { bytes: Vec<u8>, at: usize },
+    Held(Cursor<Vec<u8>>),
 }
 
-// The next bytes of those that are held, as far as there is space.
-fn next_held(bytes: &[u8], at: &mut usize, space: &mut [u8]) -> usize
-    ensures { result ≤ length space.new }
-{
-    let from = *at;
-    if from >= bytes.len() {
-        return 0;
-    }
-    let rest = &bytes[from..];
-    let n = if rest.len() < space.len() {
-        rest.len()
-    } else {
-        space.len()
-    };
-    space[..n].copy_from_slice(&rest[..n]);
-    *at = from + n;
-    n
-}
-
-// Standard input, a file that is open to read, or bytes that were read before; and why the last reading failed, if it did.
+// Standard input, a file that is open to read, or bytes that were read before.
 #[derive(Drop)]
 pub struct Input {
     source: Source,
-    failure: Option<io::Error>,
 }
 
 impl Read for Input {
@@ -54,7 +35,7 @@ impl Read for Input {
         match &mut self.source {
             Source::Stream(stream) => stream.read(space),
             Source::Opened(file) => file.read(space),
-            Source::Held { bytes, at } => Ok(next_held(bytes, at, space)),
+            Source::Held(held) => held.read(space),
         }
     }
 }
@@ -63,7 +44,6 @@ impl Input {
     pub fn standard(host: &Host) -> Input {
         Input {
             source: Source::Stream(host.rt.stdin()),
-            failure: None,
         }
     }
 
@@ -71,6 +51,7 @@ impl Input {
     pub fn fill(&mut self, space: &mut [u8]) -> io::Result<usize>
         ensures { IfOk result (λ n. n ≤ length space.new) }
     {
+        // Stays: `for n in (0..space.len()).step_by(..)` cannot say it, since a turn's step is what a read gave.
         let mut n = 0;
         while n < space.len() {
             let more = self.read(&mut space[n..])?;
@@ -81,18 +62,11 @@ impl Input {
         }
         Ok(n)
     }
-
-    pub(crate) fn failed(&mut self, error: io::Error) {
-        self.failure = Some(error);
-    }
-
-    pub fn failure(&self) -> Option<io::Error> {
-        self.failure
-    }
 }
 
 // ---- where bytes go
 
+// Stays: each of the three is a writer of its own type, as with Source.
 #[derive(Drop)]
 enum Sink {
     Out(io::Stdout),
@@ -100,11 +74,10 @@ enum Sink {
     Opened(File),
 }
 
-// Standard output, standard error or a file that is open to write, and why the last writing failed, if it did.
+// Standard output, standard error or a file that is open to write.
 #[derive(Drop)]
 pub struct Output {
     sink: Sink,
-    failure: Option<io::Error>,
 }
 
 impl Write for Output {
@@ -128,10 +101,7 @@ impl Output {
     }
 
     fn to(sink: Sink) -> Output {
-        Output {
-            sink,
-            failure: None,
-        }
+        Output { sink }
     }
 
     // Brings what was written to a file to its disk.
@@ -142,38 +112,11 @@ impl Output {
             Sink::Opened(file) => file.sync_all(),
         }
     }
-
-    pub(crate) fn succeeds(&mut self, done: io::Result<()>) -> bool {
-        match done {
-            Ok(()) => true,
-            Err(error) => {
-                self.failure = Some(error);
-                false
-            }
-        }
-    }
-
-    // Whether all of the text was written.
-    pub fn write(&mut self, text: &[u8]) -> bool {
-        let done = self.write_all(text);
-        self.succeeds(done)
-    }
-
-    // Whether what was written to a file is on its disk.
-    pub fn sync(&mut self) -> bool {
-        let done = self.sync_all();
-        self.succeeds(done)
-    }
-
-    pub fn failure(&self) -> Option<io::Error> {
-        self.failure
-    }
 }
 
 // ---- the program's surroundings
 
-// The system, standard output and standard error, what the program is called in each line there, the bytes of a file that was read before it is asked for,
-// and why the last call that is about a name failed, if one did.
+// The system, standard output and standard error, what the program is called in each line there, and the bytes of a file that was read before it is asked for.
 #[derive(Drop)]
 pub struct Host {
     rt: HostRuntime,
@@ -181,7 +124,6 @@ pub struct Host {
     pub err: Output,
     pub program: &'static str,
     held: Option<Vec<u8>>,
-    failure: Option<io::Error>,
 }
 
 impl Host {
@@ -192,22 +134,6 @@ impl Host {
             err: Output::to(Sink::Err(rt.stderr())),
             program: "erythmoda",
             held: None,
-            failure: None,
-        }
-    }
-
-    pub fn failure(&self) -> Option<io::Error> {
-        self.failure
-    }
-
-    // What was asked of the system, if it succeeded.
-    fn got<T: Drop>(&mut self, done: io::Result<T>) -> Option<T> {
-        match done {
-            Ok(value) => Some(value),
-            Err(error) => {
-                self.failure = Some(error);
-                None
-            }
         }
     }
 }
@@ -275,13 +201,10 @@ impl Host {
     // The file with this name, open to read. Where a file is held, the first that is asked for is that one.
     pub fn open(&mut self, path: &[u8]) -> io::Result<Input> {
         let source = match self.held.take() {
-            Some(bytes) => Source::Held { bytes, at: 0 },
+            Some(bytes) => Source::Held(Cursor::new(bytes)),
             None => Source::Opened(open(self.rt, path)?),
         };
-        Ok(Input {
-            source,
-            failure: None,
-        })
+        Ok(Input { source })
     }
 
     // A new file with this name, which no file has yet, open to write.
@@ -319,12 +242,6 @@ impl Host {
             Err(_) => Some(0),
         }
     }
-}
-
-// The file with this name, open to read; or none, and the host has the reason.
-pub fn open_input(host: &mut Host, path: &[u8]) -> Option<Input> {
-    let opened = host.open(path);
-    host.got(opened)
 }
 
 // How much is read at once of a file that is held.
@@ -371,24 +288,12 @@ impl Host {
     }
 }
 
-// A new file with this name, which no file has yet, open to write; or none, and the host has the reason.
-pub fn create_output(host: &mut Host, path: &[u8]) -> Option<Output> {
-    let created = host.create(path);
-    host.got(created)
-}
-
 // Whether a name is that of a device or a pipe.
 fn is_device(rt: HostRuntime, name: &str) -> bool {
     match fs::metadata(&rt, name) {
         Ok(about) => !about.is_file() && !about.is_dir(),
         Err(_) => false,
     }
-}
-
-// The file with this name, open to read and to write, with its bytes as they are; or none, and the host has the reason.
-pub fn open_update(host: &mut Host, path: &[u8]) -> Option<Output> {
-    let opened = host.open_to_update(path);
-    host.got(opened)
 }
 
 fn leads_on(rt: HostRuntime, path: &[u8]) -> io::Result<bool> {
@@ -402,18 +307,6 @@ pub fn is_link(host: &Host, path: &[u8]) -> bool {
         Ok(leads) => leads,
         Err(_) => false,
     }
-}
-
-// Whether the file with one name has the other now.
-pub fn rename(host: &mut Host, from: &[u8], to: &[u8]) -> bool {
-    let done = host.rename(from, to);
-    host.got(done).is_some()
-}
-
-// Whether the file with this name is gone.
-pub fn remove(host: &mut Host, path: &[u8]) -> bool {
-    let done = host.remove(path);
-    host.got(done).is_some()
 }
 
 fn measured(rt: HostRuntime, path: &[u8]) -> io::Result<Option<u64>> {
@@ -435,28 +328,9 @@ fn measured(rt: HostRuntime, path: &[u8]) -> io::Result<Option<u64>> {
 
 // ---- what failed
 
-// Whether it failed since no file has the name.
-pub fn is_missing(failure: Option<io::Error>) -> bool {
-    match failure {
-        Some(error) => error.kind() == io::ErrorKind::NotFound,
-        None => false,
-    }
-}
-
-// Whether it failed since a file has the name.
-pub fn is_taken(failure: Option<io::Error>) -> bool {
-    match failure {
-        Some(error) => error.kind() == io::ErrorKind::AlreadyExists,
-        None => false,
-    }
-}
-
-// Whether it failed since what is open is no file, but a device or a pipe.
-pub fn is_no_file(failure: Option<io::Error>) -> bool {
-    match failure {
-        Some(error) => error.raw_os_error() == Some(NO_FILE),
-        None => false,
-    }
+// Whether a call failed since what is open is no file, but a device or a pipe.
+pub fn is_no_file(error: io::Error) -> bool {
+    error.raw_os_error() == Some(NO_FILE)
 }
 
 // The system's own words for an error, without its number: the first piece that it is written in.
@@ -488,13 +362,4 @@ impl fmt::Display for Reason {
         };
         fmt::Write::write_fmt(&mut first, format_args!("{error}"))
     }
-}
-
-// Those words, behind what failed, as a line on standard error.
-pub fn say_failed(host: &mut Host, what: &[u8], failure: Option<io::Error>) {
-    host.err.write(what);
-    let _ = match failure {
-        Some(error) => writeln!(host.err, ": {}", Reason(error)),
-        None => writeln!(host.err, ": "),
-    };
 }

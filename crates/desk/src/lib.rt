@@ -13,16 +13,15 @@ mod refusals;
 mod reports;
 mod tables;
 
-pub use arguments::{Last, Unfit, is_word_at, number_in, option_at, optional_number};
+pub use arguments::{Unfit, is_word_at, number_in, optional_number};
 pub use failures::{say_error, say_error_of};
 pub use host::{
-    Host, Input, Output, Reason, argument, argument_count, create_output, hold, is_link,
-    is_missing, is_no_file, is_taken, open_input, open_update, remove, rename, say_failed, word_at,
+    Host, Input, Output, Reason, argument, argument_count, hold, is_link, is_no_file, word_at,
 };
-pub use loading::{Filled, NoTable, Table, Unfetched, fetch_file, fill, load_argument};
+pub use loading::{NoTable, Table, Unfetched, fetch_file, load_argument};
 pub use names::name_at;
 pub use outcomes::Outcome;
-pub use printing::{say, write, write_count, write_sample};
-pub use refusals::{refuse, say_refusal, write_refused};
+pub use printing::write_sample;
+pub use refusals::{refuse, write_refused};
 pub use reports::{outcome_of, report_input};
 pub use tables::{write_domains, write_size, write_title};

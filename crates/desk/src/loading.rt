@@ -1,6 +1,6 @@
 // A table loaded from a file by its name: opened, read whole, judged. Each failure prints one line on standard error.
 ghost use Rattle.std.specs.Prelude.{◌≤◌, length, IfOk, IfSome};
-ghost use Rattle.desk.specs.Loads.{Fills, Fetches, Loads, LoadsAll, LoadsOf};
+ghost use Rattle.desk.specs.Loads.{Fetches, Loads, LoadsAll, LoadsOf};
 
 use crate::failures::say_error_of;
 use crate::host::{Host, Input};
@@ -29,26 +29,6 @@ pub enum NoTable {
 pub enum Unfetched {
     TooLong,
     Failed,
-}
-
-// What came of reading an input until the space is full or the input ends.
-#[derive(Clone, Copy)]
-pub enum Filled {
-    Bytes(usize),
-    Failed,
-}
-
-// The first bytes that an input has, as far as there is space. A read that fails is not the end of the input: what came before it is no answer.
-pub fn fill(from: &mut Input, space: &mut [u8]) -> Filled
-    ensures { Fills space.new result }
-{
-    match from.fill(&mut *space) {
-        Ok(n) => Filled::Bytes(n),
-        Err(error) => {
-            from.failed(error);
-            Filled::Failed
-        }
-    }
 }
 
 // How many bytes an input has, all of which are in the space now; or none, where it has more than fit.

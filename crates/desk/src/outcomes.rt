@@ -4,12 +4,12 @@ ghost use Rattle.desk.specs.Outcomes.{status_of, worse_of, ends_without};
 ghost use Rattle.desk.specs.declared.outcomes.Outcome.TheVariants.{Failed};
 
 use crate::failures::say_error;
-use crate::host::{Host, say_failed};
+use crate::host::Host;
 use crate::loading::NoTable;
-use crate::printing::write;
 use std::io;
 
 // Done; refused, for what the file or the picture says; or failed, by a call that is not understood or by the system. The later the worse.
+// Stays: `Result<(), End>` would have no place in it for the worse of two, and a status is made of all three.
 #[derive(Clone, Copy, Debug, PartialEq, Eq)]
 pub enum Outcome {
     Done,
@@ -50,19 +50,6 @@ impl Outcome {
                 Outcome::Failed
             }
         }
-    }
-
-    // This end, where all was written to standard output; else that is said, and the work has failed.
-    pub fn if_written(self, host: &mut Host, written: bool, program: &[u8]) -> Outcome
-        ensures { result ≡ cond written self Failed }
-    {
-        if written {
-            return self;
-        }
-        write(&mut host.err, program);
-        let failure = host.out.failure();
-        say_failed(host, b": cannot write standard output", failure);
-        Outcome::Failed
     }
 }
 

@@ -1,5 +1,5 @@
 // What is printed beside what std prints: samples in plain decimals.
-use crate::host::{Host, Output};
+use crate::host::Output;
 use lettering::Pen;
 use rules::TenMillionths;
 use std::io;
@@ -8,21 +8,6 @@ use whole::Whole;
 
 // The longest text of a sample in 64 bits: a sign, 12 digits, a point and 7 places.
 const LONGEST: usize = 21;
-
-// Whether all of it was written.
-pub fn write(out: &mut Output, text: &[u8]) -> bool {
-    out.write(text)
-}
-
-// On standard output.
-pub fn say(host: &mut Host, text: &[u8]) -> bool {
-    write(&mut host.out, text)
-}
-
-pub fn write_count(out: &mut Output, n: u64) -> bool {
-    let done = write!(out, "{n}");
-    out.succeeds(done)
-}
 
 // As `-0.5`, `1` or `0.0000001`.
 pub fn write_sample(out: &mut Output, sample: TenMillionths) -> io::Result<()> {

@@ -4,7 +4,6 @@ ghost use Rattle.std.specs.Prelude.{◌≡◌};
 use crate::cures::write_cure;
 use crate::host::{Host, Output};
 use crate::outcomes::Outcome;
-use crate::printing::write;
 use rules::{Refusal, Refused};
 use std::io;
 use std::io::Write;
@@ -24,10 +23,4 @@ pub fn refuse(host: &mut Host, reason: Refusal) -> Outcome
     let number = reason.number();
     let _ = writeln!(host.err, "{program}: refused {number}: {reason}");
     Outcome::Refused
-}
-
-// The same line.
-pub fn say_refusal(host: &mut Host, program: &[u8], reason: Refusal) {
-    write(&mut host.err, program);
-    let _ = writeln!(host.err, ": refused {}: {reason}", reason.number());
 }

@@ -8,6 +8,7 @@ use rules::{Bits, Codes, Share, Shares};
 
 // What made a pixel's codes; the line of a pixel, with its rows and weights; or what codes such a line gives. There is no pixel where a code is greater than
 // any depth has.
+// Stays: `Option` and `Result` say two ways, and these are three that ask for different things.
 #[derive(Clone, Copy)]
 pub enum Question {
     Pixel { bits: Bits, pixel: Option<Codes> },

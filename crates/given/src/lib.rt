@@ -21,6 +21,7 @@ pub const MOST_ROW: u32 = 16_777_215;
 const MOST_WEIGHT: u64 = 655_350_000;
 
 // Digits.
+// Stays: the number past a limit is no error, since `value_by` and `weight_by` (specs/Written.antt) give the next one after it, which is then judged.
 fn value_in(text: &[u8], most: u32) -> Option<u32>
     requires { most < row_limit }
     ensures { result ≡ value_by most (argument_of most text.now) }

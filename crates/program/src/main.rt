@@ -6,6 +6,7 @@ use desk::Host;
 use std::process::ExitCode;
 
 // The statuses are 0, 1 and 2.
+// Stays: the status of `erythmoda_command` is a u32, and `u8::try_from(status)` would have to say what is done with one that is none.
 fn code_of(status: u32) -> u8 {
     match status {
         0 => 0,
