@@ -27,8 +27,7 @@ pub fn three_at_most(s: &[u8], from: usize, m: u64) -> Digits
     ensures { Spelt s.now from m 3 result }
 {
     let mut value = m;
-    let mut k = 0;
-    while k < 3 {
+    for k in 0..3 {
         let b = s[from + k];
         if !is_digit(b) {
             return Digits {
@@ -37,11 +36,10 @@ pub fn three_at_most(s: &[u8], from: usize, m: u64) -> Digits
             };
         }
         value = value * 10 + digit_value(b);
-        k += 1;
     }
     Digits {
         value,
-        next: from + k,
+        next: from + 3,
     }
 }
 
