@@ -345,7 +345,7 @@ struct FirstPiece<'a, W: fmt::Write> {
 
 impl<W: fmt::Write> fmt::Write for FirstPiece<'_, W> {
     fn write_str(&mut self, piece: &str) -> fmt::Result {
-        if self.is_written {
+        if self.is_written || piece.is_empty() {
             return Ok(());
         }
         self.is_written = true;
