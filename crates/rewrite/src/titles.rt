@@ -6,7 +6,7 @@ use desk::{Host, argument_count, is_word_at};
 use rules::{Description, Title};
 
 // The old title, if any; the one that is given; or none.
-// Stays: `Option<Option<Given>>` would say the same in three ways that have no names.
+// Stays: an `Option` in an `Option` would say the same in three ways that have no names.
 #[derive(Clone, Copy)]
 pub enum Wanted {
     Kept,
