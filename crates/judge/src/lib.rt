@@ -2,7 +2,7 @@
 #![tactic(auto)]
 
 ghost use Rattle.std.specs.Prelude.{◌≡◌, ◌*◌, ◌%◌, Bool, true, ◌&&◌, eqb, leb, nat_abs, length, take};
-ghost use Rattle.rules.specs.Units.{sample_limit, bound_one, bound_limit, greatest_n, in_range, rows_of};
+ghost use Rattle.rules.specs.Units.{bound_one, bound_limit, greatest_n, in_range, rows_of};
 ghost use Rattle.rules.specs.Descriptions.{rows, every_colour, bounds_fit, ordered, narrow, one_domain, whole_bounds, agree, roomy, samples_fit, could_be_read};
 ghost use Rattle.rules.specs.declared.Domain.{Domain};
 
@@ -128,17 +128,20 @@ fn all_small(samples: &[i64]) -> bool
     0 <= any && any < 8_589_934_592
 }
 
-fn sample_fits(s: i64) -> bool
-    ensures { result ≡ leb (nat_abs s) sample_limit }
-{
-    TenMillionths::LEAST <= s && s <= TenMillionths::GREATEST
-}
-
-// Each sample by itself.
+// All samples lie from -1000 to 1000 if the least and the greatest of them do.
 fn each_fits(samples: &[i64]) -> bool
     ensures { result ≡ samples_fit samples.now }
 {
-    samples.iter().all(|s| sample_fits(*s))
+    // Stays: no `all`, which leaves at the first that is beyond. So no branch hangs on a sample; with `samples.iter().all(..)` the scan of 33 × 33 × 33 rows with
+    // one sample below 0 took 1.4 times as long.
+    let mut least = Whole(0);
+    let mut greatest = Whole(0);
+    for sample in samples {
+        let s = Whole(*sample);
+        least = s.lesser(least);
+        greatest = s.greater(greatest);
+    }
+    TenMillionths::LEAST <= least.0 && greatest.0 <= TenMillionths::GREATEST
 }
 
 // All samples lie from -1000 to 1000: nearly all tables pass by the first way.

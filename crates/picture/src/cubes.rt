@@ -34,8 +34,8 @@ fn spot_from(keys: &[u64], starts: &[u64], j: usize) -> Spot
     }
 }
 
-// The pixels of a block, by the way that the cube allows.
-fn correct_block<const NEAR: bool>(
+// The pixels of a block, near or far.
+fn correct_pixels<const NEAR: bool>(
     cube: Cube,
     table: &[i64],
     keys: &[u64],
@@ -59,9 +59,34 @@ fn correct_block<const NEAR: bool>(
     }
 }
 
-// All blocks, with the lanes laid out for one and room for its keys and places.
-fn correct_blocks<const NEAR: bool>(
+// A block, by the way that the cube allows.
+// Stays: near is asked here, once a block, and is no constant from `correct_cube` on: then near and far would be two programs, each called once and so compiled
+// into the call itself, where a pixel takes 6 % more instructions.
+fn correct_block(
     cube: Cube,
+    near: bool,
+    table: &[i64],
+    keys: &[u64],
+    starts: &[u64],
+    dst: &mut [u16],
+    at: usize,
+    end: usize,
+)
+    requires nearby { near ≡ true → Nearby cube }
+    requires blocked { Blocked cube table.now keys.now starts.now dst.old at end }
+    ensures { (b : Blocked cube table.now keys.now starts.now dst.old at end) → FilledTo b end dst.new }
+{
+    if near {
+        correct_pixels::<true>(cube, table, keys, starts, dst, at, end);
+    } else {
+        correct_pixels::<false>(cube, table, keys, starts, dst, at, end);
+    }
+}
+
+// All blocks, with the lanes laid out for one and room for its keys and places.
+fn correct_blocks(
+    cube: Cube,
+    near: bool,
     table: &[i64],
     src: &[u16],
     dst: &mut [u16],
@@ -72,7 +97,7 @@ fn correct_blocks<const NEAR: bool>(
     starts: &mut [u64],
 )
     requires within { (q : Cubed cube table.now) × Within q src.now }
-    requires nearby { NEAR ≡ true → Nearby cube }
+    requires nearby { near ≡ true → Nearby cube }
     requires fillable { Fillable src.now (length dst.old) }
     requires laid { Laid cube.lanes 192 times.now from.now strides.now }
     requires keys_len { length keys.old ≡ 192 }
@@ -91,14 +116,14 @@ fn correct_blocks<const NEAR: bool>(
             &mut *keys,
             &mut *starts,
         );
-        correct_block::<NEAR>(cube, table, &*keys, &*starts, &mut *dst, at, end);
+        correct_block(cube, near, table, &*keys, &*starts, &mut *dst, at, end);
     }
 }
 
 // Corrects a picture that has passed every check.
-pub fn correct_cube<const NEAR: bool>(cube: Cube, table: &[i64], src: &[u16], dst: &mut [u16])
+pub fn correct_cube(cube: Cube, near: bool, table: &[i64], src: &[u16], dst: &mut [u16])
     requires within { (q : Cubed cube table.now) × Within q src.now }
-    requires nearby { NEAR ≡ true → Nearby cube }
+    requires nearby { near ≡ true → Nearby cube }
     requires fillable { Fillable src.now (length dst.old) }
     ensures { (q : Cubed cube table.now) → Within q src.now → dst.new ≡ each_pixel (correct_by q) src.now ++ drop (length src.now) dst.old }
 {
@@ -109,8 +134,9 @@ pub fn correct_cube<const NEAR: bool>(cube: Cube, table: &[i64], src: &[u16], ds
     let mut keys: [u64; 192] = [1; 192];
     let mut starts: [u64; 192] = [1; 192];
     lay_lanes(cube.lanes, &mut times, &mut from, &mut strides);
-    correct_blocks::<NEAR>(
+    correct_blocks(
         cube,
+        near,
         table,
         src,
         dst,

@@ -78,8 +78,8 @@ pub fn correct_all(plan: Plan, depths: Depths, table: &[i64], src: &[u16], dst: 
         return;
     };
     match way {
-        Way::Near(cube) => correct_cube::<true>(cube, table, src, dst),
-        Way::Far(cube) => correct_cube::<false>(cube, table, src, dst),
+        Way::Near(cube) => correct_cube(cube, true, table, src, dst),
+        Way::Far(cube) => correct_cube(cube, false, table, src, dst),
     }
 }
 

@@ -36,7 +36,12 @@ pub fn judge_file(file: &[u8], places: usize) -> Result<Description, Refused>
             return conclude(st, c.line, places);
         };
         let judged = judge_line(st, &file[start..end], start, places);
-        st = judged.map_err(|reason| Refused { reason, line })?;
-        c = next;
+        // Stays: `let else` and no `?`, the form that document 01 names for this place (docs/DECISIONS.md).
+        let Err(reason) = judged else {
+            st = judged.unwrap_or(st);
+            c = next;
+            continue;
+        };
+        return Err(Refused { reason, line });
     }
 }

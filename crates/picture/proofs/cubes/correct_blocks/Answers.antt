@@ -11,13 +11,13 @@ use Rattle.picture.proofs.Filled.{none_filled, all-filled}
 use Rattle.picture.proofs.cubes.correct_blocks.Goals as goal
 
 pub overflow_cast-den : goal.overflow_cast-den
-overflow_cast-den g c = record { fits = omega (arith, cube-narrow c.requires.within.0) }
+overflow_cast-den c = record { fits = omega (arith, cube-narrow c.requires.within.0) }
 
 pub loop-at-init : goal.loop-at-init
-loop-at-init g c = (c.requires.keys_len, (c.requires.starts_len, λ q w. subst (λ n. Filled (correct_by q) c.args.src.now c.args.dst.now n c.args.dst.now) (omega arith) (none_filled _ _ _)))
+loop-at-init c = (c.requires.keys_len, (c.requires.starts_len, λ q w. subst (λ n. Filled (correct_by q) c.args.src.now c.args.dst.now n c.args.dst.now) (omega arith) (none_filled _ _ _)))
 
 pub find_spots-requires : goal.find_spots-requires
-find_spots-requires g c =
+find_spots-requires c =
     roomy c.requires.within.0 c.requires.laid (few-codes c.args.src.now c.loop-at-test.true c.block_end-end.ensures) c.loop-at.invariant.0 c.loop-at.invariant.1.0
 
 -- ---- a block that is found
@@ -27,14 +27,14 @@ begun : (f : Codes → Codes) (src dst : List ℕ) {at : ℕ} {dst' : List ℕ} 
 begun f src dst {at} {dst'} h s = subst (λ n. Filled f src dst n dst') (omega (arith, h)) s
 
 pub correct_block-requires-clause-blocked : goal.correct_block-requires-clause-blocked
-correct_block-requires-clause-blocked g c =
+correct_block-requires-clause-blocked c =
     let (q, w) = c.requires.within in
     let i = c.loop-at.invariant in
     blocked c.args.src.now c.loop-at-test.true c.block_end-end.ensures q c.requires.laid w c.requires.fillable (begun _ _ _ c.loop-at-test.true (i.1.1 q w))
     (c.find_spots.auto.keys ∙ i.0) (c.find_spots.auto.starts ∙ i.1.0) c.find_spots.ensures
 
 pub loop-at-preserved : goal.loop-at-preserved
-loop-at-preserved g c =
+loop-at-preserved c =
     let i = c.loop-at.invariant in
     let keys_long = c.find_spots.auto.keys ∙ i.0 in
     let starts_long = c.find_spots.auto.starts ∙ i.1.0 in (
@@ -47,11 +47,11 @@ loop-at-preserved g c =
     )
 
 pub returns : goal.returns
-returns g c = λ q w. all-filled c.requires.fillable (c.loop-at.invariant.1.1 q w) (omega (arith, c.loop-at-test.false))
+returns c = λ q w. all-filled c.requires.fillable (c.loop-at.invariant.1.1 q w) (omega (arith, c.loop-at-test.false))
 
 -- at the last block
 pub returns-2 : goal.returns-2
-returns-2 g c =
+returns-2 c =
     let i = c.loop-at.invariant in
     λ q w. all-filled c.requires.fillable
     (block-filled c.args.src.now c.loop-at-test.true c.block_end-end.ensures q c.requires.laid w c.requires.fillable (begun _ _ _ c.loop-at-test.true (i.1.1 q w))

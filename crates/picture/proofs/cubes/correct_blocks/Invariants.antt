@@ -7,5 +7,5 @@ use Rattle.picture.proofs.cubes.correct_blocks.Given as goal
 
 -- The invariant: the blocks that are passed are corrected.
 abbrev pub invariant-loop-at : goal.invariant-loop-at
-invariant-loop-at g l =
+invariant-loop-at l =
     (length l.keys ≡ 192) × ((length l.starts ≡ 192) × ((q : Cubed l.cube l.table) → Within q l.src → Filled (correct_by q) l.src l.initial.dst (min l.at (length l.src)) l.dst))

@@ -1,7 +1,7 @@
 use Prim.Native.Nat.{◌+◌, ◌-◌, ◌%◌, ◌≤◌}
 use mathlib.Core.Path.{◌≡◌}
 use Rattle.picture.specs.Blocks.{Blocked, FilledTo}
-use Rattle.picture.proofs.cubes.correct_block.Given as goal
+use Rattle.picture.proofs.cubes.correct_pixels.Given as goal
 
 -- The invariant: the pixels of the block that are passed are corrected. The measure is what is left of the block.
 abbrev pub invariant-loop-i : goal.invariant-loop-i

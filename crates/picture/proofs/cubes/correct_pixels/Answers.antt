@@ -5,7 +5,7 @@ use Rattle.rules.specs.Answers.{codes_of}
 use Rattle.rules.specs.Memory.{spliced}
 use Rattle.picture.specs.Blocks.{FilledTo}
 use Rattle.picture.proofs.Blocking.{whole_there, spot-placed, spot-coded, start-near, one-passed}
-use Rattle.picture.proofs.cubes.correct_block.Goals as goal
+use Rattle.picture.proofs.cubes.correct_pixels.Goals as goal
 
 pub loop-i-init : goal.loop-i-init
 loop-i-init g c =
